@@ -1,0 +1,17 @@
+//! Tests that cross crates: worked examples of each command, devices that fail, growths that are refused.
+#![tactic(auto)]
+
+#[cfg(test)]
+mod command_lines;
+#[cfg(test)]
+mod compacting;
+#[cfg(test)]
+mod devices;
+#[cfg(test)]
+mod examples;
+#[cfg(test)]
+mod failing_devices;
+#[cfg(test)]
+mod fault_lines;
+#[cfg(test)]
+mod refused_growths;

@@ -1,0 +1,81 @@
+-- What a framer stands for once it has taken of a frame.
+use Rattle.std.proofs.Common.{◌≡◌, ℕ, zero, suc, ◌+◌, ◌-◌, ◌<◌, ◌≤◌, List, [], ◌∷◌, ◌++◌, length, take, drop, min, Result, Ok, Err, refl, sym, ap, ◌∙◌, subst, arith}
+use Rattle.std.proofs.lemmas.List.{take-append-le, take_all, append_assoc, length-append, length-take, length-take-le, length-drop, drop-append-le}
+use Rattle.std.proofs.Math.Seq.{take-add}
+use Rattle.dap_frame.specs.declared.limits.FrameLimits.{FrameLimits}
+use Rattle.dap_frame.specs.declared.fault.FrameFault.{FrameFault}
+use Rattle.dap_frame.specs.declared.progress.Progress.TheVariants.{Content}
+use Rattle.dap_frame.specs.declared.progress.HeaderTaken.{HeaderTaken}
+use Rattle.dap_frame.specs.declared.progress.HeaderTaken.TheVariants.{Unfinished, Ended}
+use Rattle.dap_frame.specs.Frame.{BeginsWith, IsFrame, IsOpen, header_open, content_open}
+use Rattle.dap_frame.specs.Lines.{Lacks, header_end}
+use Rattle.dap_frame.specs.Reading.{IsKeptOf}
+use Rattle.dap_frame.specs.Progress.{IsAtContent, TakesHeader, TakesRestOfHeader}
+use Rattle.dap_frame.proofs.Marks.{BeginsWith-more}
+use Rattle.dap_frame.proofs.Unique.{lacks_none}
+
+pub is_empty : (xs : List ℕ) → length xs ≡ 0 → xs ≡ []
+is_empty [] e = refl
+is_empty (x ∷ xs) e = absurd (omega arith)
+
+pub open_at_first : (limits : FrameLimits) → 0 < limits.header → IsOpen limits []
+open_at_first limits some = header_open some lacks_none
+
+-- where the header part was not over yet
+pub rest_taken : (limits : FrameLimits) (bytes rest piece : List ℕ) (result : Result HeaderTaken FrameFault) → bytes ≡ [] → TakesHeader limits rest piece result → TakesRestOfHeader limits bytes rest piece result
+rest_taken limits bytes rest piece (Ok (Unfinished scan)) e h = (e, h)
+rest_taken limits bytes rest piece (Ok (Ended header_len content used)) e h =
+    let some = h.some in
+    let header_len_is = h.header_len_is in
+    record {
+      within = h.within;
+      progress = omega (arith, some);
+      room = omega (arith, ap length e);
+      header = h.header;
+      behind = is_empty (drop header_len (rest ++ take used piece)) (omega (arith, header_len_is, length-drop header_len (rest ++ take used piece))) ∙ sym e;
+      small = h.small;
+    }
+rest_taken limits bytes rest piece (Err fault) e h = (e, h)
+
+module _ (limits : FrameLimits) (bytes rest piece new : List ℕ) (header_len content used more : ℕ)
+    (begun : IsAtContent limits bytes rest piece header_len content used)
+    (most : more ≡ min (content - length bytes) (length (drop used piece)))
+    (is : new ≡ bytes ++ take more (drop used piece)) where
+  joined : (rest ++ take used piece) ++ take more (drop used piece) ≡ rest ++ take (used + more) piece
+  joined = append_assoc rest (take used piece) _ ∙ ap (λ xs. rest ++ xs) (sym (take-add used more piece))
+
+  begins : BeginsWith limits (rest ++ take (used + more) piece) header_len (Ok content)
+  begins = subst (λ b. BeginsWith limits b header_len (Ok content)) joined (BeginsWith-more limits (rest ++ take used piece) (take more (drop used piece)) header_len (Ok content) begun.header)
+
+  behind : drop header_len (rest ++ take (used + more) piece) ≡ new
+  behind =
+      ap (drop header_len) (sym joined) ∙ drop-append-le header_len (rest ++ take used piece) (take more (drop used piece)) begun.header.ended.within
+      ∙ ap (λ xs. xs ++ take more (drop used piece)) begun.behind ∙ sym is
+
+  len : length new ≡ length bytes + more
+  len = omega (arith, ap length is, length-append bytes (take more (drop used piece)), length-take-le more (drop used piece) (omega arith))
+
+  fits : used + more ≤ length piece
+  fits = omega (arith, begun.within, length-drop used piece)
+
+  pub fed_open : length new < content → IsKeptOf limits (Content header_len content) new (rest ++ piece) × IsOpen limits (rest ++ piece)
+  fed_open short =
+      let room = begun.room in
+      let all : length piece ≤ used + more = omega (arith, len, length-drop used piece) in
+      let whole : rest ++ take (used + more) piece ≡ rest ++ piece = ap (λ xs. rest ++ xs) (take_all (used + more) piece all) in
+      let header = subst (λ b. BeginsWith limits b header_len (Ok content)) whole begins in
+      let left : drop header_len (rest ++ piece) ≡ new = ap (drop header_len) (sym whole) ∙ behind in
+      let long : length (rest ++ piece) < header_len + content = omega (arith, ap length left, length-drop header_len (rest ++ piece), header.ended.within) in
+      ((header, left, short), content_open header_len content header long)
+
+  pub fed_frame : content ≤ length new → (used + more ≤ length piece) × IsFrame limits (rest ++ take (used + more) piece) new
+  fed_frame long =
+      let room = begun.room in
+      let exact : length new ≡ content = omega (arith, len) in (
+        fits,
+        record {
+          len = header_len;
+          header = subst (λ n. BeginsWith limits (rest ++ take (used + more) piece) header_len (Ok n)) (sym exact) begins;
+          content_is = behind;
+        },
+      )

@@ -1,0 +1,15 @@
+pub mod Marks
+pub mod Judged
+pub mod SameMark
+pub mod LengthRuns
+pub mod LineRuns
+pub mod ScanSteps
+pub mod HeaderParts
+pub mod HeaderSteps
+pub mod FedSteps
+pub mod Decimal
+pub mod Unique
+pub mod Faults
+pub mod Outcomes
+pub mod Written
+pub mod Streams

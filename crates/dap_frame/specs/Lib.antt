@@ -1,0 +1,12 @@
+pub mod Limits
+pub mod Lines
+pub mod Frame
+pub mod LengthScan
+pub mod LineScan
+pub mod Findings
+pub mod HeaderScan
+pub mod Progress
+pub mod Reading
+pub mod Framer
+pub mod Feeding
+pub mod Laws

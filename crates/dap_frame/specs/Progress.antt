@@ -1,0 +1,54 @@
+-- What is taken of a piece for a frame. `rest` is the part of the frame that came before the piece.
+use Rattle.std.specs.Prelude.{◌≡◌, ◌≢◌, ℕ, ◌+◌, ◌-◌, ◌<◌, ◌≤◌, List, [], ◌++◌, length, take, drop, Result, Ok, Err}
+use Rattle.dap_frame.specs.declared.limits.FrameLimits.{FrameLimits}
+use Rattle.dap_frame.specs.declared.fault.FrameFault.{FrameFault}
+use Rattle.dap_frame.specs.declared.fault.FrameFault.TheVariants.{Memory}
+use Rattle.dap_frame.specs.declared.header_scan.HeaderScan.{HeaderScan}
+use Rattle.dap_frame.specs.declared.progress.HeaderTaken.{HeaderTaken}
+use Rattle.dap_frame.specs.declared.progress.HeaderTaken.TheVariants.{Unfinished, Ended}
+use Rattle.dap_frame.specs.Frame.{BeginsWith, Shows}
+use Rattle.dap_frame.specs.HeaderScan.{IsScanOf}
+
+-- The scan is that of some bytes, fewer than the limit of a header part.
+abbrev pub IsShortScan : FrameLimits → HeaderScan → Type 0
+IsShortScan limits scan = (rest : List ℕ) × IsScanOf limits rest scan × (length rest < limits.header)
+
+-- The whole piece was taken, and the header part goes on.
+pub record GoesOn (limits : FrameLimits) (rest piece : List ℕ) (scan : HeaderScan) : Type 0 where
+  pub scanned : IsScanOf limits (rest ++ piece) scan
+  pub short : length (rest ++ piece) < limits.header
+
+-- So much of the piece was taken, the header part ended there, and it says how long the content is.
+pub record HasEnded (limits : FrameLimits) (rest piece : List ℕ) (header_len content_len used : ℕ) : Type 0 where
+  pub within : used ≤ length piece
+  pub some : 0 < used
+  pub header_len_is : header_len ≡ length (rest ++ take used piece)
+  pub header : BeginsWith limits (rest ++ take used piece) header_len (Ok content_len)
+  pub small : content_len ≤ limits.content
+
+-- The header part shows this fault, which is not one of memory.
+pub record ShowsInHeader (limits : FrameLimits) (rest piece : List ℕ) (fault : FrameFault) : Type 0 where
+  pub no_memory : fault ≢ Memory
+  pub place : ℕ
+  pub shown : Shows limits (rest ++ piece) fault place
+
+-- what a piece makes of a header part that had not ended
+abbrev pub TakesHeader : FrameLimits → List ℕ → List ℕ → Result HeaderTaken FrameFault → Type 0
+TakesHeader limits rest piece (Ok (Unfinished scan)) = GoesOn limits rest piece scan
+TakesHeader limits rest piece (Ok (Ended header_len content_len used)) = HasEnded limits rest piece header_len content_len used
+TakesHeader limits rest piece (Err fault) = ShowsInHeader limits rest piece fault
+
+-- So much of the piece was taken before the bytes of the content, of which these came before the piece.
+pub record IsAtContent (limits : FrameLimits) (bytes rest piece : List ℕ) (header_len content_len used : ℕ) : Type 0 where
+  pub within : used ≤ length piece
+  pub progress : 0 < used + (content_len - length bytes)
+  pub room : length bytes ≤ content_len
+  pub header : BeginsWith limits (rest ++ take used piece) header_len (Ok content_len)
+  pub behind : drop header_len (rest ++ take used piece) ≡ bytes
+  pub small : content_len ≤ limits.content
+
+-- what a piece makes of a header part that may have ended before it
+abbrev pub TakesRestOfHeader : FrameLimits → List ℕ → List ℕ → List ℕ → Result HeaderTaken FrameFault → Type 0
+TakesRestOfHeader limits bytes rest piece (Ok (Unfinished scan)) = (bytes ≡ []) × GoesOn limits rest piece scan
+TakesRestOfHeader limits bytes rest piece (Ok (Ended header_len content_len used)) = IsAtContent limits bytes rest piece header_len content_len used
+TakesRestOfHeader limits bytes rest piece (Err fault) = (bytes ≡ []) × ShowsInHeader limits rest piece fault

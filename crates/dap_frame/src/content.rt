@@ -1,0 +1,32 @@
+ghost use Rattle.std.specs.Prelude.{◌≡◌};
+
+use std::marker::Model;
+
+/// The content of a frame: bytes of which nothing more is known. Contracts see it as the list of its bytes.
+#[derive(Debug, Drop)]
+pub struct Content {
+    bytes: Vec<u8>,
+}
+
+impl Model for Content {
+    ghost use Rattle.std.specs.Prelude.{ℕ, List};
+
+    ghost Value = { List ℕ };
+
+    ghost view = { λ a. a.bytes.items };
+}
+
+impl Content {
+    pub(crate) fn from_vec(bytes: Vec<u8>) -> Content
+        ensures { result ≡ bytes.items }
+    {
+        Content { bytes }
+    }
+
+    /// The bytes, in the order of the stream. Takes no memory.
+    pub fn as_slice(&self) -> &[u8]
+        ensures { result.now ≡ self.now }
+    {
+        self.bytes.as_slice()
+    }
+}

@@ -1,0 +1,27 @@
+//! Frames of the Debug Adapter Protocol's base protocol: a header part with the length of a content, and the content.
+//!
+//! A [`Framer`] reads frames from the pieces of a stream, and [`write_frame`] writes one. `specs/Frame.antt` says what a
+//! frame is, and when bytes show a fault. [`laws`] has the theorems on these definitions.
+#![tactic(auto)]
+
+mod byte_class;
+mod content;
+mod fault;
+mod fed;
+mod framer;
+mod header_scan;
+pub mod laws;
+mod length_scan;
+mod limits;
+mod line_scan;
+mod progress;
+#[cfg(test)]
+mod tests;
+mod write;
+
+pub use content::Content;
+pub use fault::FrameFault;
+pub use fed::Fed;
+pub use framer::Framer;
+pub use limits::FrameLimits;
+pub use write::write_frame;

@@ -1,0 +1,110 @@
+//! How far a frame has come, and what of a piece belongs to it.
+
+ghost use Rattle.std.specs.Prelude.{◌≡◌, ◌<◌, ◌≤◌, ◌+◌, ◌-◌, ◌++◌, ℕ, List, length, take, min, OnErr, IfOk};
+ghost use Rattle.dap_frame.specs.Limits.{IsSound};
+ghost use Rattle.dap_frame.specs.HeaderScan.{IsScanOf};
+ghost use Rattle.dap_frame.specs.Reading.{IsKeptOf};
+ghost use Rattle.dap_frame.specs.Progress.{TakesHeader, TakesRestOfHeader, IsShortScan};
+
+use crate::fault::FrameFault;
+use crate::header_scan::{HeaderScan, ScanStep};
+use crate::limits::FrameLimits;
+use std::alloc::AllocError;
+
+/// How far a frame has come.
+#[derive(Clone, Copy)]
+pub enum Progress {
+    /// Its header part has not ended.
+    Header(HeaderScan),
+    /// Its header part had `header_len` bytes, and its content has `content_len` bytes, of which less have come.
+    Content {
+        header_len: usize,
+        content_len: usize,
+    },
+}
+
+/// What a piece makes of a header part.
+pub enum HeaderTaken {
+    /// It took the whole piece.
+    Unfinished(HeaderScan),
+    /// It ended after `used` bytes of the piece.
+    Ended {
+        header_len: usize,
+        content_len: usize,
+        used: usize,
+    },
+}
+
+/// Takes what belongs to the header part, byte by byte.
+fn take_header(
+    limits: FrameLimits,
+    scan: HeaderScan,
+    piece: &[u8],
+) -> Result<HeaderTaken, FrameFault>
+    requires sound { IsSound limits }
+    requires scan { IsShortScan limits scan }
+    ensures { (rest : List ℕ) → IsScanOf limits rest scan → length rest < limits.header → TakesHeader limits rest piece.now result }
+{
+    let mut scan = scan;
+    for (i, byte) in piece.iter().enumerate() {
+        match scan.step(limits, *byte) {
+            ScanStep::Ended(findings) => {
+                let content_len = match findings.outcome() {
+                    Ok(content_len) => content_len,
+                    Err(fault) => return Err(fault),
+                };
+                return Ok(HeaderTaken::Ended {
+                    header_len: scan.count + 1,
+                    content_len,
+                    used: i + 1,
+                });
+            }
+            ScanStep::Unfinished(next) => {
+                if limits.header <= next.count {
+                    return Err(FrameFault::HeaderTooLong);
+                }
+                scan = next;
+            }
+        }
+    }
+    Ok(HeaderTaken::Unfinished(scan))
+}
+
+/// Takes what belongs to the header part, unless it has ended.
+pub fn take_rest_of_header(
+    limits: FrameLimits,
+    progress: Progress,
+    piece: &[u8],
+) -> Result<HeaderTaken, FrameFault>
+    requires sound { IsSound limits }
+    requires kept { (bytes : List ℕ) × (rest : List ℕ) × IsKeptOf limits progress bytes rest }
+    ensures { (bytes rest : List ℕ) → IsKeptOf limits progress bytes rest → TakesRestOfHeader limits bytes rest piece.now result }
+{
+    match progress {
+        Progress::Header(scan) => take_header(limits, scan, piece),
+        Progress::Content {
+            header_len,
+            content_len,
+        } => Ok(HeaderTaken::Ended {
+            header_len,
+            content_len,
+            used: 0,
+        }),
+    }
+}
+
+/// Takes what belongs to a content of `content_len` bytes, and answers how much that is.
+pub fn take_content(
+    bytes: &mut Vec<u8>,
+    piece: &[u8],
+    content_len: usize,
+) -> Result<usize, AllocError>
+    requires { length bytes.old.items ≤ content_len }
+    ensures ok { IfOk result (λ n. (n ≡ min (content_len - length bytes.old.items) (length piece.now))
+        × (bytes.new.items ≡ bytes.old.items ++ take n piece.now)) }
+    ensures err { OnErr result (bytes.new.items ≡ bytes.old.items) }
+{
+    let count = piece.len().min(content_len - bytes.len());
+    bytes.extend_from_slice(&piece[..count])?;
+    Ok(count)
+}

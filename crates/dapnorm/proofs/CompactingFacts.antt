@@ -1,0 +1,114 @@
+-- Frames of JSON contents, judged by `compact`: what its runs owe, and that they are what it accepts.
+use Rattle.std.proofs.Common.{◌≡◌, ℕ, ◌+◌, ◌<◌, ◌≤◌, Bool, true, false, List, [], ◌∷◌, ◌++◌, length, Option, Some, None, refl, sym, ◌∙◌, ap, subst, arith, append_assoc, append-nil, length-append}
+use Rattle.std.proofs.lemmas.Bool.{false≢true}
+use Rattle.std.specs.List.{AllByRecursion}
+use Rattle.serde_json.specs.Data.{Data}
+use Rattle.serde_json.specs.Read.{read}
+use Rattle.serde_json.specs.Written.{compact_text, has_float}
+use Rattle.dap_frame.specs.Frame.{AreFrames, IsFrame, frame_text}
+use Rattle.dapnorm.specs.declared.limits.Limits.{Limits}
+use Rattle.dapnorm.specs.Content.{Reads, IsWhole}
+use Rattle.dapnorm.specs.Compacting.{AreRead, Fits, IsCompactable, Objection, no_reading, fraction, grown, Objects, compacting, text}
+use Rattle.dapnorm.proofs.Runs.{Run, PassesAt, ValueLaws, AcceptedFacts}
+
+-- a content has one reading
+pub one_reading : (content : List ℕ) (value other : Data) → Reads content value → Reads content other → value ≡ other
+one_reading content value other one two = let same : ◌≡◌ {A = Option Data} (Some value) (Some other) = sym one.1 ∙ two.1 in cc
+
+whole_has_no_fraction : (content : List ℕ) (value other : Data) → IsWhole content value → Reads content other → has_float other ≡ true → ⊥
+whole_has_no_fraction content value other whole reads fractional =
+    false≢true (sym whole.1 ∙ ap has_float (one_reading content value other whole.0 reads) ∙ fractional)
+
+module _ (limits : Limits) where
+  one_objection : (values : List Data) (content : List ℕ) (why because : Objection) → Objects limits values content why → Objects limits values content because → why ≡ because
+  one_objection values content no_reading no_reading one two = refl
+  one_objection values content no_reading fraction one two = absurd (one two.0 two.1)
+  one_objection values content no_reading grown one two = absurd (one two.0 two.1.0)
+  one_objection values content fraction no_reading one two = absurd (two one.0 one.1)
+  one_objection values content fraction fraction one two = refl
+  one_objection values content fraction grown one two = absurd (whole_has_no_fraction content two.0 one.0 two.1 one.1 one.2)
+  one_objection values content grown no_reading one two = absurd (two one.0 one.1.0)
+  one_objection values content grown fraction one two = absurd (whole_has_no_fraction content one.0 two.0 one.1 two.1 two.2)
+  one_objection values content grown grown one two = refl
+
+  next_not_objected : (values : List Data) (content : List ℕ) (value : Data) (why : Objection) → IsWhole content value × Fits limits (values ++ value ∷ []) → Objects limits values content why → ⊥
+  next_not_objected values content value no_reading next objects = objects value next.0.0
+  next_not_objected values content value fraction next objects = whole_has_no_fraction content value objects.0 next.0 objects.1 objects.2
+  next_not_objected values content value grown next objects =
+      let same = one_reading content value objects.0 next.0.0 objects.1.0 in
+      objects.2 (subst (λ v. Fits limits (values ++ v ∷ [])) same next.1)
+
+  pub value_laws : ValueLaws (compacting limits)
+  value_laws = record {
+    one_value = λ values content value other one two. one_reading content value other one.0.0 two.0.0;
+    one_objection = one_objection;
+    next_not_objected = next_not_objected;
+  }
+
+  -- ---- accepted inputs are runs
+
+  text-append : (values others : List Data) → text (values ++ others) ≡ text values ++ text others
+  text-append [] others = refl
+  text-append (value ∷ values) others =
+      ap (λ t. frame_text (compact_text value) ++ t) (text-append values others) ∙ sym (append_assoc (frame_text (compact_text value)) (text values) (text others))
+
+  each_front : (values others : List Data) → AllByRecursion (λ value. length (compact_text value) ≤ limits.frame.content) (values ++ others)
+      → AllByRecursion (λ value. length (compact_text value) ≤ limits.frame.content) values
+  each_front [] others all = tt
+  each_front (value ∷ values) others all = (all.0, each_front values others all.1)
+
+  -- what fits, fits up to each of its values
+  fits_front : (values others : List Data) → Fits limits (values ++ others) → Fits limits values
+  fits_front values others fits =
+      let whole = fits.whole in
+      record { each = each_front values others fits.each; whole = omega (arith, whole, ap length (text-append values others), length-append (text values) (text others)) }
+
+  run_of : (before values : List Data) (used : ℕ) (bytes : List ℕ) (contents : List (List ℕ)) → AreFrames limits.frame bytes contents → AreRead contents values
+      → Fits limits (before ++ values) → used + length bytes ≤ limits.input → Run (compacting limits) before used bytes values
+  unfolding Run
+  run_of before [] used bytes [] frames read fits short = frames
+  run_of before (value ∷ values) used bytes [] frames read fits short = absurd read
+  run_of before [] used bytes (content ∷ contents) frames read fits short = absurd read
+  run_of before (value ∷ values) used bytes (content ∷ contents) (frame, more, is_frame, split, frames) (is_whole, read) fits short =
+      let shift : (before ++ value ∷ []) ++ values ≡ before ++ value ∷ values = append_assoc before (value ∷ []) values in
+      let fits_more = subst (Fits limits) (sym shift) fits in (
+        frame,
+        more,
+        split,
+        record {
+          held = content;
+          is_record = is_frame;
+          is_next = (is_whole, fits_front (before ++ value ∷ []) values fits_more);
+          in_time = omega (arith, ap length split, length-append frame more);
+        },
+        run_of (before ++ value ∷ []) values (used + length frame) more contents frames read fits_more (omega (arith, ap length split, length-append frame more)),
+      )
+
+  -- the contents of a run, and that they read as its values
+  contents_of : (before values : List Data) (used : ℕ) (bytes : List ℕ) → Run (compacting limits) before used bytes values
+      → (contents : List (List ℕ)) × AreFrames limits.frame bytes contents × AreRead contents values
+  unfolding Run
+  contents_of before [] used bytes run = ([], run, tt)
+  contents_of before (value ∷ values) used bytes (frame, more, split, passes, run) =
+      let rest = contents_of (before ++ value ∷ []) values (used + length frame) more run in
+      (passes.held ∷ rest.0, (frame, more, passes.is_record, split, rest.1), (passes.is_next.0, rest.2))
+
+  run_fits : (before values : List Data) (used : ℕ) (bytes : List ℕ) → Run (compacting limits) before used bytes values → Fits limits before → used ≤ limits.input
+      → Fits limits (before ++ values) × (used + length bytes ≤ limits.input)
+  unfolding Run
+  run_fits before [] used bytes run fits short = (subst (Fits limits) (sym (append-nil before)) fits, omega (arith, ap length run))
+  run_fits before (value ∷ values) used bytes (frame, more, split, passes, run) fits short =
+      let rest = run_fits (before ++ value ∷ []) values (used + length frame) more run passes.is_next.1 passes.in_time in
+      (subst (Fits limits) (append_assoc before (value ∷ []) values) rest.0, omega (arith, rest.1, ap length split, length-append frame more))
+
+  pub fits_none : Fits limits []
+  fits_none = record { each = tt; whole = omega arith }
+
+  pub accepted_facts : AcceptedFacts (compacting limits)
+  accepted_facts = record {
+    run_of_accepted = λ bytes values accepted. run_of [] values 0 bytes accepted.contents accepted.frames accepted.read accepted.fits (let short = accepted.short in omega arith);
+    accepted_of_run = λ bytes values run.
+        let contents = contents_of [] values 0 bytes run in
+        let fits = run_fits [] values 0 bytes run fits_none (omega arith) in
+        record { short = omega (arith, fits.1); contents = contents.0; frames = contents.1; read = contents.2; fits = fits.0 };
+  }

@@ -1,0 +1,25 @@
+-- Frames as the records that `compact` judges.
+use Rattle.std.proofs.Common.{◌≡◌, ◌<◌, ◌≤◌, arith}
+use Rattle.dap_frame.specs.Frame.{IsOpen}
+use Rattle.dap_frame.proofs.Unique.{one_frame, no_empty_frame, one_fault, frame_not_faulty, frame_not_open, open_not_faulty}
+use Rattle.dap_frame.proofs.Faults.{shown_within, fault_stays, fault_early}
+use Rattle.dap_frame.proofs.Outcomes.{some_outcome}
+use Rattle.dapnorm.specs.declared.limits.Limits.{Limits}
+use Rattle.dapnorm.specs.Limits.{AreSound}
+use Rattle.dapnorm.specs.Compacting.{compacting}
+use Rattle.dapnorm.proofs.Runs.{RecordLaws, FaultLaws}
+
+module _ (limits : Limits) where
+  pub record_laws : AreSound limits → RecordLaws (compacting limits)
+  record_laws sound = record {
+    one_record = λ front other rest more held found. one_frame limits.frame front other rest more held found;
+    no_empty_record = no_empty_frame limits.frame;
+    one_cause = one_fault limits.frame;
+    shown_within = λ bytes cause place shown. let within = shown_within limits.frame bytes cause place shown in (within.0 sound.frame, within.1);
+    record_not_faulty = λ front more held cause place. frame_not_faulty limits.frame front more held cause place;
+    record_not_open = λ front more held. frame_not_open limits.frame front more held;
+    open_not_faulty = open_not_faulty limits.frame;
+  }
+
+  pub fault_laws : FaultLaws (compacting limits)
+  fault_laws = record { shown_more = fault_stays limits.frame; shown_front = fault_early limits.frame }

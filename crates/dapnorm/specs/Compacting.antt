@@ -1,0 +1,84 @@
+-- What `compact` accepts, what it writes, and what it refuses. Source: own, over the frames of the DAP base protocol.
+use Rattle.std.specs.Prelude.{◌≡◌, ℕ, ◌≤◌, List, [], ◌∷◌, ◌++◌, length}
+use Rattle.std.specs.List.{flat_map, AllByRecursion}
+use Rattle.serde_json.specs.Data.{Data}
+use Rattle.serde_json.specs.Written.{compact_text}
+use Rattle.dap_frame.specs.declared.fault.FrameFault.{FrameFault}
+use Rattle.dap_frame.specs.Frame.{AreFrames, IsFrame, IsOpen, Shows, frame_text}
+use Rattle.dapnorm.specs.declared.limits.Limits.{Limits}
+use Rattle.dapnorm.specs.declared.refused.Refused.{Refused}
+use Rattle.dapnorm.specs.declared.refused.Refused.TheVariants.{InputTooLong, Record, Json, Fraction, Grew, ReadFault, WriteFault, Memory}
+use Rattle.dapnorm.specs.declared.refused.RecordCause.{RecordCause}
+use Rattle.dapnorm.specs.declared.refused.RecordCause.TheVariants as cause
+use Rattle.dapnorm.specs.Content.{IsWhole, HasFraction, HasNoReading}
+use Rattle.dapnorm.specs.Judging.{Judging, Reason, faulty, input_too_long, cut, objected, IsFirstRefusal}
+
+-- the text of these values: for each a frame of its compact text, in which members stand in the byte order of their names
+abbrev pub text : List Data → List ℕ
+text values = flat_map (λ value. frame_text (compact_text value)) values
+
+-- the contents read as these values
+abbrev pub AreRead : List (List ℕ) → List Data → Type 0
+AreRead [] [] = Unit {0}
+AreRead [] (value ∷ values) = ⊥
+AreRead (content ∷ contents) [] = ⊥
+AreRead (content ∷ contents) (value ∷ values) = IsWhole content value × AreRead contents values
+
+-- what is to be written keeps within the limits
+pub record Fits (limits : Limits) (values : List Data) : Type 0 where
+  pub each : AllByRecursion (λ value. length (compact_text value) ≤ limits.frame.content) values
+  pub whole : length (text values) ≤ limits.input
+
+-- The input is frames of contents that read as these values, and their text keeps within the limits.
+pub record IsCompactable (limits : Limits) (whole : List ℕ) (values : List Data) : Type 0 where
+  pub short : length whole ≤ limits.input
+  pub contents : List (List ℕ)
+  pub frames : AreFrames limits.frame whole contents
+  pub read : AreRead contents values
+  pub fits : Fits limits values
+
+-- why a content is refused
+pub data Objection : Type 0 where
+  no_reading : Objection
+  fraction : Objection
+  grown : Objection
+
+abbrev pub Objects : Limits → List Data → List ℕ → Objection → Type 0
+Objects limits values content no_reading = HasNoReading content
+Objects limits values content fraction = HasFraction content
+Objects limits values content grown = (value : Data) × IsWhole content value × (Fits limits (values ++ value ∷ []) → ⊥)
+
+-- a record is a frame, and a value follows others where its content reads as it and the text still fits
+abbrev pub compacting : Limits → Judging
+compacting limits = record {
+  Held = List ℕ;
+  Value = Data;
+  Cause = FrameFault;
+  Objection = Objection;
+  input = limits.input;
+  IsRecord = IsFrame limits.frame;
+  Shows = Shows limits.frame;
+  IsOpen = IsOpen limits.frame;
+  IsNext = λ values content value. IsWhole content value × Fits limits (values ++ value ∷ []);
+  Objects = Objects limits;
+  IsAccepted = IsCompactable limits;
+}
+
+-- The input gives this text.
+abbrev pub Compacts : Limits → List ℕ → List ℕ → Type 0
+Compacts limits whole written = (values : List Data) × IsCompactable limits whole values × (written ≡ text values)
+
+-- This is the first refusal of the input.
+abbrev pub IsRefused : Limits → List ℕ → Refused → Type 0
+IsRefused limits whole (InputTooLong n) = IsFirstRefusal (compacting limits) whole n input_too_long
+IsRefused limits whole (Record n (cause.Frame fault)) = IsFirstRefusal (compacting limits) whole n (faulty fault)
+IsRefused limits whole (Record n cause.Cut) = IsFirstRefusal (compacting limits) whole n cut
+IsRefused limits whole (Record n cause.BadMarker) = ⊥
+IsRefused limits whole (Record n cause.NoLineEnd) = ⊥
+IsRefused limits whole (Record n cause.Memory) = ⊥
+IsRefused limits whole (Json n) = IsFirstRefusal (compacting limits) whole n (objected no_reading)
+IsRefused limits whole (Fraction n) = IsFirstRefusal (compacting limits) whole n (objected fraction)
+IsRefused limits whole (Grew n) = IsFirstRefusal (compacting limits) whole n (objected grown)
+IsRefused limits whole ReadFault = ⊥
+IsRefused limits whole WriteFault = ⊥
+IsRefused limits whole Memory = ⊥

@@ -1,0 +1,11 @@
+pub mod Content
+pub mod CompactingSteps
+pub mod CommandLine
+pub mod Compacting
+pub mod Device
+pub mod Engine
+pub mod Judging
+pub mod Limits
+pub mod Memory
+pub mod Reading
+pub mod Run

@@ -1,0 +1,37 @@
+-- What the program tells of a job. Source: own.
+use Rattle.std.specs.Prelude.{◌≡◌, ◌⊎◌, ℕ, List, Option, Result, Ok, Err, string_bytes}
+use Rattle.dapnorm.specs.declared.jobs.UsageFault.{UsageFault}
+use Rattle.dapnorm.specs.declared.jobs.UsageFault.TheVariants as usage
+use Rattle.dapnorm.specs.declared.refused.Refused.{Refused}
+use Rattle.dapnorm.specs.declared.refused.Refused.TheVariants.{InputTooLong, Record, Json, Fraction, Grew, ReadFault, WriteFault, Memory}
+use Rattle.dapnorm.specs.Device.{AllWritten, FrontWritten}
+use Rattle.dapnorm.specs.Engine.{Answers}
+
+-- the status of the program for an engine's answer: done, refused, a device that failed, want of memory
+abbrev pub status_of : {U : Type 0} → Result U Refused → ℕ
+status_of (Ok done) = 0
+status_of (Err ReadFault) = 4
+status_of (Err WriteFault) = 4
+status_of (Err Memory) = 5
+status_of (Err refused) = 2
+
+module _ {R W : Type 0} (left : R → Option (List ℕ)) (read_failures : R → ℕ) (out : W → Option (List ℕ)) (write_failures : W → ℕ)
+    (input : ℕ) (Gives : List ℕ → List ℕ → Type 0) (IsRefused : List ℕ → Refused → Type 0) where
+  -- The devices are as the engine leaves them with its answer, and the status is that of this answer.
+  pub record Answered (old new : R) (before after : W) (status : ℕ) : Type 0 where
+    pub answer : Result (Unit {0}) Refused
+    pub answers : Answers left read_failures out write_failures input Gives IsRefused old new before after answer
+    pub status_is : status ≡ status_of answer
+
+module _ {S : Type 0} (out : S → Option (List ℕ)) (failures : S → ℕ) where
+  -- The text went out, or a front of it and the device failed.
+  abbrev pub HasSent : S → S → List ℕ → Type 0
+  HasSent old new text = AllWritten out failures old new text ⊎ FrontWritten out failures old new text
+
+module _ {W E : Type 0} (out : W → Option (List ℕ)) (write_failures : W → ℕ) (told : E → Option (List ℕ)) (error_failures : E → ℕ) where
+  -- Help goes to the output, and the mistake of a user to the errors.
+  abbrev pub TellsUsage : UsageFault → W → W → E → E → ℕ → Type 0
+  TellsUsage (usage.Help text) before after old new status =
+      (AllWritten out write_failures before after (string_bytes text) × (status ≡ 0) ⊎ (FrontWritten out write_failures before after (string_bytes text) × (status ≡ 4))) × (new ≡ old)
+  TellsUsage (usage.Usage text) before after old new status = (status ≡ 3) × HasSent told error_failures old new (string_bytes text) × (after ≡ before)
+  TellsUsage usage.Memory before after old new status = (status ≡ 5) × (after ≡ before)

@@ -1,0 +1,112 @@
+//! Reads the words of a command line with `clap`.
+ghost use Rattle.std.specs.Prelude.{[], ◌≡◌, IfOk, IfErr, Some, true, is_some, map, option_map};
+ghost use Rattle.clap.specs.Words.{fault_of as faults_of, app_of, found_of, rows_of, subcommand_of, subcommand_rows_of, takes, kind_of, with_subcommand};
+ghost use Rattle.dapnorm.specs.CommandLine.{bare, plain, job_named, job_of, program, told};
+ghost use Rattle.dapnorm.specs.declared.jobs.UsageFault.TheVariants.{Memory};
+
+use crate::jobs::{Job, UsageFault};
+use clap::error::ErrorKind;
+use clap::{ArgMatches, Command, Error};
+use std::alloc::{AllocError, Global};
+
+/// The program's command before its subcommands.
+fn bare_command<'a>(alloc: Global) -> Command<'a>
+    ensures { app_of result ≡ bare }
+{
+    Command::new(alloc, "dapnorm")
+        .about("Records and normalises sessions of the Debug Adapter Protocol")
+        .subcommand_required(true)
+}
+
+/// A subcommand that takes no words is added to `command`.
+fn with_plain<'a>(
+    command: Command<'a>,
+    alloc: Global,
+    name: &'a str,
+    about: &'a str,
+) -> Result<Command<'a>, AllocError>
+    ensures { IfOk result (λ c. app_of c ≡ with_subcommand (app_of command.entry) (plain name.entry.now).top) }
+{
+    command.subcommand(Command::new(alloc, name).about(about))
+}
+
+/// The definition of the command line.
+fn command<'a>(alloc: Global) -> Result<Command<'a>, AllocError>
+    ensures { IfOk result (λ c. app_of c ≡ program) }
+{
+    with_plain(
+        bare_command(alloc),
+        alloc,
+        "compact",
+        "Makes the contents of frames canonical, from standard input to standard output",
+    )
+}
+
+/// The job of a subcommand with its matches.
+fn job_by(name: &str, rows: &ArgMatches<'_>) -> Option<Job>
+    ensures { option_map told result ≡ job_of name.now (rows_of (found_of rows.now)) }
+{
+    match name {
+        "compact" => Some(Job::Compact),
+        _ => None,
+    }
+}
+
+/// The job that a parse's matches name.
+fn told_by(matches: &ArgMatches<'_>) -> Option<Job>
+    ensures { option_map told result ≡ job_named (subcommand_rows_of matches.now) }
+{
+    match matches.subcommand() {
+        Some((name, rows)) => job_by(name, rows),
+        None => None,
+    }
+}
+
+/// The text for the user: help that was asked for, or a mistake.
+fn fault_of(alloc: Global, error: &Error) -> UsageFault
+    ensures { kind_of error.now ≡ ErrorKind.OutOfMemory → result ≡ Memory }
+{
+    if error.kind() == ErrorKind::OutOfMemory {
+        return UsageFault::Memory;
+    }
+    match format!(in alloc; "{error}") {
+        Ok(text) if error.kind() == ErrorKind::DisplayHelp => UsageFault::Help(text),
+        Ok(text) => UsageFault::Usage(text),
+        Err(_) => UsageFault::Memory,
+    }
+}
+
+/// The fault of words that a parse takes and that name no job. No words are known that do.
+fn no_job(alloc: Global) -> UsageFault {
+    match String::from_str(alloc, "error: no subcommand was given\n") {
+        Ok(text) => UsageFault::Usage(text),
+        Err(_) => UsageFault::Memory,
+    }
+}
+
+/// Reads the words of a command line, of which the first is the program's name.
+///
+/// # Errors
+///
+/// `Help` where help is asked for, `Usage` with `clap`'s text where the words are wrong, `Memory`.
+pub fn job(alloc: Global, words: &[&str]) -> Result<Job, UsageFault>
+    // The job is the one that clap's own definition of the command finds in the words.
+    ensures ok { IfOk result (λ j. job_named (subcommand_of program (map (λ w. w.now) words.entry.now)) ≡ Some (told j)) }
+    ensures taken { IfOk result (λ _. faults_of program (map (λ w. w.now) words.entry.now) ≡ []) }
+
+    // Where that definition takes the words with one of the subcommands, only memory can be wanting.
+    ensures err { IfErr result (λ fault. takes program (map (λ w. w.now) words.entry.now) ≡ true
+        → is_some (job_named (subcommand_of program (map (λ w. w.now) words.entry.now))) ≡ true
+        → fault ≡ Memory) }
+{
+    let Ok(command) = command(alloc) else {
+        return Err(UsageFault::Memory);
+    };
+    match command.try_get_matches_from(words) {
+        Ok(matches) => match told_by(&matches) {
+            Some(job) => Ok(job),
+            None => Err(no_job(alloc)),
+        },
+        Err(error) => Err(fault_of(alloc, &error)),
+    }
+}

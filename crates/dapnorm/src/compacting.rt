@@ -1,0 +1,203 @@
+//! Makes the contents of frames canonical.
+ghost use Rattle.std.specs.Prelude.{◌≡◌, ◌+◌, ◌<◌, ◌≤◌, ◌^◌, List, Result, Ok, Err};
+ghost use Rattle.serde_json.specs.Data.{Data};
+ghost use Rattle.serde_json.specs.View.{view, items_view, members_view};
+ghost use Rattle.serde_json.specs.Written.{has_float, items_have_float, members_have_float};
+ghost use Rattle.dapnorm.specs.Compacting.{Compacts, Fits, IsRefused, text};
+ghost use Rattle.dapnorm.specs.CompactingSteps.{Appended, HasGoneOn, JudgesInput, refusal_at};
+ghost use Rattle.dapnorm.specs.Reading.{HasLength};
+ghost use Rattle.dapnorm.specs.Engine.{Answers};
+ghost use Rattle.dapnorm.specs.Limits.{AreSound};
+
+use crate::device::{Sink, Source};
+use crate::limits::Limits;
+use crate::reading::{Input, Stop, read_all};
+use crate::refused::{RecordCause, Refused};
+use crate::writing::write_and_flush;
+use dap_frame::{Content, FrameFault, Framer, write_frame};
+use serde_json::{Map, Value};
+use std::alloc::Global;
+
+/// Why a content has no compact text that fits.
+#[derive(Clone, Copy, Debug, PartialEq, Eq)]
+enum ContentFault {
+    Json,
+    Fraction,
+    Grew,
+    Memory,
+}
+
+impl ContentFault {
+    /// The refusal of the record of that number.
+    fn at(self, number: u64) -> Refused
+        ensures { result ≡ refusal_at number self }
+    {
+        match self {
+            ContentFault::Json => Refused::Json(number),
+            ContentFault::Fraction => Refused::Fraction(number),
+            ContentFault::Grew => Refused::Grew(number),
+            ContentFault::Memory => Refused::Memory,
+        }
+    }
+}
+
+/// Whether some number is not kept whole.
+#[cycle(has_fraction)]
+fn has_fraction(value: &Value) -> bool
+    ensures { result ≡ has_float (view value.now) }
+{
+    match value {
+        Value::Null | Value::Bool(_) | Value::String(_) => false,
+        Value::Number(number) => number.is_f64(),
+        Value::Array(items) => items_have_fraction(items),
+        Value::Object(members) => members_have_fraction(members),
+    }
+}
+
+#[cycle(has_fraction)]
+fn items_have_fraction(items: &Vec<Value>) -> bool
+    ensures { result ≡ items_have_float (items_view items.now.items) }
+{
+    for item in items {
+        if has_fraction(item) {
+            return true;
+        }
+    }
+    false
+}
+
+#[cycle(has_fraction)]
+fn members_have_fraction(members: &Map<String, Value>) -> bool
+    ensures { result ≡ members_have_float (members_view members.now.entries) }
+{
+    for (_, member) in members.iter() {
+        if has_fraction(member) {
+            return true;
+        }
+    }
+    false
+}
+
+/// Appends the frame of a content's compact text to the text of those before it.
+fn append_compact(
+    alloc: Global,
+    out: &mut Vec<u8>,
+    content: &[u8],
+    limits: Limits,
+) -> Result<(), ContentFault>
+    requires { AreSound limits }
+    ensures { (values : List Data) → Fits limits values → out.old.items ≡ text values → Appended limits values content.now result out.new.items }
+{
+    let value = match Value::from_slice(alloc, content) {
+        Ok(value) => value,
+        Err(error) if error.is_memory() => return Err(ContentFault::Memory),
+        Err(_) => return Err(ContentFault::Json),
+    };
+    if has_fraction(&value) {
+        return Err(ContentFault::Fraction);
+    }
+    let Ok(text) = value.to_vec(alloc) else {
+        return Err(ContentFault::Memory);
+    };
+    match write_frame(out, text.as_slice(), limits.frame) {
+        Ok(()) => {}
+        Err(FrameFault::ContentTooLong) => return Err(ContentFault::Grew),
+        Err(_) => return Err(ContentFault::Memory),
+    }
+    if limits.input < out.len() as u64 {
+        return Err(ContentFault::Grew);
+    }
+    Ok(())
+}
+
+/// Appends the compact frame of a content that has come, and answers the number of the next record.
+fn append_next(
+    alloc: Global,
+    out: &mut Vec<u8>,
+    number: u64,
+    content: Option<Content>,
+    limits: Limits,
+) -> Result<u64, Refused>
+    requires sound { AreSound limits }
+    requires few { number < 2 ^ 63 }
+    ensures { (values : List Data) → Fits limits values → out.old.items ≡ text values → HasGoneOn limits values number out.old.items content result out.new.items }
+{
+    let Some(content) = content else {
+        return Ok(number);
+    };
+    match append_compact(alloc, out, content.as_slice(), limits) {
+        Ok(()) => Ok(number + 1),
+        Err(fault) => Err(fault.at(number)),
+    }
+}
+
+/// The compact text of what was read, or why there is none.
+fn compact_input(alloc: Global, input: &Input, limits: Limits) -> Result<Vec<u8>, Refused>
+    requires sound { AreSound limits }
+    requires has_length { HasLength limits.input input.now.bytes.items input.now.stop }
+    ensures { JudgesInput limits input.now.bytes.items input.now.stop result }
+{
+    let bytes = input.bytes.as_slice();
+    let mut framer = Framer::new(alloc, limits.frame);
+    let mut out = Vec::new(alloc);
+    let mut number: u64 = 1;
+    let mut rest = &bytes[..bytes.len().min(limits.input as usize)];
+    while !rest.is_empty() {
+        let fed = match framer.feed(rest) {
+            Ok(fed) => fed,
+            Err(fault) => match fault {
+                FrameFault::Memory => return Err(Refused::Memory),
+                _ => return Err(Refused::Record(number, RecordCause::Frame(fault))),
+            },
+        };
+        rest = &rest[fed.used..];
+        number = append_next(alloc, &mut out, number, fed.content, limits)?;
+    }
+    match input.stop {
+        Stop::Full => Err(Refused::InputTooLong(number)),
+        Stop::Failed => Err(Refused::ReadFault),
+        Stop::End => match framer.finish() {
+            Ok(()) => Ok(out),
+            Err(_) => Err(Refused::Record(number, RecordCause::Cut)),
+        },
+    }
+}
+
+/// Reads frames of one direction and writes frames of their canonical contents.
+///
+/// A canonical content is its JSON value without spaces, the members of each object in the byte order of their names.
+/// It reads its whole input, at most one byte past `limits.input`, judges it, and writes last: nothing is written
+/// where it is refused. Records are counted from 1 in the order of the input.
+///
+/// # Errors
+///
+/// The first refusal of the input; `ReadFault` where the reader failed and what came before is not refused;
+/// `WriteFault` where the writer failed; `Memory`.
+pub fn compact<R: Source, W: Sink>(
+    alloc: Global,
+    reader: &mut R,
+    writer: &mut W,
+    limits: Limits,
+) -> Result<(), Refused>
+    requires limits { AreSound limits }
+    requires given { R.given reader.old < 2 ^ 62 }
+    requires read_failures { R.failures reader.old < 2 ^ 62 }
+    requires write_failures { W.failures writer.old < 2 ^ 62 }
+
+    // The compact text of the input goes out, or its first refusal is answered and nothing goes out. A fault of a
+    // device is answered exactly where that device failed.
+    ensures answer { Answers R.left R.failures W.out W.failures limits.input (Compacts limits) (IsRefused limits) reader.old reader.new writer.old writer.new result }
+
+    // It takes at most one byte past the limit.
+    ensures taken { R.given reader.new ≤ R.given reader.old + limits.input + 1 }
+{
+    let input = match read_all(alloc, reader, limits.input) {
+        Ok(input) => input,
+        Err(_) => return Err(Refused::Memory),
+    };
+    let text = compact_input(alloc, &input, limits)?;
+    match write_and_flush(writer, text.as_slice()) {
+        Ok(()) => Ok(()),
+        Err(_) => Err(Refused::WriteFault),
+    }
+}

@@ -1,0 +1,19 @@
+//! What the words of a command line ask for.
+
+/// What the program was asked to do.
+#[derive(Clone, Copy, Debug, PartialEq, Eq)]
+pub enum Job {
+    /// Make the contents of frames canonical.
+    Compact,
+}
+
+/// Why the words name no job.
+#[derive(Debug, Drop)]
+pub enum UsageFault {
+    /// The words are wrong: what is wrong with them, for the user.
+    Usage(String),
+    /// Help was asked for: the text of it.
+    Help(String),
+    /// Memory was refused.
+    Memory,
+}

@@ -1,0 +1,24 @@
+//! Engines over frames and recordings of the Debug Adapter Protocol.
+#![tactic(auto)]
+
+mod command_line;
+mod compacting;
+mod device;
+mod jobs;
+mod limits;
+mod memory;
+mod reading;
+mod refused;
+mod run;
+mod std_device;
+mod writing;
+
+pub use command_line::job;
+pub use compacting::compact;
+pub use device::{DeviceFault, Sink, Source};
+pub use jobs::{Job, UsageFault};
+pub use limits::Limits;
+pub use memory::{MemorySink, MemorySource};
+pub use refused::{RecordCause, Refused};
+pub use run::{run_stream, run_usage};
+pub use std_device::{StdSink, StdSource};

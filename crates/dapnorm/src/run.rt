@@ -1,0 +1,112 @@
+//! Does a job, and tells of it what the program tells: lines and a status.
+ghost use Rattle.std.specs.Prelude.{◌≡◌, ◌+◌, ◌<◌, ◌≤◌, ◌^◌};
+ghost use Rattle.dapnorm.specs.Compacting.{Compacts, IsRefused};
+ghost use Rattle.dapnorm.specs.Limits.{AreSound};
+ghost use Rattle.dapnorm.specs.Run.{Answered, TellsUsage, status_of};
+
+use crate::compacting::compact;
+use crate::device::{Sink, Source};
+use crate::jobs::{Job, UsageFault};
+use crate::limits::Limits;
+use crate::refused::Refused;
+use crate::writing::write_and_flush;
+use arrayvec::ArrayString;
+use std::alloc::Global;
+use std::fmt::Write;
+
+/// The status of a job that was done.
+const DONE: u8 = 0;
+
+/// The status of an input that is refused.
+const REFUSED: u8 = 2;
+
+/// The status of words that name no job.
+const USAGE: u8 = 3;
+
+/// The status of a device that failed.
+const FAULT: u8 = 4;
+
+/// The status of want of memory.
+const MEMORY: u8 = 5;
+
+/// How long a fault's line may be. The longest has 60 bytes.
+const LINE: usize = 128;
+
+/// The status of the program for an engine's answer.
+fn status(answer: Result<(), Refused>) -> u8
+    ensures { result ≡ status_of answer }
+{
+    match answer {
+        Ok(()) => DONE,
+        Err(Refused::ReadFault | Refused::WriteFault) => FAULT,
+        Err(Refused::Memory) => MEMORY,
+        Err(_) => REFUSED,
+    }
+}
+
+/// Tells a fault in one line, without memory. A failure to write the line is not told.
+fn tell<E: Sink>(errors: &mut E, refused: Refused)
+    requires { E.failures errors.old < 2 ^ 63 }
+{
+    let mut line = ArrayString::<LINE>::new();
+    let _ = writeln!(line, "dapnorm: {refused}");
+    let _ = write_and_flush(errors, line.as_bytes());
+}
+
+/// Does a job over a reader and a writer, and answers the program's status. A refusal is told on `errors`, in one line.
+///
+/// The status is 0 where the job was done, 2 where the input is refused, 4 where a device failed and 5 for want of
+/// memory.
+pub fn run_stream<R: Source, W: Sink, E: Sink>(
+    alloc: Global,
+    job: &Job,
+    reader: &mut R,
+    writer: &mut W,
+    errors: &mut E,
+    limits: Limits,
+) -> u8
+    requires limits { AreSound limits }
+    requires given { R.given reader.old < 2 ^ 62 }
+    requires read_failures { R.failures reader.old < 2 ^ 62 }
+    requires write_failures { W.failures writer.old < 2 ^ 62 }
+    requires error_failures { E.failures errors.old < 2 ^ 62 }
+
+    // The output is what the engine writes, and the status that of its answer.
+    ensures compact { job.now ≡ Job.Compact → Answered R.left R.failures W.out W.failures limits.input (Compacts limits) (IsRefused limits) reader.old reader.new writer.old writer.new result }
+
+    // It takes at most one byte past the limit.
+    ensures taken { R.given reader.new ≤ R.given reader.old + limits.input + 1 }
+{
+    let answer = match *job {
+        Job::Compact => compact(alloc, reader, writer, limits),
+    };
+    if let Err(refused) = answer {
+        tell(errors, refused);
+    }
+    status(answer)
+}
+
+/// Tells the user why the words were no job, and answers the program's status.
+///
+/// Help that was asked for goes to `writer`: the status is 0, or 4 where the writer fails. What is wrong with the words
+/// goes to `errors`, with status 3, and want of memory, with status 5. A failure of `errors` is not told.
+pub fn run_usage<W: Sink, E: Sink>(fault: &UsageFault, writer: &mut W, errors: &mut E) -> u8
+    requires write_failures { W.failures writer.old < 2 ^ 62 }
+    requires error_failures { E.failures errors.old < 2 ^ 62 }
+    ensures { TellsUsage W.out W.failures E.out E.failures fault.now writer.old writer.new errors.old errors.new result }
+{
+    match fault {
+        UsageFault::Help(text) => match write_and_flush(writer, text.as_bytes()) {
+            Ok(()) => DONE,
+            Err(_) => FAULT,
+        },
+        UsageFault::Usage(text) => {
+            let _ = write_and_flush(errors, text.as_bytes());
+            USAGE
+        }
+        UsageFault::Memory => {
+            tell(errors, Refused::Memory);
+            MEMORY
+        }
+    }
+}

@@ -1,0 +1,81 @@
+//! The program `dapnorm`.
+#![tactic(auto)]
+
+use dap_frame::FrameLimits;
+use dapnorm::{Job, Limits, StdSink, StdSource, UsageFault, job, run_stream, run_usage};
+use std::alloc::Global;
+use std::env;
+use std::io::ErrorKind;
+use std::process::ExitCode;
+
+/// The limits of the program.
+const LIMITS: Limits = Limits {
+    frame: FrameLimits {
+        header: 4096,
+        content: 16_777_216,
+    },
+    ids: 2_147_483_647,
+    input: 4_294_967_296,
+};
+
+/// The status where the arguments cannot be had.
+const FAULT: u8 = 4;
+
+/// Does the job over the standard streams.
+fn perform(rt: &HostRuntime, job: &Job) -> u8 {
+    let mut reader = StdSource::new(rt.stdin());
+    let mut writer = StdSink::new(rt.stdout());
+    let mut errors = StdSink::new(rt.stderr());
+    run_stream(
+        rt.alloc(),
+        job,
+        &mut reader,
+        &mut writer,
+        &mut errors,
+        LIMITS,
+    )
+}
+
+/// Tells why the words are no job.
+fn tell_usage(rt: &HostRuntime, fault: &UsageFault) -> u8 {
+    let mut writer = StdSink::new(rt.stdout());
+    let mut errors = StdSink::new(rt.stderr());
+    run_usage(fault, &mut writer, &mut errors)
+}
+
+/// Reads the words and does what they ask for.
+fn run_words(rt: &HostRuntime, alloc: Global, words: &[String]) -> u8 {
+    let Ok(words) = words
+        .iter()
+        .map(|word| word.as_str())
+        .collect::<Vec<&str>>(alloc)
+    else {
+        return tell_usage(rt, &UsageFault::Memory);
+    };
+    match job(alloc, words.as_slice()) {
+        Ok(job) => perform(rt, &job),
+        Err(fault) => tell_usage(rt, &fault),
+    }
+}
+
+fn run(rt: &HostRuntime) -> u8 {
+    let alloc = rt.alloc();
+    let args = match env::args(rt) {
+        Ok(args) => args,
+        Err(error) if error.kind() == ErrorKind::OutOfMemory => {
+            return tell_usage(rt, &UsageFault::Memory);
+        }
+        Err(_) => {
+            let _ = eprintln!(rt; "dapnorm: read fault");
+            return FAULT;
+        }
+    };
+    match args.collect::<Vec<String>>(alloc) {
+        Ok(words) => run_words(rt, alloc, words.as_slice()),
+        Err(_) => tell_usage(rt, &UsageFault::Memory),
+    }
+}
+
+fn main(rt: HostRuntime) -> ExitCode {
+    ExitCode::from(run(&rt))
+}
