@@ -1,6 +1,8 @@
 -- Frames of JSON contents, judged by `compact`: what its runs owe, and that they are what it accepts.
-use Rattle.std.proofs.Common.{◌≡◌, ℕ, ◌+◌, ◌<◌, ◌≤◌, Bool, true, false, List, [], ◌∷◌, ◌++◌, length, Option, Some, None, refl, sym, ◌∙◌, ap, subst, arith, append_assoc, append-nil, length-append}
-use Rattle.std.proofs.lemmas.Bool.{false≢true}
+use Rattle.std.proofs.Common.{◌≡◌, ◌⊎◌, inl, inr, ℕ, ◌+◌, ◌<◌, ◌≤◌, Bool, true, false, List, [], ◌∷◌, ◌++◌, length, Option, Some, None, refl, sym, ◌∙◌, ap, subst, arith, append_assoc, append-nil, length-append}
+use Rattle.std.proofs.lemmas.Bool.{cases_lt, false≢true}
+use Rattle.std.proofs.lemmas.Str.{IsUtf8-from_is_utf8, is_utf8-from_IsUtf8}
+use Rattle.std.specs.Str.{IsUtf8, is_utf8}
 use Rattle.std.specs.List.{AllByRecursion}
 use Rattle.serde_json.specs.Data.{Data}
 use Rattle.serde_json.specs.Read.{read}
@@ -9,7 +11,7 @@ use Rattle.dap_frame.specs.Frame.{AreFrames, IsFrame, frame_text}
 use Rattle.dapnorm.specs.declared.limits.Limits.{Limits}
 use Rattle.dapnorm.specs.Content.{Reads, IsWhole}
 use Rattle.dapnorm.specs.Compacting.{AreRead, Fits, IsCompactable, Objection, no_reading, fraction, grown, Objects, compacting, text}
-use Rattle.dapnorm.proofs.Runs.{Run, PassesAt, ValueLaws, AcceptedFacts}
+use Rattle.dapnorm.proofs.Runs.{Run, PassesAt, ValueLaws, ValueFacts, AcceptedFacts}
 
 -- a content has one reading
 pub one_reading : (content : List ℕ) (value other : Data) → Reads content value → Reads content other → value ≡ other
@@ -112,3 +114,54 @@ module _ (limits : Limits) where
         let fits = run_fits [] values 0 bytes run fits_none (omega arith) in
         record { short = omega (arith, fits.1); contents = contents.0; frames = contents.1; read = contents.2; fits = fits.0 };
   }
+
+  -- ---- each content is judged
+
+  each_or_not : (values : List Data) → AllByRecursion (λ value. length (compact_text value) ≤ limits.frame.content) values
+      ⊎ (AllByRecursion (λ value. length (compact_text value) ≤ limits.frame.content) values → ⊥)
+  each_or_not [] = inl tt
+  each_or_not (value ∷ values) = both (cases_lt limits.frame.content (length (compact_text value))) (each_or_not values)
+    where
+      Short : Data → Type 0
+      Short = λ value. length (compact_text value) ≤ limits.frame.content
+
+      both : (limits.frame.content < length (compact_text value)) ⊎ (length (compact_text value) ≤ limits.frame.content)
+          → AllByRecursion Short values ⊎ (AllByRecursion Short values → ⊥) → AllByRecursion Short (value ∷ values) ⊎ (AllByRecursion Short (value ∷ values) → ⊥)
+      both (inl long) rest = inr (λ all. let short : length (compact_text value) ≤ limits.frame.content = all.0 in omega arith)
+      both (inr short) (inl rest) = inl (short, rest)
+      both (inr short) (inr rest) = inr (λ all. rest all.1)
+
+  fits_or_not : (values : List Data) → Fits limits values ⊎ (Fits limits values → ⊥)
+  fits_or_not values = both (each_or_not values) (cases_lt limits.input (length (text values)))
+    where
+      both : AllByRecursion (λ value. length (compact_text value) ≤ limits.frame.content) values
+          ⊎ (AllByRecursion (λ value. length (compact_text value) ≤ limits.frame.content) values → ⊥)
+          → (limits.input < length (text values)) ⊎ (length (text values) ≤ limits.input) → Fits limits values ⊎ (Fits limits values → ⊥)
+      both (inl each) (inr short) = inl (record { each = each; whole = short })
+      both (inr each) short = inr (λ fits. each fits.each)
+      both each (inl long) = inr (λ fits. let short = fits.whole in omega arith)
+
+  abbrev Judgement : List Data → List ℕ → Type 0
+  Judgement values content = ((value : Data) × (IsWhole content value × Fits limits (values ++ value ∷ []))) ⊎ ((why : Objection) × Objects limits values content why)
+
+  judge_content : (values : List Data) (content : List ℕ) → Judgement values content
+  judge_content values content = by_utf8 (is_utf8 content) refl
+    where
+      by_fit : (value : Data) → IsWhole content value → Fits limits (values ++ value ∷ []) ⊎ (Fits limits (values ++ value ∷ []) → ⊥) → Judgement values content
+      by_fit value whole (inl fits) = inl (value, (whole, fits))
+      by_fit value whole (inr grows) = inr (grown, (value, whole, grows))
+
+      by_float : (value : Data) → Reads content value → (b : Bool) → has_float value ≡ b → Judgement values content
+      by_float value reads true fractional = inr (fraction, (value, reads, fractional))
+      by_float value reads false whole = by_fit value (reads, whole) (fits_or_not (values ++ value ∷ []))
+
+      by_reading : IsUtf8 content → (r : Option Data) → read content ≡ r → Judgement values content
+      by_reading utf8 None none = inr (no_reading, λ value reads. absurd (let wrong : ◌≡◌ {A = Option Data} None (Some value) = sym none ∙ reads.1 in cc))
+      by_reading utf8 (Some value) some = by_float value (utf8, some) (has_float value) refl
+
+      by_utf8 : (b : Bool) → is_utf8 content ≡ b → Judgement values content
+      by_utf8 true is = by_reading (IsUtf8-from_is_utf8 content is) (read content) refl
+      by_utf8 false is_not = inr (no_reading, λ value reads. false≢true (sym is_not ∙ is_utf8-from_IsUtf8 content reads.0))
+
+  pub value_facts : ValueFacts (compacting limits)
+  value_facts = record { laws = value_laws; some_judgement = λ bytes values run content. judge_content values content }

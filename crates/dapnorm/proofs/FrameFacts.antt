@@ -3,11 +3,12 @@ use Rattle.std.proofs.Common.{◌≡◌, ◌<◌, ◌≤◌, arith}
 use Rattle.dap_frame.specs.Frame.{IsOpen}
 use Rattle.dap_frame.proofs.Unique.{one_frame, no_empty_frame, one_fault, frame_not_faulty, frame_not_open, open_not_faulty}
 use Rattle.dap_frame.proofs.Faults.{shown_within, fault_stays, fault_early}
+use Rattle.dap_frame.proofs.FedSteps.{open_at_first}
 use Rattle.dap_frame.proofs.Outcomes.{some_outcome}
 use Rattle.dapnorm.specs.declared.limits.Limits.{Limits}
 use Rattle.dapnorm.specs.Limits.{AreSound}
 use Rattle.dapnorm.specs.Compacting.{compacting}
-use Rattle.dapnorm.proofs.Runs.{RecordLaws, FaultLaws}
+use Rattle.dapnorm.proofs.Runs.{RecordLaws, FaultLaws, RecordFacts}
 
 module _ (limits : Limits) where
   pub record_laws : AreSound limits → RecordLaws (compacting limits)
@@ -23,3 +24,11 @@ module _ (limits : Limits) where
 
   pub fault_laws : FaultLaws (compacting limits)
   fault_laws = record { shown_more = fault_stays limits.frame; shown_front = fault_early limits.frame }
+
+  pub record_facts : AreSound limits → RecordFacts (compacting limits)
+  record_facts sound = record {
+    laws = record_laws sound;
+    faults = fault_laws;
+    open_none = open_at_first limits.frame (let low = sound.frame.header_low in omega arith);
+    some_outcome = some_outcome limits.frame;
+  }

@@ -10,8 +10,9 @@ use Rattle.dapnorm.specs.declared.refused.Refused.{Refused}
 use Rattle.dapnorm.specs.declared.refused.Refused.TheVariants.{InputTooLong, Record, Json, Fraction, Grew, ReadFault, WriteFault, Memory}
 use Rattle.dapnorm.specs.declared.refused.RecordCause.{RecordCause}
 use Rattle.dapnorm.specs.declared.refused.RecordCause.TheVariants as cause
+use Rattle.dapnorm.specs.Limits.{AreSound}
 use Rattle.dapnorm.specs.Content.{IsWhole, HasFraction, HasNoReading}
-use Rattle.dapnorm.specs.Judging.{Judging, Reason, faulty, input_too_long, cut, objected, IsFirstRefusal}
+use Rattle.dapnorm.specs.Judging.{Judging, Reason, faulty, input_too_long, cut, objected, IsFirstRefusal, HasOneOutcome, RefusalStays}
 
 -- the text of these values: for each a frame of its compact text, in which members stand in the byte order of their names
 abbrev pub text : List Data → List ℕ
@@ -82,3 +83,11 @@ IsRefused limits whole (Grew n) = IsFirstRefusal (compacting limits) whole n (ob
 IsRefused limits whole ReadFault = ⊥
 IsRefused limits whole WriteFault = ⊥
 IsRefused limits whole Memory = ⊥
+
+-- An input is accepted as one list of values, or has one first refusal, and not both.
+abbrev pub CompactHasOneOutcome : Type 0
+CompactHasOneOutcome = (limits : Limits) → AreSound limits → HasOneOutcome (compacting limits)
+
+-- A first refusal stays when more bytes come, unless the record was only cut.
+abbrev pub CompactRefusalStays : Type 0
+CompactRefusalStays = (limits : Limits) → AreSound limits → RefusalStays (compacting limits)

@@ -1,4 +1,5 @@
 pub mod Content
+pub mod Counts
 pub mod CompactingSteps
 pub mod CommandLine
 pub mod Compacting

@@ -23,9 +23,9 @@ impl<'a> Model for MemorySource<'a> {
 }
 
 impl<'a> MemorySource<'a> {
+    /// A source of these bytes. It takes no memory.
     pub fn new(bytes: &'a [u8]) -> MemorySource<'a>
-        ensures left { result.left ≡ bytes.entry.now }
-        ensures given { result.given ≡ 0 }
+        ensures { result ≡ record { left = bytes.entry.now; given = 0 } }
     {
         MemorySource {
             rest: bytes,

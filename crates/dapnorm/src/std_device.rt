@@ -3,6 +3,7 @@ ghost use Rattle.std.specs.Prelude.{◌≡◌, None};
 
 use crate::device::{DeviceFault, Sink, Source};
 use std::io::{ErrorKind, Read, Write};
+use std::marker::Model;
 
 /// Reads from a reader of std. A read that a signal interrupted is made again.
 #[derive(Drop)]
@@ -12,10 +13,18 @@ pub struct StdSource<R> {
     failures: u64,
 }
 
+impl<R> Model for StdSource<R> {
+    ghost use Rattle.dapnorm.specs.Counts.{SourceCounts};
+
+    ghost Value = { SourceCounts };
+
+    ghost view = { λ s. record { given = s.given; failures = s.failures } };
+}
+
 impl<R: Read> StdSource<R> {
+    /// A source that has given nothing yet. It takes no memory.
     pub fn new(reader: R) -> StdSource<R>
-        ensures given { result.given ≡ 0 }
-        ensures failures { result.failures ≡ 0 }
+        ensures { result ≡ record { given = 0; failures = 0 } }
     {
         StdSource {
             reader,
@@ -63,14 +72,21 @@ pub struct StdSink<W> {
     failures: u64,
 }
 
+impl<W> Model for StdSink<W> {
+    ghost use Rattle.dapnorm.specs.Counts.{SinkCounts};
+
+    ghost Value = { SinkCounts };
+
+    ghost view = { λ s. record { failures = s.failures } };
+}
+
 impl<W: Write> StdSink<W> {
+    /// A sink that has taken nothing yet. It takes no memory.
     pub fn new(writer: W) -> StdSink<W>
-        ensures { result.failures ≡ 0 }
+        ensures { result ≡ record { failures = 0 } }
     {
-        StdSink {
-            writer,
-            failures: 0,
-        }
+        let failures = 0;
+        StdSink { writer, failures }
     }
 }
 

@@ -1,0 +1,96 @@
+"""Measures `dapnorm compact` on generated frames beside a short Python script that does the same work."""
+import hashlib
+import json
+import os
+import random
+import resource
+import subprocess
+import sys
+import tempfile
+import time
+
+TOP = os.path.dirname(os.path.dirname(os.path.abspath(__file__)))
+SIZE = 50_000_000
+ROUNDS = 3
+
+
+def messages(seed):
+    """Messages as adapters send them, of the kinds that make up most of a session."""
+    dice = random.Random(seed)
+    seq = 0
+    while True:
+        seq += 1
+        kind = dice.randrange(4)
+        if kind == 0:
+            frames = [
+                {"id": 1000 + n, "name": f"function_{dice.randrange(100)}", "line": dice.randrange(1, 900), "column": 1,
+                 "source": {"name": "main.py", "path": "/home/ada/project/main.py", "sourceReference": 0}}
+                for n in range(dice.randrange(1, 12))
+            ]
+            yield {"seq": seq, "type": "response", "request_seq": seq, "success": True, "command": "stackTrace",
+                   "body": {"stackFrames": frames, "totalFrames": len(frames)}}
+        elif kind == 1:
+            variables = [
+                {"name": f"variable_{n}", "value": "'" + "x" * dice.randrange(60) + "'", "type": "str", "variablesReference": 0,
+                 "evaluateName": f"variable_{n}"}
+                for n in range(dice.randrange(1, 15))
+            ]
+            yield {"seq": seq, "type": "response", "request_seq": seq, "success": True, "command": "variables",
+                   "body": {"variables": variables}}
+        elif kind == 2:
+            yield {"seq": seq, "type": "event", "event": "output",
+                   "body": {"category": "stdout", "output": "line \"%d\"\n" % dice.randrange(10**6) * dice.randrange(1, 6)}}
+        else:
+            yield {"seq": seq, "type": "event", "event": "stopped",
+                   "body": {"reason": "step", "threadId": 1, "allThreadsStopped": True}}
+
+
+def generate(path):
+    with open(path, "wb") as file:
+        written = 0
+        for number, message in enumerate(messages(20261122)):
+            content = json.dumps(message, separators=(", ", ": ") if number % 2 else (",", ":")).encode()
+            written += file.write(b"Content-Length: %d\r\n\r\n" % len(content) + content)
+            if written >= SIZE:
+                return written, number + 1
+
+
+def measure(arguments, given):
+    """The shortest of some runs in seconds, the most memory in bytes, and a digest of the output."""
+    best, memory, digest = None, 0, None
+    for _ in range(ROUNDS):
+        with open(given, "rb") as source, tempfile.TemporaryFile() as out:
+            begun = time.monotonic()
+            process = subprocess.Popen(arguments, stdin=source, stdout=out)
+            _, status, usage = os.wait4(process.pid, 0)
+            taken = time.monotonic() - begun
+            process.returncode = os.waitstatus_to_exitcode(status)
+            if process.returncode != 0:
+                sys.exit(f"{arguments} ended with status {process.returncode}")
+            best = taken if best is None else min(best, taken)
+            memory = max(memory, usage.ru_maxrss * 1024)
+            out.seek(0)
+            digest = hashlib.file_digest(out, "sha256").hexdigest()
+    return best, memory, digest
+
+
+def main():
+    with tempfile.TemporaryDirectory() as folder:
+        given = os.path.join(folder, "frames")
+        size, count = generate(given)
+        print(f"{size / 1e6:.1f} MB in {count} frames, the shortest of {ROUNDS} runs each")
+        rows = {}
+        for name, arguments in [
+            ("dapnorm compact", [os.path.join(TOP, "bin", "dapnorm"), "compact"]),
+            ("python script", [sys.executable, os.path.join(TOP, "scripts", "compact_reference.py")]),
+        ]:
+            seconds, memory, digest = rows[name] = measure(arguments, given)
+            print(f"{name:16} {seconds:6.2f} s {size / 1e6 / seconds:7.1f} MB/s {memory / 1e6:8.1f} MB of memory")
+        (ours, _, one), (theirs, _, other) = rows.values()
+        if one != other:
+            sys.exit("the two wrote different bytes")
+        print(f"the same bytes, {theirs / ours:.1f} times as fast as the script")
+
+
+if __name__ == "__main__":
+    main()

@@ -1,0 +1,68 @@
+"""Checks that the documents name what there is: the contracts of docs/PROMISES.md, the files that links lead to, the make targets."""
+import glob
+import os
+import re
+import sys
+
+from report import TOP, Report
+
+NAMED = re.compile(r"`(\w+)::([\w:]+)`(?:: ((?:`\w+`(?:, )?)+))?")
+LINK = re.compile(r"\]\(([^)#:]+)\)")
+
+
+def sources(crate):
+    for path in sorted(glob.glob(os.path.join(TOP, "crates", crate, "src", "**", "*.rt"), recursive=True)):
+        with open(path, encoding="utf-8") as file:
+            yield file.read()
+
+
+def contract(crate, path):
+    """The text of a public function from its name to its body, in the impl block of its type where it has one."""
+    *types, name = path.split("::")
+    for text in sources(crate):
+        if types:
+            found = re.search(rf"^impl(?:<[^>]*>)? {types[-1]}\b.*?^}}", text, re.MULTILINE | re.DOTALL)
+            text = found[0] if found else ""
+        found = re.search(rf"pub fn {name}\b.*?^ *\{{", text, re.MULTILINE | re.DOTALL)
+        if found:
+            return found[0]
+    return None
+
+
+def promises(report):
+    with open(os.path.join(TOP, "docs", "PROMISES.md"), encoding="utf-8") as file:
+        text = file.read()
+    for crate, path, clauses in NAMED.findall(text):
+        text = contract(crate, path)
+        if not report.check(f"{crate}::{path} is a public function", text is not None):
+            continue
+        report.check(f"{crate}::{path} has a contract", "ensures" in text)
+        for clause in re.findall(r"`(\w+)`", clauses):
+            report.check(f"{crate}::{path} has the clause {clause}", f"ensures {clause} {{" in text)
+
+
+def links(report):
+    for path in [os.path.join(TOP, "README.md"), *glob.glob(os.path.join(TOP, "docs", "*.md")), *glob.glob(os.path.join(TOP, "examples", "**", "*.md"), recursive=True)]:
+        with open(path, encoding="utf-8") as file:
+            for target in LINK.findall(file.read()):
+                report.check(f"{os.path.relpath(path, TOP)} leads to {target}", os.path.exists(os.path.join(os.path.dirname(path), target)))
+
+
+def targets(report):
+    with open(os.path.join(TOP, "Makefile"), encoding="utf-8") as file:
+        made = set(re.findall(r"^(\w+):", file.read(), re.MULTILINE))
+    with open(os.path.join(TOP, "README.md"), encoding="utf-8") as file:
+        for target in re.findall(r"`make (\w+)", file.read()):
+            report.check(f"make {target} is a target", target in made)
+
+
+def main():
+    report = Report()
+    promises(report)
+    links(report)
+    targets(report)
+    return report.close()
+
+
+if __name__ == "__main__":
+    sys.exit(main())
