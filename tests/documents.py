@@ -17,12 +17,13 @@ def sources(crate):
 
 
 def contract(crate, path):
-    """The text of a public function from its name to its body, in the impl block of its type where it has one."""
-    *types, name = path.split("::")
+    """The text of a public function from its name to its body, in the impl block of its type where the path has one."""
+    *owners, name = path.split("::")
     for text in sources(crate):
-        if types:
-            found = re.search(rf"^impl(?:<[^>]*>)? {types[-1]}\b.*?^}}", text, re.MULTILINE | re.DOTALL)
-            text = found[0] if found else ""
+        for owner in owners:
+            if owner[0].isupper():
+                found = re.search(rf"^impl(?:<[^>]*>)? {owner}\b.*?^}}", text, re.MULTILINE | re.DOTALL)
+                text = found[0] if found else ""
         found = re.search(rf"pub fn {name}\b.*?^ *\{{", text, re.MULTILINE | re.DOTALL)
         if found:
             return found[0]
