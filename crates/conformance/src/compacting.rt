@@ -193,3 +193,30 @@ fn an_endless_input_ends_at_the_limit(rt: HostRuntime) -> Result<(), Fail> {
     assert_eq!(rt; sink.bytes().len(), 0);
     Ok(())
 }
+
+#[test]
+fn lists_nest_127_deep(rt: HostRuntime) -> Result<(), Fail> {
+    let alloc = rt.alloc();
+    for (levels, wanted) in [(127usize, Ok(())), (128, Err(Refused::Json(1)))] {
+        let mut input = Vec::new(alloc);
+        let header = format!(in alloc; "Content-Length: {}\r\n\r\n", 2 * levels)?;
+        input.extend_from_slice(header.as_bytes())?;
+        for bracket in [b'[', b']'] {
+            for _ in 0..levels {
+                input.push(bracket)?;
+            }
+        }
+        let mut sink = MemorySink::new(alloc, 4096)?;
+        let answer = compact(
+            alloc,
+            &mut MemorySource::new(input.as_slice()),
+            &mut sink,
+            LIMITS,
+        );
+        assert_eq!(rt; answer, wanted);
+        if answer.is_ok() {
+            assert_eq!(rt; sink.bytes(), input.as_slice());
+        }
+    }
+    Ok(())
+}

@@ -3,6 +3,7 @@
 //! tests/fault_injection.py runs these under a shim that refuses. Without it each makes one turn with ample memory.
 use crate::examples::{CANONICAL, LIMITS, LOOSE};
 use dap_frame::{FrameFault, Framer, write_frame};
+use dap_tree::{TreeFault, read_tree, write_tree};
 use dapnorm::{Job, MemorySink, MemorySource, Refused, UsageFault, compact, job, run_stream};
 use fault_injection::{refuse_growth, was_refused};
 use std::test::Fail;
@@ -147,6 +148,65 @@ fn want_of_memory_is_told_without_memory(rt: HostRuntime) -> Result<(), Fail> {
             assert_eq!(rt; status, 0);
             assert_eq!(rt; sink.bytes(), CANONICAL);
         }
+        if !is_refused {
+            break;
+        }
+    }
+    Ok(())
+}
+
+#[test]
+fn a_tree_is_refused_in_turn(rt: HostRuntime) -> Result<(), Fail> {
+    let alloc = rt.alloc();
+    let content =
+        b"{ \"b\" : [1, {\"c\": \"a text of some forty bytes, more or less\"}], \"a\": null }";
+    let wanted = "{\"a\":null,\"b\":[1,{\"c\":\"a text of some forty bytes, more or less\"}]}";
+    for turn in 1..1000u16 {
+        refuse_growth(alloc, turn);
+        let answer = read_tree(alloc, content);
+        let is_refused = was_refused(alloc);
+        match answer {
+            Ok(tree) => {
+                assert!(rt; tree.sound());
+                let text = write_tree(alloc, &tree)?;
+                assert_eq!(rt; text.as_str(), wanted);
+            }
+            Err(fault) => {
+                assert_eq!(rt; fault, TreeFault::Memory);
+                assert!(rt; is_refused, "memory was there at turn {turn}");
+            }
+        }
+        if !is_refused {
+            break;
+        }
+    }
+    Ok(())
+}
+
+#[test]
+fn a_copy_is_refused_in_turn(rt: HostRuntime) -> Result<(), Fail> {
+    let alloc = rt.alloc();
+    let content = b"{\"a\":[1,\"a text of some forty bytes, more or less\"],\"b\":{}}";
+    let wanted = "{\"a\":[1,\"a text of some forty bytes, more or less\"],\"b\":{}}";
+    let tree = read_tree(alloc, content)?;
+    for turn in 1..1000u16 {
+        refuse_growth(alloc, turn);
+        let answer = tree.copy(alloc);
+        let is_refused = was_refused(alloc);
+        match answer {
+            Ok(copy) => {
+                assert!(rt; copy.sound());
+                let text = write_tree(alloc, &copy)?;
+                assert_eq!(rt; text.as_str(), wanted);
+            }
+            Err(fault) => {
+                assert_eq!(rt; fault, TreeFault::Memory);
+                assert!(rt; is_refused, "memory was there at turn {turn}");
+            }
+        }
+        assert!(rt; tree.sound());
+        let text = write_tree(alloc, &tree)?;
+        assert_eq!(rt; text.as_str(), wanted);
         if !is_refused {
             break;
         }

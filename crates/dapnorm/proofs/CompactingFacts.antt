@@ -1,77 +1,67 @@
 -- Frames of JSON contents, judged by `compact`: what its runs owe, and that they are what it accepts.
 use Rattle.std.proofs.Common.{◌≡◌, ◌⊎◌, inl, inr, ℕ, ◌+◌, ◌<◌, ◌≤◌, Bool, true, false, List, [], ◌∷◌, ◌++◌, length, Option, Some, None, refl, sym, ◌∙◌, ap, subst, arith, append_assoc, append-nil, length-append}
-use Rattle.std.proofs.lemmas.Bool.{cases_lt, false≢true}
-use Rattle.std.proofs.lemmas.Str.{IsUtf8-from_is_utf8, is_utf8-from_IsUtf8}
-use Rattle.std.specs.Str.{IsUtf8, is_utf8}
+use Rattle.std.proofs.lemmas.Bool.{cases_lt}
 use Rattle.std.specs.List.{AllByRecursion}
-use Rattle.serde_json.specs.Data.{Data}
-use Rattle.serde_json.specs.Read.{read}
-use Rattle.serde_json.specs.Written.{compact_text, has_float}
+use Rattle.dap_tree.specs.Doc.{Doc}
+use Rattle.dap_tree.specs.Json.{IsRead, Outcome, HasOutcome, data_of, text_of}
+use Rattle.dap_tree.specs.Json as reading
+use Rattle.dap_tree.proofs.Outcomes.{read_once, whole_or_fraction, some_outcome}
 use Rattle.dap_frame.specs.Frame.{AreFrames, IsFrame, frame_text}
 use Rattle.dapnorm.specs.declared.limits.Limits.{Limits}
-use Rattle.dapnorm.specs.Content.{Reads, IsWhole}
 use Rattle.dapnorm.specs.Compacting.{AreRead, Fits, IsCompactable, Objection, no_reading, fraction, grown, Objects, compacting, text}
 use Rattle.dapnorm.proofs.Runs.{Run, PassesAt, ValueLaws, ValueFacts, AcceptedFacts}
 
--- a content has one reading
-pub one_reading : (content : List ℕ) (value other : Data) → Reads content value → Reads content other → value ≡ other
-one_reading content value other one two = let same : ◌≡◌ {A = Option Data} (Some value) (Some other) = sym one.1 ∙ two.1 in cc
-
-whole_has_no_fraction : (content : List ℕ) (value other : Data) → IsWhole content value → Reads content other → has_float other ≡ true → ⊥
-whole_has_no_fraction content value other whole reads fractional =
-    false≢true (sym whole.1 ∙ ap has_float (one_reading content value other whole.0 reads) ∙ fractional)
-
 module _ (limits : Limits) where
-  one_objection : (values : List Data) (content : List ℕ) (why because : Objection) → Objects limits values content why → Objects limits values content because → why ≡ because
+  one_objection : (values : List Doc) (content : List ℕ) (why because : Objection) → Objects limits values content why → Objects limits values content because → why ≡ because
   one_objection values content no_reading no_reading one two = refl
   one_objection values content no_reading fraction one two = absurd (one two.0 two.1)
-  one_objection values content no_reading grown one two = absurd (one two.0 two.1.0)
+  one_objection values content no_reading grown one two = absurd (one (data_of two.0) two.1)
   one_objection values content fraction no_reading one two = absurd (two one.0 one.1)
   one_objection values content fraction fraction one two = refl
-  one_objection values content fraction grown one two = absurd (whole_has_no_fraction content two.0 one.0 two.1 one.1 one.2)
-  one_objection values content grown no_reading one two = absurd (two one.0 one.1.0)
-  one_objection values content grown fraction one two = absurd (whole_has_no_fraction content one.0 two.0 one.1 two.1 two.2)
+  one_objection values content fraction grown one two = absurd (whole_or_fraction content two.0 two.1 one)
+  one_objection values content grown no_reading one two = absurd (two (data_of one.0) one.1)
+  one_objection values content grown fraction one two = absurd (whole_or_fraction content one.0 one.1 two)
   one_objection values content grown grown one two = refl
 
-  next_not_objected : (values : List Data) (content : List ℕ) (value : Data) (why : Objection) → IsWhole content value × Fits limits (values ++ value ∷ []) → Objects limits values content why → ⊥
-  next_not_objected values content value no_reading next objects = objects value next.0.0
-  next_not_objected values content value fraction next objects = whole_has_no_fraction content value objects.0 next.0 objects.1 objects.2
+  next_not_objected : (values : List Doc) (content : List ℕ) (value : Doc) (why : Objection) → IsRead content value × Fits limits (values ++ value ∷ []) → Objects limits values content why → ⊥
+  next_not_objected values content value no_reading next objects = objects (data_of value) next.0
+  next_not_objected values content value fraction next objects = whole_or_fraction content value next.0 objects
   next_not_objected values content value grown next objects =
-      let same = one_reading content value objects.0 next.0.0 objects.1.0 in
+      let same = read_once content value objects.0 next.0 objects.1 in
       objects.2 (subst (λ v. Fits limits (values ++ v ∷ [])) same next.1)
 
   pub value_laws : ValueLaws (compacting limits)
   value_laws = record {
-    one_value = λ values content value other one two. one_reading content value other one.0.0 two.0.0;
+    one_value = λ values content value other one two. read_once content value other one.0 two.0;
     one_objection = one_objection;
     next_not_objected = next_not_objected;
   }
 
   -- ---- accepted inputs are runs
 
-  text-append : (values others : List Data) → text (values ++ others) ≡ text values ++ text others
+  text-append : (values others : List Doc) → text (values ++ others) ≡ text values ++ text others
   text-append [] others = refl
   text-append (value ∷ values) others =
-      ap (λ t. frame_text (compact_text value) ++ t) (text-append values others) ∙ sym (append_assoc (frame_text (compact_text value)) (text values) (text others))
+      ap (λ t. frame_text (text_of value) ++ t) (text-append values others) ∙ sym (append_assoc (frame_text (text_of value)) (text values) (text others))
 
-  each_front : (values others : List Data) → AllByRecursion (λ value. length (compact_text value) ≤ limits.frame.content) (values ++ others)
-      → AllByRecursion (λ value. length (compact_text value) ≤ limits.frame.content) values
+  each_front : (values others : List Doc) → AllByRecursion (λ value. length (text_of value) ≤ limits.frame.content) (values ++ others)
+      → AllByRecursion (λ value. length (text_of value) ≤ limits.frame.content) values
   each_front [] others all = tt
   each_front (value ∷ values) others all = (all.0, each_front values others all.1)
 
   -- what fits, fits up to each of its values
-  fits_front : (values others : List Data) → Fits limits (values ++ others) → Fits limits values
+  fits_front : (values others : List Doc) → Fits limits (values ++ others) → Fits limits values
   fits_front values others fits =
       let whole = fits.whole in
       record { each = each_front values others fits.each; whole = omega (arith, whole, ap length (text-append values others), length-append (text values) (text others)) }
 
-  run_of : (before values : List Data) (used : ℕ) (bytes : List ℕ) (contents : List (List ℕ)) → AreFrames limits.frame bytes contents → AreRead contents values
+  run_of : (before values : List Doc) (used : ℕ) (bytes : List ℕ) (contents : List (List ℕ)) → AreFrames limits.frame bytes contents → AreRead contents values
       → Fits limits (before ++ values) → used + length bytes ≤ limits.input → Run (compacting limits) before used bytes values
   unfolding Run
   run_of before [] used bytes [] frames read fits short = frames
   run_of before (value ∷ values) used bytes [] frames read fits short = absurd read
   run_of before [] used bytes (content ∷ contents) frames read fits short = absurd read
-  run_of before (value ∷ values) used bytes (content ∷ contents) (frame, more, is_frame, split, frames) (is_whole, read) fits short =
+  run_of before (value ∷ values) used bytes (content ∷ contents) (frame, more, is_frame, split, frames) (is_read, read) fits short =
       let shift : (before ++ value ∷ []) ++ values ≡ before ++ value ∷ values = append_assoc before (value ∷ []) values in
       let fits_more = subst (Fits limits) (sym shift) fits in (
         frame,
@@ -80,14 +70,14 @@ module _ (limits : Limits) where
         record {
           held = content;
           is_record = is_frame;
-          is_next = (is_whole, fits_front (before ++ value ∷ []) values fits_more);
+          is_next = (is_read, fits_front (before ++ value ∷ []) values fits_more);
           in_time = omega (arith, ap length split, length-append frame more);
         },
         run_of (before ++ value ∷ []) values (used + length frame) more contents frames read fits_more (omega (arith, ap length split, length-append frame more)),
       )
 
   -- the contents of a run, and that they read as its values
-  contents_of : (before values : List Data) (used : ℕ) (bytes : List ℕ) → Run (compacting limits) before used bytes values
+  contents_of : (before values : List Doc) (used : ℕ) (bytes : List ℕ) → Run (compacting limits) before used bytes values
       → (contents : List (List ℕ)) × AreFrames limits.frame bytes contents × AreRead contents values
   unfolding Run
   contents_of before [] used bytes run = ([], run, tt)
@@ -95,7 +85,7 @@ module _ (limits : Limits) where
       let rest = contents_of (before ++ value ∷ []) values (used + length frame) more run in
       (passes.held ∷ rest.0, (frame, more, passes.is_record, split, rest.1), (passes.is_next.0, rest.2))
 
-  run_fits : (before values : List Data) (used : ℕ) (bytes : List ℕ) → Run (compacting limits) before used bytes values → Fits limits before → used ≤ limits.input
+  run_fits : (before values : List Doc) (used : ℕ) (bytes : List ℕ) → Run (compacting limits) before used bytes values → Fits limits before → used ≤ limits.input
       → Fits limits (before ++ values) × (used + length bytes ≤ limits.input)
   unfolding Run
   run_fits before [] used bytes run fits short = (subst (Fits limits) (sym (append-nil before)) fits, omega (arith, ap length run))
@@ -117,51 +107,44 @@ module _ (limits : Limits) where
 
   -- ---- each content is judged
 
-  each_or_not : (values : List Data) → AllByRecursion (λ value. length (compact_text value) ≤ limits.frame.content) values
-      ⊎ (AllByRecursion (λ value. length (compact_text value) ≤ limits.frame.content) values → ⊥)
+  each_or_not : (values : List Doc) → AllByRecursion (λ value. length (text_of value) ≤ limits.frame.content) values
+      ⊎ (AllByRecursion (λ value. length (text_of value) ≤ limits.frame.content) values → ⊥)
   each_or_not [] = inl tt
-  each_or_not (value ∷ values) = both (cases_lt limits.frame.content (length (compact_text value))) (each_or_not values)
+  each_or_not (value ∷ values) = both (cases_lt limits.frame.content (length (text_of value))) (each_or_not values)
     where
-      Short : Data → Type 0
-      Short = λ value. length (compact_text value) ≤ limits.frame.content
+      Short : Doc → Type 0
+      Short = λ value. length (text_of value) ≤ limits.frame.content
 
-      both : (limits.frame.content < length (compact_text value)) ⊎ (length (compact_text value) ≤ limits.frame.content)
+      both : (limits.frame.content < length (text_of value)) ⊎ (length (text_of value) ≤ limits.frame.content)
           → AllByRecursion Short values ⊎ (AllByRecursion Short values → ⊥) → AllByRecursion Short (value ∷ values) ⊎ (AllByRecursion Short (value ∷ values) → ⊥)
-      both (inl long) rest = inr (λ all. let short : length (compact_text value) ≤ limits.frame.content = all.0 in omega arith)
+      both (inl long) rest = inr (λ all. let short : length (text_of value) ≤ limits.frame.content = all.0 in omega arith)
       both (inr short) (inl rest) = inl (short, rest)
       both (inr short) (inr rest) = inr (λ all. rest all.1)
 
-  fits_or_not : (values : List Data) → Fits limits values ⊎ (Fits limits values → ⊥)
+  fits_or_not : (values : List Doc) → Fits limits values ⊎ (Fits limits values → ⊥)
   fits_or_not values = both (each_or_not values) (cases_lt limits.input (length (text values)))
     where
-      both : AllByRecursion (λ value. length (compact_text value) ≤ limits.frame.content) values
-          ⊎ (AllByRecursion (λ value. length (compact_text value) ≤ limits.frame.content) values → ⊥)
+      both : AllByRecursion (λ value. length (text_of value) ≤ limits.frame.content) values
+          ⊎ (AllByRecursion (λ value. length (text_of value) ≤ limits.frame.content) values → ⊥)
           → (limits.input < length (text values)) ⊎ (length (text values) ≤ limits.input) → Fits limits values ⊎ (Fits limits values → ⊥)
       both (inl each) (inr short) = inl (record { each = each; whole = short })
       both (inr each) short = inr (λ fits. each fits.each)
       both each (inl long) = inr (λ fits. let short = fits.whole in omega arith)
 
-  abbrev Judgement : List Data → List ℕ → Type 0
-  Judgement values content = ((value : Data) × (IsWhole content value × Fits limits (values ++ value ∷ []))) ⊎ ((why : Objection) × Objects limits values content why)
+  abbrev Judgement : List Doc → List ℕ → Type 0
+  Judgement values content = ((value : Doc) × (IsRead content value × Fits limits (values ++ value ∷ []))) ⊎ ((why : Objection) × Objects limits values content why)
 
-  judge_content : (values : List Data) (content : List ℕ) → Judgement values content
-  judge_content values content = by_utf8 (is_utf8 content) refl
+  judge_content : (values : List Doc) (content : List ℕ) → Judgement values content
+  judge_content values content = by_outcome (some_outcome content).0 (some_outcome content).1
     where
-      by_fit : (value : Data) → IsWhole content value → Fits limits (values ++ value ∷ []) ⊎ (Fits limits (values ++ value ∷ []) → ⊥) → Judgement values content
-      by_fit value whole (inl fits) = inl (value, (whole, fits))
-      by_fit value whole (inr grows) = inr (grown, (value, whole, grows))
+      by_fit : (value : Doc) → IsRead content value → Fits limits (values ++ value ∷ []) ⊎ (Fits limits (values ++ value ∷ []) → ⊥) → Judgement values content
+      by_fit value is_read (inl fits) = inl (value, (is_read, fits))
+      by_fit value is_read (inr grows) = inr (grown, (value, is_read, grows))
 
-      by_float : (value : Data) → Reads content value → (b : Bool) → has_float value ≡ b → Judgement values content
-      by_float value reads true fractional = inr (fraction, (value, reads, fractional))
-      by_float value reads false whole = by_fit value (reads, whole) (fits_or_not (values ++ value ∷ []))
-
-      by_reading : IsUtf8 content → (r : Option Data) → read content ≡ r → Judgement values content
-      by_reading utf8 None none = inr (no_reading, λ value reads. absurd (let wrong : ◌≡◌ {A = Option Data} None (Some value) = sym none ∙ reads.1 in cc))
-      by_reading utf8 (Some value) some = by_float value (utf8, some) (has_float value) refl
-
-      by_utf8 : (b : Bool) → is_utf8 content ≡ b → Judgement values content
-      by_utf8 true is = by_reading (IsUtf8-from_is_utf8 content is) (read content) refl
-      by_utf8 false is_not = inr (no_reading, λ value reads. false≢true (sym is_not ∙ is_utf8-from_IsUtf8 content reads.0))
+      by_outcome : (o : Outcome) → HasOutcome content o → Judgement values content
+      by_outcome (reading.document value) is_read = by_fit value is_read (fits_or_not (values ++ value ∷ []))
+      by_outcome reading.no_reading none = inr (no_reading, none)
+      by_outcome reading.fraction fractional = inr (fraction, fractional)
 
   pub value_facts : ValueFacts (compacting limits)
   value_facts = record { laws = value_laws; some_judgement = λ bytes values run content. judge_content values content }

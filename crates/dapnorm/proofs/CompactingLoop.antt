@@ -1,7 +1,7 @@
 -- What the loop of `compact` over its input keeps, and what it may answer.
 use Rattle.std.proofs.Common.{◌≡◌, ◌≢◌, ◌⊎◌, inl, inr, ℕ, ◌+◌, ◌<◌, ◌≤◌, List, [], ◌∷◌, ◌++◌, length, take, drop, Option, Some, None, MatchOption, Result, Ok, Err, refl, sym, ap, ◌∙◌, subst, arith}
 use Rattle.std.proofs.lemmas.List.{nil_from_length, length-drop}
-use Rattle.serde_json.specs.Data.{Data}
+use Rattle.dap_tree.specs.Doc.{Doc}
 use Rattle.dap_frame.specs.declared.fault.FrameFault.{FrameFault}
 use Rattle.dap_frame.specs.Frame.{IsFrame, IsOpen, Shows}
 use Rattle.dap_frame.specs.Reading.{Reading, Stands, limits_of}
@@ -22,7 +22,7 @@ use Rattle.dapnorm.proofs.FrameFacts.{record_laws, fault_laws}
 
 -- The values of the frames so far are written, and the framer stands for what came behind them.
 pub record Compacting (limits : Limits) (whole rest out : List ℕ) (framer : Reading) (number : ℕ) : Type 0 where
-  pub values : List Data
+  pub values : List Doc
   pub held : List ℕ
   pub going : Going (compacting limits) whole rest values number held
   pub stands : Stands framer held
@@ -53,7 +53,7 @@ module _ (limits : Limits) (sound : AreSound limits) (whole rest out : List ℕ)
   is_frame used content new fed = subst (λ l. IsFrame l (was.held ++ take used rest) content) was.its_limits (fed was.held was.stands).1.0
 
   pub step : (used next : ℕ) (content : Option (List ℕ)) (new : Reading) (written : List ℕ) → HasFed used content new → limits_of new ≡ limits_of framer
-      → ((values : List Data) → Fits limits values → out ≡ text values → HasGoneOn limits values n out content (Ok next) written)
+      → ((values : List Doc) → Fits limits values → out ≡ text values → HasGoneOn limits values n out content (Ok next) written)
       → Compacting limits whole (drop used rest) written new next
   step used next None new written fed kept gone =
       let went = gone was.values was.fits was.text_is in
@@ -81,7 +81,7 @@ module _ (limits : Limits) (sound : AreSound limits) (whole rest out : List ℕ)
         held = [];
         going = subst (λ m. Going (compacting limits) whole (drop used rest) (was.values ++ added.value ∷ []) m []) (sym went.0)
             (going_record (record_laws limits sound) (subst (λ l. IsOpen l []) its_limits now.1.1.is_open) used content added.value was.going
-            (is_frame used content new fed) (added.is_whole, added.fits));
+            (is_frame used content new fed) (added.is_read, added.fits));
         stands = now.1.1;
         fits = added.fits;
         text_is = added.text_is;
@@ -113,7 +113,7 @@ module _ (limits : Limits) (sound : AreSound limits) (whole rest out : List ℕ)
     refused_for stop used content new Memory frame fault = tt
 
     pub refused_next : (stop : Stop) (used : ℕ) (content : Option (List ℕ)) (new : Reading) (written : List ℕ) (because : Refused) → HasFed used content new
-        → ((values : List Data) → Fits limits values → out ≡ text values → HasGoneOn limits values n out content (Err because) written)
+        → ((values : List Doc) → Fits limits values → out ≡ text values → HasGoneOn limits values n out content (Err because) written)
         → JudgesInput limits bytes stop (Err because)
     refused_next stop used None new written because fed gone = absurd (gone was.values was.fits was.text_is)
     refused_next stop used (Some content) new written because fed gone =

@@ -1,37 +1,36 @@
 -- What `compact` accepts, what it writes, and what it refuses. Source: own, over the frames of the DAP base protocol.
 use Rattle.std.specs.Prelude.{◌≡◌, ℕ, ◌≤◌, List, [], ◌∷◌, ◌++◌, length}
 use Rattle.std.specs.List.{flat_map, AllByRecursion}
-use Rattle.serde_json.specs.Data.{Data}
-use Rattle.serde_json.specs.Written.{compact_text}
 use Rattle.dap_frame.specs.declared.fault.FrameFault.{FrameFault}
 use Rattle.dap_frame.specs.Frame.{AreFrames, IsFrame, IsOpen, Shows, frame_text}
+use Rattle.dap_tree.specs.Doc.{Doc}
+use Rattle.dap_tree.specs.Json.{IsRead, HasFraction, HasNoReading, text_of}
 use Rattle.dapnorm.specs.declared.limits.Limits.{Limits}
 use Rattle.dapnorm.specs.declared.refused.Refused.{Refused}
 use Rattle.dapnorm.specs.declared.refused.Refused.TheVariants.{InputTooLong, Record, Json, Fraction, Grew, ReadFault, WriteFault, Memory}
 use Rattle.dapnorm.specs.declared.refused.RecordCause.{RecordCause}
 use Rattle.dapnorm.specs.declared.refused.RecordCause.TheVariants as cause
 use Rattle.dapnorm.specs.Limits.{AreSound}
-use Rattle.dapnorm.specs.Content.{IsWhole, HasFraction, HasNoReading}
 use Rattle.dapnorm.specs.Judging.{Judging, Reason, faulty, input_too_long, cut, objected, IsFirstRefusal, HasOneOutcome, RefusalStays}
 
--- the text of these values: for each a frame of its compact text, in which members stand in the byte order of their names
-abbrev pub text : List Data → List ℕ
-text values = flat_map (λ value. frame_text (compact_text value)) values
+-- the text of these trees: for each a frame of its canonical text
+abbrev pub text : List Doc → List ℕ
+text values = flat_map (λ value. frame_text (text_of value)) values
 
 -- the contents read as these values
-abbrev pub AreRead : List (List ℕ) → List Data → Type 0
+abbrev pub AreRead : List (List ℕ) → List Doc → Type 0
 AreRead [] [] = Unit {0}
 AreRead [] (value ∷ values) = ⊥
 AreRead (content ∷ contents) [] = ⊥
-AreRead (content ∷ contents) (value ∷ values) = IsWhole content value × AreRead contents values
+AreRead (content ∷ contents) (value ∷ values) = IsRead content value × AreRead contents values
 
 -- what is to be written keeps within the limits
-pub record Fits (limits : Limits) (values : List Data) : Type 0 where
-  pub each : AllByRecursion (λ value. length (compact_text value) ≤ limits.frame.content) values
+pub record Fits (limits : Limits) (values : List Doc) : Type 0 where
+  pub each : AllByRecursion (λ value. length (text_of value) ≤ limits.frame.content) values
   pub whole : length (text values) ≤ limits.input
 
 -- The input is frames of contents that read as these values, and their text keeps within the limits.
-pub record IsCompactable (limits : Limits) (whole : List ℕ) (values : List Data) : Type 0 where
+pub record IsCompactable (limits : Limits) (whole : List ℕ) (values : List Doc) : Type 0 where
   pub short : length whole ≤ limits.input
   pub contents : List (List ℕ)
   pub frames : AreFrames limits.frame whole contents
@@ -44,30 +43,30 @@ pub data Objection : Type 0 where
   fraction : Objection
   grown : Objection
 
-abbrev pub Objects : Limits → List Data → List ℕ → Objection → Type 0
+abbrev pub Objects : Limits → List Doc → List ℕ → Objection → Type 0
 Objects limits values content no_reading = HasNoReading content
 Objects limits values content fraction = HasFraction content
-Objects limits values content grown = (value : Data) × IsWhole content value × (Fits limits (values ++ value ∷ []) → ⊥)
+Objects limits values content grown = (value : Doc) × IsRead content value × (Fits limits (values ++ value ∷ []) → ⊥)
 
 -- a record is a frame, and a value follows others where its content reads as it and the text still fits
 abbrev pub compacting : Limits → Judging
 compacting limits = record {
   Held = List ℕ;
-  Value = Data;
+  Value = Doc;
   Cause = FrameFault;
   Objection = Objection;
   input = limits.input;
   IsRecord = IsFrame limits.frame;
   Shows = Shows limits.frame;
   IsOpen = IsOpen limits.frame;
-  IsNext = λ values content value. IsWhole content value × Fits limits (values ++ value ∷ []);
+  IsNext = λ values content value. IsRead content value × Fits limits (values ++ value ∷ []);
   Objects = Objects limits;
   IsAccepted = IsCompactable limits;
 }
 
 -- The input gives this text.
 abbrev pub Compacts : Limits → List ℕ → List ℕ → Type 0
-Compacts limits whole written = (values : List Data) × IsCompactable limits whole values × (written ≡ text values)
+Compacts limits whole written = (values : List Doc) × IsCompactable limits whole values × (written ≡ text values)
 
 -- This is the first refusal of the input.
 abbrev pub IsRefused : Limits → List ℕ → Refused → Type 0

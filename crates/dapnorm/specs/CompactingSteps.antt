@@ -2,7 +2,8 @@
 use Rattle.std.specs.Prelude.{◌≡◌, ◌⊎◌, ℕ, ◌+◌, List, [], ◌∷◌, ◌++◌, Option, Some, None, Result, Ok, Err}
 use Rattle.std.specs.declared.vec.Vec.{Vec}
 use Rattle.std.specs.declared.alloc.Global.{Global}
-use Rattle.serde_json.specs.Data.{Data}
+use Rattle.dap_tree.specs.Doc.{Doc}
+use Rattle.dap_tree.specs.Json.{IsRead, HasFraction, HasNoReading}
 use Rattle.dapnorm.specs.declared.limits.Limits.{Limits}
 use Rattle.dapnorm.specs.declared.reading.Stop.{Stop}
 use Rattle.dapnorm.specs.declared.reading.Stop.TheVariants.{End, Full, Failed}
@@ -11,22 +12,21 @@ use Rattle.dapnorm.specs.declared.refused.Refused.TheVariants as refused
 use Rattle.dapnorm.specs.declared.refused.RecordCause.TheVariants.{Cut}
 use Rattle.dapnorm.specs.declared.compacting.ContentFault.{ContentFault}
 use Rattle.dapnorm.specs.declared.compacting.ContentFault.TheVariants.{Json, Fraction, Grew, Memory}
-use Rattle.dapnorm.specs.Content.{IsWhole, HasFraction, HasNoReading}
 use Rattle.dapnorm.specs.Compacting.{Compacts, Fits, IsRefused, text}
 
 -- The content's value comes behind the values whose text was written.
-pub record IsAppended (limits : Limits) (values : List Data) (content new : List ℕ) : Type 0 where
-  pub value : Data
-  pub is_whole : IsWhole content value
+pub record IsAppended (limits : Limits) (values : List Doc) (content new : List ℕ) : Type 0 where
+  pub value : Doc
+  pub is_read : IsRead content value
   pub fits : Fits limits (values ++ value ∷ [])
   pub text_is : new ≡ text (values ++ value ∷ [])
 
 -- The content's text is appended to that of the values, or has this fault.
-abbrev pub Appended : {U : Type 0} → Limits → List Data → List ℕ → Result U ContentFault → List ℕ → Type 0
+abbrev pub Appended : {U : Type 0} → Limits → List Doc → List ℕ → Result U ContentFault → List ℕ → Type 0
 Appended limits values content (Ok done) new = IsAppended limits values content new
 Appended limits values content (Err Json) new = HasNoReading content
 Appended limits values content (Err Fraction) new = HasFraction content
-Appended limits values content (Err Grew) new = (value : Data) × IsWhole content value × (Fits limits (values ++ value ∷ []) → ⊥)
+Appended limits values content (Err Grew) new = (value : Doc) × IsRead content value × (Fits limits (values ++ value ∷ []) → ⊥)
 Appended limits values content (Err Memory) new = Unit {0}
 
 -- the refusal of record n for this fault
@@ -37,7 +37,7 @@ refusal_at n Grew = refused.Grew n
 refusal_at n Memory = refused.Memory
 
 -- Where a content has come, its text is appended and record n has ended, or is refused.
-abbrev pub HasGoneOn : Limits → List Data → ℕ → List ℕ → Option (List ℕ) → Result ℕ Refused → List ℕ → Type 0
+abbrev pub HasGoneOn : Limits → List Doc → ℕ → List ℕ → Option (List ℕ) → Result ℕ Refused → List ℕ → Type 0
 HasGoneOn limits values n old None (Ok next) new = (next ≡ n) × (new ≡ old)
 HasGoneOn limits values n old None (Err because) new = ⊥
 HasGoneOn limits values n old (Some content) (Ok next) new = (next ≡ n + 1) × IsAppended limits values content new

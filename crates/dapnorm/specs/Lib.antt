@@ -1,4 +1,3 @@
-pub mod Content
 pub mod Counts
 pub mod CompactingSteps
 pub mod CommandLine

@@ -1,8 +1,6 @@
 //! Makes the contents of frames canonical.
 ghost use Rattle.std.specs.Prelude.{◌≡◌, ◌+◌, ◌<◌, ◌≤◌, ◌^◌, List, Result, Ok, Err};
-ghost use Rattle.serde_json.specs.Data.{Data};
-ghost use Rattle.serde_json.specs.View.{view, items_view, members_view};
-ghost use Rattle.serde_json.specs.Written.{has_float, items_have_float, members_have_float};
+ghost use Rattle.dap_tree.specs.Doc.{Doc};
 ghost use Rattle.dapnorm.specs.Compacting.{Compacts, Fits, IsRefused, text};
 ghost use Rattle.dapnorm.specs.CompactingSteps.{Appended, HasGoneOn, JudgesInput, refusal_at};
 ghost use Rattle.dapnorm.specs.Reading.{HasLength};
@@ -15,7 +13,7 @@ use crate::reading::{Input, Stop, read_all};
 use crate::refused::{RecordCause, Refused};
 use crate::writing::write_and_flush;
 use dap_frame::{Content, FrameFault, Framer, write_frame};
-use serde_json::{Map, Value};
+use dap_tree::{TreeFault, read_tree, write_tree};
 use std::alloc::Global;
 
 /// Why a content has no compact text that fits.
@@ -41,44 +39,7 @@ impl ContentFault {
     }
 }
 
-/// Whether some number is not kept whole.
-#[cycle(has_fraction)]
-fn has_fraction(value: &Value) -> bool
-    ensures { result ≡ has_float (view value.now) }
-{
-    match value {
-        Value::Null | Value::Bool(_) | Value::String(_) => false,
-        Value::Number(number) => number.is_f64(),
-        Value::Array(items) => items_have_fraction(items),
-        Value::Object(members) => members_have_fraction(members),
-    }
-}
-
-#[cycle(has_fraction)]
-fn items_have_fraction(items: &Vec<Value>) -> bool
-    ensures { result ≡ items_have_float (items_view items.now.items) }
-{
-    for item in items {
-        if has_fraction(item) {
-            return true;
-        }
-    }
-    false
-}
-
-#[cycle(has_fraction)]
-fn members_have_fraction(members: &Map<String, Value>) -> bool
-    ensures { result ≡ members_have_float (members_view members.now.entries) }
-{
-    for (_, member) in members.iter() {
-        if has_fraction(member) {
-            return true;
-        }
-    }
-    false
-}
-
-/// Appends the frame of a content's compact text to the text of those before it.
+/// Appends the frame of a content's canonical text to the text of those before it.
 fn append_compact(
     alloc: Global,
     out: &mut Vec<u8>,
@@ -86,20 +47,18 @@ fn append_compact(
     limits: Limits,
 ) -> Result<(), ContentFault>
     requires { AreSound limits }
-    ensures { (values : List Data) → Fits limits values → out.old.items ≡ text values → Appended limits values content.now result out.new.items }
+    ensures { (values : List Doc) → Fits limits values → out.old.items ≡ text values → Appended limits values content.now result out.new.items }
 {
-    let value = match Value::from_slice(alloc, content) {
-        Ok(value) => value,
-        Err(error) if error.is_memory() => return Err(ContentFault::Memory),
-        Err(_) => return Err(ContentFault::Json),
+    let tree = match read_tree(alloc, content) {
+        Ok(tree) => tree,
+        Err(TreeFault::Json) => return Err(ContentFault::Json),
+        Err(TreeFault::Fraction) => return Err(ContentFault::Fraction),
+        Err(TreeFault::Memory) => return Err(ContentFault::Memory),
     };
-    if has_fraction(&value) {
-        return Err(ContentFault::Fraction);
-    }
-    let Ok(text) = value.to_vec(alloc) else {
+    let Ok(text) = write_tree(alloc, &tree) else {
         return Err(ContentFault::Memory);
     };
-    match write_frame(out, text.as_slice(), limits.frame) {
+    match write_frame(out, text.as_bytes(), limits.frame) {
         Ok(()) => {}
         Err(FrameFault::ContentTooLong) => return Err(ContentFault::Grew),
         Err(_) => return Err(ContentFault::Memory),
@@ -120,7 +79,7 @@ fn append_next(
 ) -> Result<u64, Refused>
     requires sound { AreSound limits }
     requires few { number < 2 ^ 63 }
-    ensures { (values : List Data) → Fits limits values → out.old.items ≡ text values → HasGoneOn limits values number out.old.items content result out.new.items }
+    ensures { (values : List Doc) → Fits limits values → out.old.items ≡ text values → HasGoneOn limits values number out.old.items content result out.new.items }
 {
     let Some(content) = content else {
         return Ok(number);

@@ -1,0 +1,49 @@
+-- The walk that counts levels down tests the depth and the ranges, and a document nests as its JSON value does.
+use Rattle.std.proofs.Common.{◌≡◌, ℕ, suc, max, ◌-◌, Bool, true, ◌&&◌, refl, sym, ap, ap₂, ◌∙◌, arith, ltb, leb, le-leb}
+use Rattle.std.proofs.lemmas.Bool.Decides.{nat_tests}
+use Rattle.serde_json.specs.Data as json
+use Rattle.dap_tree.specs.Doc.{Doc, null, boolean, whole, text, list, object, Items, no_items, item, Members, no_members, member, depth, items_depth, members_depth, in_range, all_in_range, items_in_range, members_in_range, fits, items_fit, members_fit}
+use Rattle.dap_tree.specs.Json.{data_of, items_data, members_data}
+
+both : (a b n : ℕ) (p q : Bool) → ((leb a n && p) && (leb b n && q)) ≡ (leb (max a b) n && (p && q))
+both a b n p q = grind (arith, nat_tests)
+
+under : (n a : ℕ) (p : Bool) → (ltb 0 n && (leb a (n - 1) && p)) ≡ (leb (suc a) n && p)
+under n a p = grind (arith, nat_tests)
+
+at_zero : (n : ℕ) → leb 0 n ≡ true
+at_zero n = le-leb 0 n (omega arith)
+
+mutual
+  pub fits_is : (n : ℕ) (d : Doc) → fits n d ≡ (leb (depth d) n && all_in_range d)
+  fits_is n null = sym (ap (λ b. b && true) (at_zero n))
+  fits_is n (boolean b) = sym (ap (λ b. b && true) (at_zero n))
+  fits_is n (whole z) = sym (ap (λ b. b && in_range z) (at_zero n))
+  fits_is n (text s) = sym (ap (λ b. b && true) (at_zero n))
+  fits_is n (list ds) = ap (λ b. ltb 0 n && b) (items_fit_is (n - 1) ds) ∙ under n (items_depth ds) (items_in_range ds)
+  fits_is n (object ms) = ap (λ b. ltb 0 n && b) (members_fit_is (n - 1) ms) ∙ under n (members_depth ms) (members_in_range ms)
+
+  pub items_fit_is : (n : ℕ) (ds : Items) → items_fit n ds ≡ (leb (items_depth ds) n && items_in_range ds)
+  items_fit_is n no_items = sym (ap (λ b. b && true) (at_zero n))
+  items_fit_is n (item d ds) = ap₂ (λ a b. a && b) (fits_is n d) (items_fit_is n ds) ∙ both (depth d) (items_depth ds) n (all_in_range d) (items_in_range ds)
+
+  pub members_fit_is : (n : ℕ) (ms : Members) → members_fit n ms ≡ (leb (members_depth ms) n && members_in_range ms)
+  members_fit_is n no_members = sym (ap (λ b. b && true) (at_zero n))
+  members_fit_is n (member k d ms) = ap₂ (λ a b. a && b) (fits_is n d) (members_fit_is n ms) ∙ both (depth d) (members_depth ms) n (all_in_range d) (members_in_range ms)
+
+mutual
+  pub depth_data : (d : Doc) → json.depth (data_of d) ≡ depth d
+  depth_data null = refl
+  depth_data (boolean b) = refl
+  depth_data (whole z) = refl
+  depth_data (text s) = refl
+  depth_data (list ds) = ap suc (items_depth_data ds)
+  depth_data (object ms) = ap suc (members_depth_data ms)
+
+  items_depth_data : (ds : Items) → json.items_depth (items_data ds) ≡ items_depth ds
+  items_depth_data no_items = refl
+  items_depth_data (item d ds) = ap₂ max (depth_data d) (items_depth_data ds)
+
+  members_depth_data : (ms : Members) → json.members_depth (members_data ms) ≡ members_depth ms
+  members_depth_data no_members = refl
+  members_depth_data (member k d ms) = ap₂ max (depth_data d) (members_depth_data ms)

@@ -1,0 +1,191 @@
+-- Each content has one outcome, and what is read is sound.
+use Rattle.std.proofs.Common.{◌≡◌, ℕ, ◌≤◌, inl, inr, ℤ, pos, negsuc, List, Bool, true, false, ◌&&◌, ◌||◌, Option, Some, None, Result, Ok, Err, IfOk, IfErr, MatchResult, refl, sym, ap, ap₂, ◌∙◌, subst, leb, le-leb}
+use Rattle.std.proofs.lemmas.Bool.{cases_Bool}
+use Rattle.std.proofs.lemmas.Str.{IsUtf8-from_is_utf8, is_utf8-from_IsUtf8}
+use Rattle.std.specs.Str.{is_utf8}
+use Rattle.std.specs.Prelude.{IsUtf8}
+use Rattle.serde_json.specs.Data as json
+use Rattle.serde_json.specs.Find.{of_integer, is_float}
+use Rattle.serde_json.specs.Read.{read}
+use Rattle.serde_json.specs.Written.{has_float, items_have_float, members_have_float}
+use Rattle.serde_json.proofs.Nesting.{depth-read}
+use Rattle.dap_tree.specs.Doc.{Doc, null, boolean, whole, text, list, object, Items, no_items, item, Members, no_members, member, in_range, all_in_range, items_in_range, members_in_range, depth, is_sound}
+use Rattle.dap_tree.specs.Json.{data_of, items_data, members_data, Reads, IsRead, HasFraction, Outcome, document, no_reading, fraction, HasOutcome, ExplainsText, ExplainsData, Tells, Stands}
+use Rattle.dap_tree.specs.View.{view}
+use Rattle.dap_tree.specs.declared.tree.Tree.{Tree}
+use Rattle.dap_tree.specs.declared.fault.TreeFault.{TreeFault}
+use Rattle.dap_tree.specs.declared.fault.TreeFault.TheVariants.{Json, Fraction, Memory}
+use Rattle.dap_tree.proofs.Booleans.{and_left, and_right, and_both}
+use Rattle.dap_tree.proofs.Depths.{depth_data}
+use Rattle.dap_tree.proofs.Numbers.{is_kept, all_kept, items_kept, members_kept, kept_read}
+use Rattle.dap_tree.proofs.Writing.{no_float}
+
+-- ---- the document of a value that has no float
+
+abbrev whole_of : json.Num → Doc
+whole_of (json.unsigned n) = whole (pos n)
+whole_of (json.negative z) = whole z
+whole_of (json.float x) = null
+
+abbrev mutual
+  doc_of : json.Data → Doc
+  doc_of json.null = null
+  doc_of (json.boolean b) = boolean b
+  doc_of (json.number n) = whole_of n
+  doc_of (json.string s) = text s
+  doc_of (json.array ds) = list (items_doc ds)
+  doc_of (json.object ms) = object (members_doc ms)
+
+  items_doc : json.Items → Items
+  items_doc json.no_items = no_items
+  items_doc (json.item d ds) = item (doc_of d) (items_doc ds)
+
+  members_doc : json.Members → Members
+  members_doc json.no_members = no_members
+  members_doc (json.member k d ms) = member k (doc_of d) (members_doc ms)
+
+whole_back : (z : ℤ) → whole_of (of_integer z) ≡ whole z
+whole_back (pos n) = refl
+whole_back (negsuc n) = refl
+
+mutual
+  back : (d : Doc) → doc_of (data_of d) ≡ d
+  back null = refl
+  back (boolean b) = refl
+  back (whole z) = whole_back z
+  back (text s) = refl
+  back (list ds) = ap list (items_back ds)
+  back (object ms) = ap object (members_back ms)
+
+  items_back : (ds : Items) → items_doc (items_data ds) ≡ ds
+  items_back no_items = refl
+  items_back (item d ds) = ap₂ item (back d) (items_back ds)
+
+  members_back : (ms : Members) → members_doc (members_data ms) ≡ ms
+  members_back no_members = refl
+  members_back (member k d ms) = ap₂ (member k) (back d) (members_back ms)
+
+left_false : (a b : Bool) → (a || b) ≡ false → a ≡ false
+left_false true b h = h
+left_false false b h = refl
+
+right_false : (a b : Bool) → (a || b) ≡ false → b ≡ false
+right_false true b h = absurd cc
+right_false false b h = h
+
+number_forth : (n : json.Num) → is_float n ≡ false → is_kept n ≡ true → data_of (whole_of n) ≡ json.number n
+number_forth (json.unsigned n) exact kept = refl
+number_forth (json.negative (pos n)) exact kept = absurd cc
+number_forth (json.negative (negsuc n)) exact kept = refl
+number_forth (json.float x) exact kept = absurd cc
+
+mutual
+  forth : (d : json.Data) → has_float d ≡ false → all_kept d ≡ true → data_of (doc_of d) ≡ d
+  forth json.null exact kept = refl
+  forth (json.boolean b) exact kept = refl
+  forth (json.number n) exact kept = number_forth n exact kept
+  forth (json.string s) exact kept = refl
+  forth (json.array ds) exact kept = ap json.array (items_forth ds exact kept)
+  forth (json.object ms) exact kept = ap json.object (members_forth ms exact kept)
+
+  items_forth : (ds : json.Items) → items_have_float ds ≡ false → items_kept ds ≡ true → items_data (items_doc ds) ≡ ds
+  items_forth json.no_items exact kept = refl
+  items_forth (json.item d ds) exact kept = ap₂ json.item (forth d (left_false _ _ exact) (and_left _ _ kept)) (items_forth ds (right_false (has_float d) _ exact) (and_right (all_kept d) _ kept))
+
+  members_forth : (ms : json.Members) → members_have_float ms ≡ false → members_kept ms ≡ true → members_data (members_doc ms) ≡ ms
+  members_forth json.no_members exact kept = refl
+  members_forth (json.member k d ms) exact kept = ap₂ (json.member k) (forth d (left_false _ _ exact) (and_left _ _ kept)) (members_forth ms (right_false (has_float d) _ exact) (and_right (all_kept d) _ kept))
+
+-- ---- one outcome
+
+same_some : {A : Type 0} (a b : A) → Some a ≡ Some b → a ≡ b
+same_some a b h = cc
+
+-- a content is one value's text at most
+same_value : (bytes : List ℕ) (d e : json.Data) → Reads bytes d → Reads bytes e → d ≡ e
+same_value bytes d e h k = same_some d e (sym h.1 ∙ k.1)
+
+pub read_once : (bytes : List ℕ) (d e : Doc) → IsRead bytes d → IsRead bytes e → d ≡ e
+read_once bytes d e h k = sym (back d) ∙ ap doc_of (same_value bytes (data_of d) (data_of e) h k) ∙ back e
+
+not_both : (b : Bool) → b ≡ true → b ≡ false → ⊥
+not_both b h k = cc
+
+-- what is a tree has no fraction
+pub whole_or_fraction : (bytes : List ℕ) (d : Doc) → IsRead bytes d → HasFraction bytes → ⊥
+whole_or_fraction bytes d h f = not_both (has_float f.0) f.2 (ap has_float (same_value bytes f.0 (data_of d) f.1 h) ∙ no_float d)
+
+pub one_outcome : (bytes : List ℕ) (o p : Outcome) → HasOutcome bytes o → HasOutcome bytes p → o ≡ p
+one_outcome bytes (document d) (document e) h k = ap document (read_once bytes d e h k)
+one_outcome bytes (document d) no_reading h k = absurd (k (data_of d) h)
+one_outcome bytes (document d) fraction h k = absurd (whole_or_fraction bytes d h k)
+one_outcome bytes no_reading (document e) h k = absurd (h (data_of e) k)
+one_outcome bytes no_reading no_reading h k = refl
+one_outcome bytes no_reading fraction h k = absurd (h k.0 k.1)
+one_outcome bytes fraction (document e) h k = absurd (whole_or_fraction bytes e k h)
+one_outcome bytes fraction no_reading h k = absurd (k h.0 h.1)
+one_outcome bytes fraction fraction h k = refl
+
+-- ---- some outcome
+
+some_of : (bytes : List ℕ) (r : Option json.Data) → read bytes ≡ r → IsUtf8 bytes → (o : Outcome) × HasOutcome bytes o
+some_of bytes None is utf8 = (no_reading, λ d h. let never : None ≡ Some d = sym is ∙ h.1 in absurd cc)
+some_of bytes (Some d) is utf8 = elim (cases_Bool (has_float d)) [
+  | inl float ↦ (fraction, (d, (utf8, is), float))
+  | inr exact ↦ (document (doc_of d), (utf8, is ∙ ap Some (sym (forth d exact (kept_read bytes d is)))))
+]
+
+pub some_outcome : (bytes : List ℕ) → (o : Outcome) × HasOutcome bytes o
+some_outcome bytes = elim (cases_Bool (is_utf8 bytes)) [
+  | inl utf8 ↦ some_of bytes (read bytes) refl (IsUtf8-from_is_utf8 bytes utf8)
+  | inr other ↦ (no_reading, λ d h. not_both (is_utf8 bytes) (is_utf8-from_IsUtf8 bytes h.0) other)
+]
+
+-- ---- soundness
+
+kept_whole : (z : ℤ) → is_kept (of_integer z) ≡ in_range z
+kept_whole (pos n) = refl
+kept_whole (negsuc n) = refl
+
+mutual
+  kept_data : (d : Doc) → all_kept (data_of d) ≡ all_in_range d
+  kept_data null = refl
+  kept_data (boolean b) = refl
+  kept_data (whole z) = kept_whole z
+  kept_data (text s) = refl
+  kept_data (list ds) = items_kept_data ds
+  kept_data (object ms) = members_kept_data ms
+
+  items_kept_data : (ds : Items) → items_kept (items_data ds) ≡ items_in_range ds
+  items_kept_data no_items = refl
+  items_kept_data (item d ds) = ap₂ (λ a b. a && b) (kept_data d) (items_kept_data ds)
+
+  members_kept_data : (ms : Members) → members_kept (members_data ms) ≡ members_in_range ms
+  members_kept_data no_members = refl
+  members_kept_data (member k d ms) = ap₂ (λ a b. a && b) (kept_data d) (members_kept_data ms)
+
+pub read_is_sound : (bytes : List ℕ) (d : Doc) → IsRead bytes d → is_sound d ≡ true
+read_is_sound bytes d h =
+    let shallow : depth d ≤ 127 = subst (λ n. n ≤ 127) (depth_data d) (depth-read bytes (data_of d) h.1) in
+    and_both (leb (depth d) 127) (all_in_range d) (le-leb (depth d) 127 shallow) (sym (kept_data d) ∙ kept_read bytes (data_of d) h.1)
+
+-- ---- the answers of `read_tree`
+
+pub document_answers : (bytes : List ℕ) (t : Tree) (o : Outcome) → IsRead bytes (view t) → HasOutcome bytes o → o ≡ document (view t)
+document_answers bytes t o h has = one_outcome bytes o (document (view t)) has h
+
+pub fault_answers : (bytes : List ℕ) (f : TreeFault) (o : Outcome) → ExplainsText bytes f → HasOutcome bytes o → Tells o f
+fault_answers bytes Json o h has = one_outcome bytes o no_reading has h
+fault_answers bytes Fraction o h has = one_outcome bytes o fraction has h
+fault_answers bytes Memory o h has = tt
+
+-- a fault of the value that was read is a fault of the content
+pub explains_text : (bytes : List ℕ) (v : json.Data) (f : TreeFault) → Reads bytes v → ExplainsData v f → ExplainsText bytes f
+explains_text bytes v Json reads h = absurd h
+explains_text bytes v Fraction reads h = (v, reads, h)
+explains_text bytes v Memory reads h = tt
+
+pub answers : (bytes : List ℕ) (v : json.Data) (r : Result Tree TreeFault) (o : Outcome) → Reads bytes v → IfOk r (λ t. Stands v (view t)) → IfErr r (ExplainsData v) → HasOutcome bytes o
+    → MatchResult r (λ t. o ≡ document (view t)) (Tells o)
+answers bytes v (Ok t) o reads ok err has = document_answers bytes t o (reads.0, reads.1 ∙ ap Some ok) has
+answers bytes v (Err f) o reads ok err has = fault_answers bytes f o (explains_text bytes v f reads err) has

@@ -1,0 +1,57 @@
+ghost use Rattle.std.specs.Prelude.{◌≡◌, IfOk, IfErr};
+ghost use Rattle.dap_tree.specs.View.{view, items_view, members_view};
+ghost use Rattle.dap_tree.specs.declared.fault.TreeFault.{TreeFault};
+
+use crate::{Tree, TreeFault};
+use std::alloc::{AllocError, Global};
+use std::collections::BTreeMap;
+
+impl Tree {
+    /// An equal tree, with memory of its own.
+    pub fn copy(&self, alloc: Global) -> Result<Tree, TreeFault>
+        ensures equal { IfOk result (λ t. view t ≡ view self.now) }
+        ensures memory { IfErr result (λ f. f ≡ TreeFault.Memory) }
+    {
+        Ok(copy_tree(alloc, self)?)
+    }
+}
+
+#[cycle(copy_tree)]
+fn copy_tree(alloc: Global, tree: &Tree) -> Result<Tree, AllocError>
+    ensures { IfOk result (λ t. view t ≡ view tree.now) }
+{
+    match tree {
+        Tree::Null => Ok(Tree::Null),
+        Tree::Bool(b) => Ok(Tree::Bool(*b)),
+        Tree::Whole(n) => Ok(Tree::Whole(*n)),
+        Tree::Text(text) => Ok(Tree::Text(text.clone()?)),
+        Tree::List(items) => Ok(Tree::List(copy_items(alloc, items)?)),
+        Tree::Object(members) => Ok(Tree::Object(copy_members(alloc, members)?)),
+    }
+}
+
+#[cycle(copy_tree)]
+fn copy_items(alloc: Global, items: &Vec<Tree>) -> Result<Vec<Tree>, AllocError>
+    ensures { IfOk result (λ v. items_view v.items ≡ items_view items.now.items) }
+{
+    let mut copies = Vec::with_capacity(alloc, items.len())?;
+    for item in items {
+        copies.push(copy_tree(alloc, item)?)?;
+    }
+    Ok(copies)
+}
+
+#[cycle(copy_tree)]
+fn copy_members(
+    alloc: Global,
+    members: &BTreeMap<String, Tree>,
+) -> Result<BTreeMap<String, Tree>, AllocError>
+    ensures { IfOk result (λ m. members_view m.entries ≡ members_view members.now.entries) }
+{
+    let mut copies = BTreeMap::new(alloc);
+    for (name, member) in members.iter() {
+        let name = name.clone()?;
+        drop(copies.insert(name, copy_tree(alloc, member)?)?);
+    }
+    Ok(copies)
+}

@@ -1,0 +1,88 @@
+ghost use Rattle.std.specs.Prelude.{◌≡◌, true, IfOk, IfErr, MatchResult};
+ghost use Rattle.serde_json.specs.Data.{number as json_number};
+ghost use Rattle.serde_json.specs.View.{number_view, view as value_view, items_view as values_view, members_view as pairs_view};
+ghost use Rattle.dap_tree.specs.Doc.{is_sound};
+ghost use Rattle.dap_tree.specs.Json.{IsRead, Outcome, document, HasOutcome, ExplainsText, Tells, ExplainsData, ExplainsItems, ExplainsMembers, Stands, ItemsStand, MembersStand};
+ghost use Rattle.dap_tree.specs.View.{view, items_view, members_view};
+
+use crate::{Tree, TreeFault};
+use serde_json::{Map, Number, Value};
+use std::alloc::Global;
+use std::collections::BTreeMap;
+
+/// Reads the tree of a content.
+///
+/// Of members with one name the last stays.
+/// `Memory` may come for any content that is not empty, and says nothing of it.
+pub fn read_tree(alloc: Global, content: &[u8]) -> Result<Tree, TreeFault>
+    ensures ok { IfOk result (λ t. IsRead content.now (view t)) }
+    ensures sound { IfOk result (λ t. is_sound (view t) ≡ true) }
+    ensures err { IfErr result (ExplainsText content.now) }
+
+    // And the other way round: the outcome of the content is what the answer says.
+    ensures exactly { (o : Outcome) → HasOutcome content.now o
+        → MatchResult result (λ t. o ≡ document (view t)) (Tells o) }
+{
+    match Value::from_slice(alloc, content) {
+        Ok(value) => tree_of(alloc, value),
+        Err(error) if error.is_memory() => Err(TreeFault::Memory),
+        Err(_) => Err(TreeFault::Json),
+    }
+}
+
+#[cycle(tree_of)]
+fn tree_of(alloc: Global, value: Value) -> Result<Tree, TreeFault>
+    ensures ok { IfOk result (λ t. Stands (value_view value) (view t)) }
+    ensures err { IfErr result (ExplainsData (value_view value)) }
+{
+    match value {
+        Value::Null => Ok(Tree::Null),
+        Value::Bool(b) => Ok(Tree::Bool(b)),
+        Value::Number(n) => whole(&n),
+        Value::String(text) => Ok(Tree::Text(text)),
+        Value::Array(values) => Ok(Tree::List(items_of(alloc, values)?)),
+        Value::Object(values) => Ok(Tree::Object(members_of(alloc, values)?)),
+    }
+}
+
+fn whole(number: &Number) -> Result<Tree, TreeFault>
+    ensures ok { IfOk result (λ t. Stands (json_number (number_view number.now)) (view t)) }
+    ensures err { IfErr result (ExplainsData (json_number (number_view number.now))) }
+{
+    if let Some(n) = number.as_u64() {
+        Ok(Tree::Whole(n as i128))
+    } else if let Some(n) = number.as_i64() {
+        Ok(Tree::Whole(n as i128))
+    } else {
+        Err(TreeFault::Fraction)
+    }
+}
+
+#[cycle(tree_of)]
+fn items_of(alloc: Global, values: Vec<Value>) -> Result<Vec<Tree>, TreeFault>
+    ensures ok { IfOk result (λ v. ItemsStand (values_view values.items) (items_view v.items)) }
+    ensures err { IfErr result (ExplainsItems (values_view values.items)) }
+{
+    let mut items = Vec::with_capacity(alloc, values.len())?;
+    for value in values {
+        let item = tree_of(alloc, value)?;
+        items.push(item)?;
+    }
+    Ok(items)
+}
+
+#[cycle(tree_of)]
+fn members_of(
+    alloc: Global,
+    values: Map<String, Value>,
+) -> Result<BTreeMap<String, Tree>, TreeFault>
+    ensures ok { IfOk result (λ m. MembersStand (pairs_view values.entries) (members_view m.entries)) }
+    ensures err { IfErr result (ExplainsMembers (pairs_view values.entries)) }
+{
+    let mut members = BTreeMap::new(alloc);
+    for (name, value) in values {
+        let member = tree_of(alloc, value)?;
+        drop(members.insert(name, member)?);
+    }
+    Ok(members)
+}
