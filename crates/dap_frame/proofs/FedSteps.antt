@@ -1,28 +1,37 @@
 -- What a framer stands for once it has taken of a frame.
-use Rattle.std.proofs.Common.{◌≡◌, ℕ, zero, suc, ◌+◌, ◌-◌, ◌<◌, ◌≤◌, List, [], ◌∷◌, ◌++◌, length, take, drop, min, Result, Ok, Err, refl, sym, ap, ◌∙◌, subst, arith}
-use Rattle.std.proofs.lemmas.List.{take-append-le, take_all, append_assoc, length-append, length-take, length-take-le, length-drop, drop-append-le}
+use Rattle.std.proofs.Common.{◌≡◌, ℕ, ◌+◌, ◌-◌, ◌<◌, ◌≤◌, List, [], ◌++◌, length, take, drop, min, Result, Ok, Err, sym, ap, ◌∙◌, subst, arith}
+use Rattle.std.proofs.lemmas.List.{take-append-drop, take_all, append_assoc, length-append, length-take-le, length-drop, drop-append-le}
 use Rattle.std.proofs.Math.Seq.{take-add}
 use Rattle.dap_frame.specs.declared.limits.FrameLimits.{FrameLimits}
 use Rattle.dap_frame.specs.declared.fault.FrameFault.{FrameFault}
+use Rattle.dap_frame.specs.declared.framer.Framer.TheInside.{Inside}
+use Rattle.dap_frame.specs.declared.framer.State.TheVariants.{Open}
+use Rattle.dap_frame.specs.declared.progress.Progress.{Progress}
 use Rattle.dap_frame.specs.declared.progress.Progress.TheVariants.{Content}
 use Rattle.dap_frame.specs.declared.progress.HeaderTaken.{HeaderTaken}
 use Rattle.dap_frame.specs.declared.progress.HeaderTaken.TheVariants.{Unfinished, Ended}
-use Rattle.dap_frame.specs.Frame.{BeginsWith, IsFrame, IsOpen, header_open, content_open}
-use Rattle.dap_frame.specs.Lines.{Lacks, header_end}
-use Rattle.dap_frame.specs.Reading.{IsKeptOf}
+use Rattle.dap_frame.specs.Frame.{BeginsWith, HasContentByte, IsFrame, IsOpen, header_open, content_open}
+use Rattle.dap_frame.specs.Reading.{Reading, Stands, IsKeptOf, IsKeptBy}
+use Rattle.dap_frame.specs.Framer.{reading, progress_in}
 use Rattle.dap_frame.specs.Progress.{IsAtContent, TakesHeader, TakesRestOfHeader}
 use Rattle.dap_frame.proofs.Marks.{BeginsWith-more}
-use Rattle.dap_frame.proofs.Unique.{lacks_none}
+use Rattle.dap_frame.proofs.Ends.{is_empty, no_header_end}
 
-pub is_empty : (xs : List ℕ) → length xs ≡ 0 → xs ≡ []
-is_empty [] e = refl
-is_empty (x ∷ xs) e = absurd (omega arith)
-
+-- a framer at the start of a frame stands for no bytes
 pub open_at_first : (limits : FrameLimits) → 0 < limits.header → IsOpen limits []
-open_at_first limits some = header_open some lacks_none
+open_at_first limits some = header_open some no_header_end
 
--- where the header part was not over yet
-pub rest_taken : (limits : FrameLimits) (bytes rest piece : List ℕ) (result : Result HeaderTaken FrameFault) → bytes ≡ [] → TakesHeader limits rest piece result → TakesRestOfHeader limits bytes rest piece result
+-- what the fields keep is that of the rest that the framer stands for
+pub kept_of : (fields : Inside) (framer : Reading) (progress : Progress) (rest : List ℕ) → reading fields ≡ framer
+    → fields.state ≡ Open progress → Stands framer rest
+    → IsKeptOf fields.limits progress fields.bytes.items rest
+kept_of fields framer progress rest view is stands =
+    let inside = subst (λ (r : Reading). Stands r rest) (sym view) stands in
+    subst (λ s. IsKeptBy fields.limits (progress_in s) fields.bytes.items rest) is inside.kept
+
+-- where the header part had not ended
+pub rest_taken : (limits : FrameLimits) (bytes rest piece : List ℕ) (result : Result HeaderTaken FrameFault)
+    → bytes ≡ [] → TakesHeader limits rest piece result → TakesRestOfHeader limits bytes rest piece result
 rest_taken limits bytes rest piece (Ok (Unfinished scan)) e h = (e, h)
 rest_taken limits bytes rest piece (Ok (Ended header_len content used)) e h =
     let some = h.some in
@@ -58,7 +67,8 @@ module _ (limits : FrameLimits) (bytes rest piece new : List ℕ) (header_len co
   fits : used + more ≤ length piece
   fits = omega (arith, begun.within, length-drop used piece)
 
-  pub fed_open : length new < content → IsKeptOf limits (Content header_len content) new (rest ++ piece) × IsOpen limits (rest ++ piece)
+  pub fed_open : length new < content
+      → IsKeptOf limits (Content header_len content) new (rest ++ piece) × IsOpen limits (rest ++ piece)
   fed_open short =
       let room = begun.room in
       let all : length piece ≤ used + more = omega (arith, len, length-drop used piece) in
@@ -68,7 +78,8 @@ module _ (limits : FrameLimits) (bytes rest piece new : List ℕ) (header_len co
       let long : length (rest ++ piece) < header_len + content = omega (arith, ap length left, length-drop header_len (rest ++ piece), header.ended.within) in
       ((header, left, short), content_open header_len content header long)
 
-  pub fed_frame : content ≤ length new → (used + more ≤ length piece) × IsFrame limits (rest ++ take (used + more) piece) new
+  pub fed_frame : content ≤ length new
+      → (used + more ≤ length piece) × IsFrame limits (rest ++ take (used + more) piece) new
   fed_frame long =
       let room = begun.room in
       let exact : length new ≡ content = omega (arith, len) in (
@@ -79,3 +90,17 @@ module _ (limits : FrameLimits) (bytes rest piece new : List ℕ) (header_len co
           content_is = behind;
         },
       )
+
+-- memory is asked for bytes of a content alone
+pub content_byte : (limits : FrameLimits) (bytes rest piece : List ℕ) (header_len content_len used : ℕ)
+    → IsAtContent limits bytes rest piece header_len content_len used
+    → 0 < length (drop used piece) → HasContentByte limits (rest ++ piece)
+content_byte limits bytes rest piece header_len content_len used begun some =
+    let front : List ℕ = rest ++ take used piece in
+    let whole : front ++ drop used piece ≡ rest ++ piece = append_assoc rest (take used piece) (drop used piece) ∙ ap (λ xs. rest ++ xs) (take-append-drop used piece) in
+    record {
+      len = header_len;
+      content_len = content_len;
+      header = subst (λ xs. BeginsWith limits xs header_len (Ok content_len)) whole (BeginsWith-more limits front (drop used piece) header_len (Ok content_len) begun.header);
+      byte = omega (arith, begun.header.ended.within, some, ap length whole, length-append front (drop used piece));
+    }

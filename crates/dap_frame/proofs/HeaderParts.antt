@@ -1,16 +1,16 @@
 -- What a header part that has ended says of the bytes that begin with it.
-use Rattle.std.proofs.Common.{◌≡◌, ℕ, ◌+◌, ◌≤◌, true, if◌then◌else◌, List, ◌++◌, length, take, Result, Ok, refl, sym, ap, ◌∙◌, subst, arith}
+use Rattle.std.proofs.Common.{◌≡◌, ℕ, ◌≤◌, true, List, length, refl, sym, ◌∙◌, subst, arith}
 use Rattle.std.proofs.lemmas.List.{take_all}
 use Rattle.dap_frame.specs.declared.limits.FrameLimits.{FrameLimits}
-use Rattle.dap_frame.specs.declared.fault.FrameFault.{FrameFault}
 use Rattle.dap_frame.specs.declared.header_scan.Findings.{Findings}
-use Rattle.dap_frame.specs.Lines.{AreLines, is_field_line}
-use Rattle.dap_frame.specs.Frame.{BeginsWith, judged, the_length, lengths_in}
+use Rattle.dap_frame.specs.Lines.{AreLines}
+use Rattle.dap_frame.specs.Frame.{BeginsWith, judged}
 use Rattle.dap_frame.specs.Findings.{AreFindings}
 use Rattle.dap_frame.specs.HeaderScan.{HeaderEnds}
 
 -- it says what its lines say
-pub header_begins : (limits : FrameLimits) (header : List ℕ) (findings : Findings) (ends : HeaderEnds limits header findings) → length header ≤ limits.header
+pub header_begins : (limits : FrameLimits) (header : List ℕ) (findings : Findings) (ends : HeaderEnds limits header findings)
+    → length header ≤ limits.header
     → BeginsWith limits header (length header) (judged limits ends.lines)
 header_begins limits header findings ends within = record {
   ended = ends.first;
@@ -23,7 +23,8 @@ header_begins limits header findings ends within = record {
 }
 
 -- and what the findings say, where each line is a field line
-pub judged_by_findings : (limits : FrameLimits) (lines : List (List ℕ)) (findings : Findings) → AreFindings limits lines findings → findings.are_fields ≡ true
+pub judged_by_findings : (limits : FrameLimits) (lines : List (List ℕ)) (findings : Findings)
+    → AreFindings limits lines findings → findings.are_fields ≡ true
     → judged limits lines ≡ findings.length
 judged_by_findings limits lines findings found all =
     let fields = sym found.are_fields ∙ all in rw fields (sym (found.lengths all).length)

@@ -1,19 +1,20 @@
 -- What a byte more of a piece makes of a header part.
-use Rattle.std.proofs.Common.{◌≡◌, ◌≢◌, ℕ, ◌+◌, ◌-◌, ◌<◌, ◌≤◌, List, [], ◌∷◌, ◌++◌, length, take, drop, get_or, Result, Ok, Err, refl, sym, ap, ◌∙◌, subst, arith}
+use Rattle.std.proofs.Common.{◌≡◌, ℕ, ◌+◌, ◌<◌, ◌≤◌, List, [], ◌∷◌, ◌++◌, length, take, drop, get_or, Result, Ok, Err, sym, ap, ◌∙◌, subst, arith}
 use Rattle.std.proofs.lemmas.List.{take_more, take-append-le, take-append-drop, take_all, append_assoc, length-append, length-take-le}
 use Rattle.dap_frame.specs.declared.limits.FrameLimits.{FrameLimits}
 use Rattle.dap_frame.specs.declared.fault.FrameFault.{FrameFault}
-use Rattle.dap_frame.specs.declared.fault.FrameFault.TheVariants.{HeaderTooLong, Memory}
+use Rattle.dap_frame.specs.declared.fault.FrameFault.TheVariants.{HeaderTooLong}
 use Rattle.dap_frame.specs.declared.header_scan.HeaderScan.{HeaderScan}
 use Rattle.dap_frame.specs.declared.header_scan.ScanStep.TheVariants.{Unfinished, Ended}
 use Rattle.dap_frame.specs.declared.header_scan.Findings.{Findings}
-use Rattle.dap_frame.specs.Lines.{AreLines, Lacks, header_end}
-use Rattle.dap_frame.specs.Frame.{BeginsWith, Shows, in_header, too_long, judged}
+use Rattle.dap_frame.specs.Lines.{Lacks, header_end}
+use Rattle.dap_frame.specs.Frame.{BeginsWith, in_header, too_long, judged}
 use Rattle.dap_frame.specs.Findings.{AreFindings}
 use Rattle.dap_frame.specs.HeaderScan.{header_step, IsScanOf, StepGives, HeaderEnds}
 use Rattle.dap_frame.specs.Progress.{HasEnded, ShowsInHeader}
 use Rattle.dap_frame.proofs.Marks.{BeginsWith-more}
 use Rattle.dap_frame.proofs.Judged.{judged-small, judged-fault}
+use Rattle.dap_frame.proofs.HeaderParts.{header_begins}
 use Rattle.dap_frame.proofs.ScanSteps.{scan_gives}
 
 module _ (limits : FrameLimits) (rest piece : List ℕ) (i : ℕ) (scan : HeaderScan) (lt : i < length piece) (so_far : IsScanOf limits (rest ++ take i piece) scan) where
@@ -26,28 +27,26 @@ module _ (limits : FrameLimits) (rest piece : List ℕ) (i : ℕ) (scan : Header
   whole : (rest ++ take (i + 1) piece) ++ drop (i + 1) piece ≡ rest ++ piece
   whole = append_assoc rest (take (i + 1) piece) (drop (i + 1) piece) ∙ ap (λ xs. rest ++ xs) (take-append-drop (i + 1) piece)
 
-  pub gives_more : (next : HeaderScan) → Unfinished next ≡ header_step limits scan (get_or piece i 0) → IsScanOf limits (rest ++ take (i + 1) piece) next
+  pub gives_more : (next : HeaderScan) → Unfinished next ≡ header_step limits scan (get_or piece i 0)
+      → IsScanOf limits (rest ++ take (i + 1) piece) next
   gives_more next e = subst (λ bytes. IsScanOf limits bytes next) bytes_more (subst (StepGives limits (rest ++ take i piece) (get_or piece i 0)) (sym e) (scan_gives limits (rest ++ take i piece) scan (get_or piece i 0) so_far))
 
-  gives_ended : (findings : Findings) → Ended findings ≡ header_step limits scan (get_or piece i 0) → HeaderEnds limits (rest ++ take (i + 1) piece) findings
+  gives_ended : (findings : Findings) → Ended findings ≡ header_step limits scan (get_or piece i 0)
+      → HeaderEnds limits (rest ++ take (i + 1) piece) findings
   gives_ended findings e = subst (λ bytes. HeaderEnds limits bytes findings) bytes_more (subst (StepGives limits (rest ++ take i piece) (get_or piece i 0)) (sym e) (scan_gives limits (rest ++ take i piece) scan (get_or piece i 0) so_far))
 
   module _ (short : length (rest ++ take i piece) < limits.header) where
-    begins : (findings : Findings) (said : Result ℕ FrameFault) → Ended findings ≡ header_step limits scan (get_or piece i 0) → ((lines : List (List ℕ)) → AreFindings limits lines findings → said ≡ judged limits lines)
+    begins : (findings : Findings) (said : Result ℕ FrameFault)
+        → Ended findings ≡ header_step limits scan (get_or piece i 0)
+        → ((lines : List (List ℕ)) → AreFindings limits lines findings → said ≡ judged limits lines)
         → BeginsWith limits (rest ++ take (i + 1) piece) (length (rest ++ take (i + 1) piece)) said
     begins findings said e found =
         let h = gives_ended findings e in
-        record {
-          ended = h.first;
-          within = omega (arith, long);
-          says = record {
-            lines = h.lines;
-            are_lines = subst (λ bytes. AreLines bytes h.lines) (sym (take_all (length (rest ++ take (i + 1) piece)) (rest ++ take (i + 1) piece) (omega arith))) h.are_lines;
-            said_so = found h.lines h.found;
-          };
-        }
+        let bytes : List ℕ = rest ++ take (i + 1) piece in
+        subst (BeginsWith limits bytes (length bytes)) (sym (found h.lines h.found)) (header_begins limits bytes findings h (omega (arith, long)))
 
-    pub has_ended : (findings : Findings) (content : ℕ) → Ended findings ≡ header_step limits scan (get_or piece i 0) → ((lines : List (List ℕ)) → AreFindings limits lines findings → Ok content ≡ judged limits lines)
+    pub has_ended : (findings : Findings) (content : ℕ) → Ended findings ≡ header_step limits scan (get_or piece i 0)
+        → ((lines : List (List ℕ)) → AreFindings limits lines findings → Ok content ≡ judged limits lines)
         → HasEnded limits rest piece (scan.count + 1) content (i + 1)
     has_ended findings content e found =
         let header_len : scan.count + 1 ≡ length (rest ++ take (i + 1) piece) = omega (arith, long, so_far.count) in
@@ -60,7 +59,9 @@ module _ (limits : FrameLimits) (rest piece : List ℕ) (i : ℕ) (scan : Header
           small = judged-small limits b.says.lines content (sym b.says.said_so);
         }
 
-    pub header_fault : (findings : Findings) (fault : FrameFault) → Ended findings ≡ header_step limits scan (get_or piece i 0) → ((lines : List (List ℕ)) → AreFindings limits lines findings → Err fault ≡ judged limits lines)
+    pub header_fault : (findings : Findings) (fault : FrameFault)
+        → Ended findings ≡ header_step limits scan (get_or piece i 0)
+        → ((lines : List (List ℕ)) → AreFindings limits lines findings → Err fault ≡ judged limits lines)
         → ShowsInHeader limits rest piece fault
     header_fault findings fault e found =
         let b = begins findings (Err fault) e found in
@@ -71,7 +72,8 @@ module _ (limits : FrameLimits) (rest piece : List ℕ) (i : ℕ) (scan : Header
               (BeginsWith-more limits (rest ++ take (i + 1) piece) (drop (i + 1) piece) _ (Err fault) b));
         }
 
-    pub header_too_long : (next : HeaderScan) → Unfinished next ≡ header_step limits scan (get_or piece i 0) → limits.header ≤ next.count → ShowsInHeader limits rest piece HeaderTooLong
+    pub header_too_long : (next : HeaderScan) → Unfinished next ≡ header_step limits scan (get_or piece i 0)
+        → limits.header ≤ next.count → ShowsInHeader limits rest piece HeaderTooLong
     header_too_long next e past =
         let h = gives_more next e in
         let many = h.count in

@@ -1,21 +1,17 @@
 -- A run of steps over the value of a length says what the whole value says.
-use Rattle.std.proofs.Common.{◌≡◌, ℕ, zero, suc, ◌+◌, ◌-◌, ◌*◌, ◌^◌, ◌<◌, ◌≤◌, Bool, true, false, not, ◌&&◌, cond, List, [], ◌∷◌, ◌++◌, length, take, drop, get_or, Result, Ok, Err, refl, sym, ap, ◌∙◌, subst, arith, lit<, inl, inr, nat_lt, nat_le, nat_eq}
-use Rattle.std.proofs.lemmas.Bool.{eqb-true, cases_Bool, and_parts, and_cases, cond-true, cond-false}
+use Rattle.std.proofs.Common.{◌≡◌, ℕ, zero, suc, ◌+◌, ◌-◌, ◌*◌, ◌^◌, ◌<◌, ◌≤◌, Bool, true, false, ◌&&◌, cond, List, [], ◌∷◌, length, take, drop, get_or, Result, Err, refl, sym, ap, ◌∙◌, arith, lit<, inl, inr, nat_lt, nat_le}
+use Rattle.std.proofs.lemmas.Bool.{cases_Bool, and_parts, and_cases, cond-true, cond-false}
 use Rattle.std.proofs.lemmas.List.Sums.{suffix_len_is}
 use native.Mathlib.Numerals.{unary_clauses}
 use Rattle.std.proofs.Math.Nat.{pow-le-pow_right}
 use Rattle.std.specs.List.{list_all, prefix_len, suffix_len, fold}
-use Rattle.std.specs.Char.{is_ascii_digit, eq_ignore_ascii_case}
-use Rattle.std.specs.Str.{str_eq_ignore_ascii_case}
-use Rattle.std.proofs.lemmas.List.{at_drop_more}
+use Rattle.std.specs.Char.{is_ascii_digit}
 use Rattle.dap_frame.specs.declared.limits.FrameLimits.{FrameLimits}
 use Rattle.dap_frame.specs.declared.fault.FrameFault.{FrameFault}
 use Rattle.dap_frame.specs.declared.fault.FrameFault.TheVariants.{BadLength}
 use Rattle.dap_frame.specs.declared.length_scan.LengthScan.{LengthScan}
 use Rattle.dap_frame.specs.declared.length_scan.LengthScan.TheVariants.{Blank, Digits, Padded, Invalid}
-use Rattle.dap_frame.specs.declared.line_scan.LineScan.{LineScan}
-use Rattle.dap_frame.specs.declared.line_scan.LineScan.TheVariants.{Name, OtherName, Length, OtherValue, NoField}
-use Rattle.dap_frame.specs.Lines.{is_blank, without_front, trimmed, is_length_text, number_of, is_colon, is_name_byte, is_value_byte, name_of, value_of, is_field_line, is_length_line}
+use Rattle.dap_frame.specs.Lines.{is_blank, without_front, trimmed}
 use Rattle.dap_frame.specs.Frame.{length_from}
 use Rattle.dap_frame.specs.LengthScan.{length_step, length_outcome, number_outcome}
 
@@ -49,7 +45,8 @@ end_front (x ∷ xs) =
       | inr h ↦ rw h (ap (λ ys. x ∷ ys) (end_front xs))
     ]
 
-end_length : (x : ℕ) (xs : List ℕ) → (is_blank x && is_nil (without_end xs)) ≡ false → length (without_end (x ∷ xs)) ≡ suc (length (without_end xs))
+end_length : (x : ℕ) (xs : List ℕ) → (is_blank x && is_nil (without_end xs)) ≡ false
+    → length (without_end (x ∷ xs)) ≡ suc (length (without_end xs))
 end_length x xs h = ap length (cond-false (is_blank x && is_nil (without_end xs)) [] (x ∷ without_end xs) h)
 
 end_none : (x : ℕ) (xs : List ℕ) → (is_blank x && is_nil (without_end xs)) ≡ true → length (without_end (x ∷ xs)) ≡ 0
@@ -68,7 +65,8 @@ end_behind (x ∷ xs) (suc k) le lt =
       | inr h ↦ end_behind xs k (omega (arith, end_length x xs h)) (omega arith)
     ]
 
-last_of : (x : ℕ) (xs ws : List ℕ) → (is_blank x && is_nil ws) ≡ false → (0 < length ws → is_blank (get_or xs (length ws - 1) 0) ≡ false)
+last_of : (x : ℕ) (xs ws : List ℕ) → (is_blank x && is_nil ws) ≡ false
+    → (0 < length ws → is_blank (get_or xs (length ws - 1) 0) ≡ false)
     → is_blank (get_or (x ∷ xs) (length ws) 0) ≡ false
 last_of x xs [] h ih = elim (and_cases (is_blank x) true h) [
   | inl e ↦ e
@@ -109,7 +107,8 @@ run_wrong : (xs : List ℕ) → length_run Invalid xs ≡ Invalid
 run_wrong [] = refl
 run_wrong (b ∷ bs) = run_wrong bs
 
-run_behind : (limits : FrameLimits) (n : ℕ) (xs : List ℕ) → length_outcome limits (length_run (Padded n) xs) ≡ cond (is_nil (without_end xs)) (number_outcome limits n) (Err BadLength)
+run_behind : (limits : FrameLimits) (n : ℕ) (xs : List ℕ)
+    → length_outcome limits (length_run (Padded n) xs) ≡ cond (is_nil (without_end xs)) (number_outcome limits n) (Err BadLength)
 run_behind limits n [] = refl
 run_behind limits n (b ∷ bs) =
     elim (cases_Bool (is_blank b)) [
@@ -123,7 +122,8 @@ run_behind limits n (b ∷ bs) =
 blank_no_digit : (b : ℕ) → is_blank b ≡ true → is_ascii_digit b ≡ false
 blank_no_digit b h = grind (arith, h)
 
-run_run : (limits : FrameLimits) (c n : ℕ) (xs : List ℕ) → length_outcome limits (length_run (Digits c n) xs) ≡ said_from limits c n (without_end xs)
+run_run : (limits : FrameLimits) (c n : ℕ) (xs : List ℕ)
+    → length_outcome limits (length_run (Digits c n) xs) ≡ said_from limits c n (without_end xs)
 run_run limits c n [] = refl
 run_run limits c n (b ∷ bs) =
     elim (cases_Bool (is_blank b)) [
@@ -143,7 +143,8 @@ front_more b bs h = ap (λ n. drop n (b ∷ bs)) (cond-true (is_blank b) (1 + pr
 front_none : (b : ℕ) (bs : List ℕ) → is_blank b ≡ false → without_front (b ∷ bs) ≡ b ∷ bs
 front_none b bs h = ap (λ n. drop n (b ∷ bs)) (cond-false (is_blank b) (1 + prefix_len is_blank bs) 0 h)
 
-run_front : (limits : FrameLimits) (xs : List ℕ) → length_outcome limits (length_run Blank xs) ≡ said_text limits (without_end (without_front xs))
+run_front : (limits : FrameLimits) (xs : List ℕ)
+    → length_outcome limits (length_run Blank xs) ≡ said_text limits (without_end (without_front xs))
 run_front limits [] = refl
 run_front limits (b ∷ bs) =
     elim (cases_Bool (is_blank b)) [
@@ -207,5 +208,6 @@ text_said limits (b ∷ t) =
       ]
     ]
 
-pub length_says : (limits : FrameLimits) (value : List ℕ) → length_from limits (trimmed value) ≡ length_outcome limits (length_run Blank value)
+pub length_says : (limits : FrameLimits) (value : List ℕ)
+    → length_from limits (trimmed value) ≡ length_outcome limits (length_run Blank value)
 length_says limits value = ap (length_from limits) (cut_is (without_front value)) ∙ text_said limits (without_end (without_front value)) ∙ sym (run_front limits value)

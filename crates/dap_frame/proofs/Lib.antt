@@ -1,8 +1,10 @@
 pub mod Marks
 pub mod Judged
-pub mod SameMark
+pub mod Ends
 pub mod LengthRuns
 pub mod LineRuns
+pub mod EndMarks
+pub mod FindingsSteps
 pub mod ScanSteps
 pub mod HeaderParts
 pub mod HeaderSteps

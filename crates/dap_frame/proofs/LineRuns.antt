@@ -1,21 +1,16 @@
 -- A run of steps over a line says what the whole line says.
-use Rattle.std.proofs.Common.{◌≡◌, ℕ, zero, suc, ◌+◌, ◌-◌, ◌*◌, ◌^◌, ◌<◌, ◌≤◌, Bool, true, false, not, ◌&&◌, cond, List, [], ◌∷◌, ◌++◌, length, take, drop, get_or, Result, Ok, Err, refl, sym, ap, ◌∙◌, subst, arith, lit<, inl, inr, nat_lt, nat_le, nat_eq}
+use Rattle.std.proofs.Common.{◌≡◌, ℕ, suc, ◌+◌, ◌<◌, ◌≤◌, Bool, true, false, not, ◌&&◌, cond, List, [], ◌∷◌, ◌++◌, length, take, drop, get_or, refl, sym, ap, ◌∙◌, subst, arith, inl, inr, nat_lt, nat_eq}
 use Rattle.std.proofs.lemmas.Bool.{eqb-true, cases_Bool, and_parts, and_cases, cond-true, cond-false}
-use Rattle.std.proofs.lemmas.List.Sums.{suffix_len_is}
-use native.Mathlib.Numerals.{unary_clauses}
-use Rattle.std.proofs.Math.Nat.{pow-le-pow_right}
-use Rattle.std.specs.List.{list_all, prefix_len, suffix_len, fold}
-use Rattle.std.specs.Char.{is_ascii_digit, eq_ignore_ascii_case}
+use Rattle.std.specs.List.{list_all, prefix_len}
+use Rattle.std.specs.Char.{eq_ignore_ascii_case}
 use Rattle.std.specs.Str.{str_eq_ignore_ascii_case}
 use Rattle.std.proofs.lemmas.List.{at_drop_more}
 use Rattle.dap_frame.specs.declared.limits.FrameLimits.{FrameLimits}
-use Rattle.dap_frame.specs.declared.fault.FrameFault.{FrameFault}
-use Rattle.dap_frame.specs.declared.fault.FrameFault.TheVariants.{BadLength}
 use Rattle.dap_frame.specs.declared.length_scan.LengthScan.{LengthScan}
-use Rattle.dap_frame.specs.declared.length_scan.LengthScan.TheVariants.{Blank, Digits, Padded, Invalid}
+use Rattle.dap_frame.specs.declared.length_scan.LengthScan.TheVariants.{Blank}
 use Rattle.dap_frame.specs.declared.line_scan.LineScan.{LineScan}
 use Rattle.dap_frame.specs.declared.line_scan.LineScan.TheVariants.{Name, OtherName, Length, OtherValue, NoField}
-use Rattle.dap_frame.specs.Lines.{is_blank, without_front, trimmed, is_length_text, number_of, is_colon, is_name_byte, is_value_byte, name_of, value_of, is_field_line, is_length_line}
+use Rattle.dap_frame.specs.Lines.{trimmed, is_colon, is_name_byte, is_value_byte, name_of, value_of, is_field_line}
 use Rattle.dap_frame.specs.Frame.{length_from}
 use Rattle.dap_frame.specs.LengthScan.{length_step, length_outcome}
 use Rattle.dap_frame.specs.LineScan.{line_step, line_run, length_name, LineSays}
@@ -33,7 +28,8 @@ run_other (b ∷ bs) =
       | inr h ↦ rw h (run_none bs)
     ]
 
-run_length : (d : LengthScan) (xs : List ℕ) → line_run (Length d) xs ≡ cond (list_all is_value_byte xs) (Length (length_run d xs)) NoField
+run_length : (d : LengthScan) (xs : List ℕ)
+    → line_run (Length d) xs ≡ cond (list_all is_value_byte xs) (Length (length_run d xs)) NoField
 run_length d [] = refl
 run_length d (b ∷ bs) =
     elim (cases_Bool (is_value_byte b)) [
@@ -47,7 +43,8 @@ field_from k xs =
     nat_lt 0 (k + length (name_of xs)) && nat_lt (length (name_of xs)) (length xs)
     && list_all is_name_byte (name_of xs) && list_all is_value_byte (value_of xs)
 
--- what the state says of the rest of a line, where `same` found whether the rest of the name makes it Content-Length
+-- what the state says of the rest of a line, where `same` found whether the rest of the name makes
+-- it Content-Length
 abbrev RestSays : FrameLimits → ℕ → (List ℕ → Bool) → List ℕ → LineScan → Type 0
 RestSays limits k same xs (Name n) = field_from k xs ≡ false
 RestSays limits k same xs OtherName = field_from k xs ≡ false
@@ -71,7 +68,8 @@ value_more b bs h =
     let n : ℕ = prefix_len (λ x. not (is_colon x)) bs in
     ap (λ n. drop (n + 1) (b ∷ bs)) (cond-true (not (is_colon b)) (1 + n) 0 (ap not h)) ∙ ap (λ n. drop n (b ∷ bs)) (let e : 1 + n + 1 ≡ suc (n + 1) = omega arith in e)
 
-field_at_colon : (k b : ℕ) (bs : List ℕ) → is_colon b ≡ true → field_from k (b ∷ bs) ≡ (nat_lt 0 k && list_all is_value_byte bs)
+field_at_colon : (k b : ℕ) (bs : List ℕ) → is_colon b ≡ true
+    → field_from k (b ∷ bs) ≡ (nat_lt 0 k && list_all is_value_byte bs)
 field_at_colon k b bs h =
     let zero_more : k + 0 ≡ k = omega arith in
     let some : nat_lt 0 (suc (length bs)) ≡ true = grind arith in
@@ -80,7 +78,8 @@ field_at_colon k b bs h =
       | inr e ↦ rw (name_at_colon b bs h, value_at_colon b bs h, zero_more, some, e) refl
     ]
 
-field_more : (k b : ℕ) (bs : List ℕ) → is_colon b ≡ false → is_name_byte b ≡ true → field_from k (b ∷ bs) ≡ field_from (k + 1) bs
+field_more : (k b : ℕ) (bs : List ℕ) → is_colon b ≡ false → is_name_byte b ≡ true
+    → field_from k (b ∷ bs) ≡ field_from (k + 1) bs
 field_more k b bs h name =
     let up : k + suc (length (name_of bs)) ≡ k + 1 + length (name_of bs) = omega arith in
     let under : nat_lt (suc (length (name_of bs))) (suc (length bs)) ≡ nat_lt (length (name_of bs)) (length bs) = grind arith in
@@ -99,7 +98,8 @@ field_nil k = elim (cases_Bool (nat_lt 0 (k + 0))) [
   | inr e ↦ rw e refl
 ]
 
-says_more : (limits : FrameLimits) (k : ℕ) (same : List ℕ → Bool) (b : ℕ) (bs : List ℕ) (s : LineScan) → is_colon b ≡ false → is_name_byte b ≡ true
+says_more : (limits : FrameLimits) (k : ℕ) (same : List ℕ → Bool) (b : ℕ) (bs : List ℕ) (s : LineScan)
+    → is_colon b ≡ false → is_name_byte b ≡ true
     → RestSays limits (k + 1) (λ r. same (b ∷ r)) bs s → RestSays limits k same (b ∷ bs) s
 says_more limits k same b bs (Name n) h m says = field_more k b bs h m ∙ says
 says_more limits k same b bs OtherName h m says = field_more k b bs h m ∙ says
@@ -107,14 +107,16 @@ says_more limits k same b bs (Length d) h m says = (field_more k b bs h m ∙ sa
 says_more limits k same b bs OtherValue h m says = (field_more k b bs h m ∙ says.0, ap same (name_more b bs h) ∙ says.1)
 says_more limits k same b bs NoField h m says = field_more k b bs h m ∙ says
 
-says_alike : (limits : FrameLimits) (k : ℕ) (same other : List ℕ → Bool) (xs : List ℕ) (s : LineScan) → ((r : List ℕ) → other r ≡ same r) → RestSays limits k same xs s → RestSays limits k other xs s
+says_alike : (limits : FrameLimits) (k : ℕ) (same other : List ℕ → Bool) (xs : List ℕ) (s : LineScan)
+    → ((r : List ℕ) → other r ≡ same r) → RestSays limits k same xs s → RestSays limits k other xs s
 says_alike limits k same other xs (Name n) alike says = says
 says_alike limits k same other xs OtherName alike says = says
 says_alike limits k same other xs (Length d) alike says = (says.0, alike (name_of xs) ∙ says.1, says.2)
 says_alike limits k same other xs OtherValue alike says = (says.0, alike (name_of xs) ∙ says.1)
 says_alike limits k same other xs NoField alike says = says
 
-other_name : (limits : FrameLimits) (k : ℕ) (xs : List ℕ) → nat_lt 0 k ≡ true → RestSays limits k (λ r. false) xs (line_run OtherName xs)
+other_name : (limits : FrameLimits) (k : ℕ) (xs : List ℕ) → nat_lt 0 k ≡ true
+    → RestSays limits k (λ r. false) xs (line_run OtherName xs)
 other_name limits k [] some = field_nil k
 other_name limits k (b ∷ bs) some =
     elim (cases_Bool (is_colon b)) [
@@ -140,7 +142,8 @@ other_name limits k (b ∷ bs) some =
 abbrev is_rest : ℕ → List ℕ → Bool
 is_rest n r = str_eq_ignore_ascii_case r (drop n length_name)
 
-rest_more : (n b : ℕ) (r : List ℕ) → n < 14 → is_rest n (b ∷ r) ≡ (eq_ignore_ascii_case b (get_or length_name n 0) && is_rest (n + 1) r)
+rest_more : (n b : ℕ) (r : List ℕ) → n < 14
+    → is_rest n (b ∷ r) ≡ (eq_ignore_ascii_case b (get_or length_name n 0) && is_rest (n + 1) r)
 rest_more n b r less = at_drop_more (λ t. str_eq_ignore_ascii_case (b ∷ r) t) length_name n 0 less
 
 rest_none : (n : ℕ) → n < 14 → is_rest n [] ≡ false
@@ -213,7 +216,8 @@ field_whole : (line : List ℕ) → is_field_line line ≡ field_from 0 line
 field_whole line = let e : length (name_of line) ≡ 0 + length (name_of line) = omega arith in
     ap (λ n. nat_lt 0 n && nat_lt (length (name_of line)) (length line) && list_all is_name_byte (name_of line) && list_all is_value_byte (value_of line)) e
 
-whole_says : (limits : FrameLimits) (line : List ℕ) (s : LineScan) → RestSays limits 0 (is_rest 0) line s → LineSays limits line s
+whole_says : (limits : FrameLimits) (line : List ℕ) (s : LineScan) → RestSays limits 0 (is_rest 0) line s
+    → LineSays limits line s
 whole_says limits line (Name n) says = field_whole line ∙ says
 whole_says limits line OtherName says = field_whole line ∙ says
 whole_says limits line (Length d) says = (field_whole line ∙ says.0, says.1, says.2)
@@ -224,7 +228,7 @@ whole_says limits line NoField says = field_whole line ∙ says
 pub line_says : (limits : FrameLimits) (line : List ℕ) → LineSays limits line (line_run (Name 0) line)
 line_says limits line = whole_says limits line _ (names limits 0 line (omega arith))
 
--- one byte more
-pub run_more : (s : LineScan) (xs : List ℕ) (b : ℕ) → line_run s (xs ++ b ∷ []) ≡ line_step (line_run s xs) b
-run_more s [] b = refl
-run_more s (x ∷ xs) b = run_more (line_step s x) xs b
+-- a run over more bytes goes on from the run over the first
+pub run_append : (s : LineScan) (xs ys : List ℕ) → line_run s (xs ++ ys) ≡ line_run (line_run s xs) ys
+run_append s [] ys = refl
+run_append s (x ∷ xs) ys = run_append (line_step s x) xs ys

@@ -1,170 +1,26 @@
--- A byte more of a header part: what is kept stays that of its bytes.
-use Rattle.std.proofs.Common.{◌≡◌, ℕ, zero, suc, ◌+◌, ◌-◌, ◌<◌, ◌≤◌, Bool, true, false, ◌&&◌, cond, List, [], ◌∷◌, ◌++◌, length, take, drop, Result, Ok, Err, refl, sym, ap, ◌∙◌, subst, arith, inl, inr, nat_eq}
-use Rattle.std.proofs.lemmas.Bool.{cases_Bool, cases_lt, and_left, and_right, cond-true, cond-false, false≢true, eqb-true}
-use Rattle.std.proofs.lemmas.List.{take-append-le, take_all, append_assoc, append-nil, length-append, length-drop, drop-append-le}
-use Rattle.std.specs.List.{list_all, ends_with, AllByRecursion, filter}
-use lib.Pointwise.{pointwise}
+-- The scan of a header part stays that of its bytes, as one byte more comes.
+use Rattle.std.proofs.Common.{◌≡◌, ℕ, ◌+◌, true, false, ◌&&◌, List, [], ◌∷◌, ◌++◌, length, Err, refl, sym, ap, ◌∙◌, subst, arith, inl, inr, nat_eq}
+use Rattle.std.proofs.lemmas.Bool.{cases_Bool, and_left, and_right, eqb-true}
+use Rattle.std.proofs.lemmas.List.{take-append-le, take_all, append_assoc, append-nil, length-append}
+use Rattle.std.specs.List.{ends_with, AllByRecursion}
 use Rattle.dap_frame.specs.declared.limits.FrameLimits.{FrameLimits}
-use Rattle.dap_frame.specs.declared.fault.FrameFault.{FrameFault}
-use Rattle.dap_frame.specs.declared.fault.FrameFault.TheVariants.{TwoLengths, NoLength}
+use Rattle.dap_frame.specs.declared.fault.FrameFault.TheVariants.{NoLength}
 use Rattle.dap_frame.specs.declared.line_scan.LineScan.{LineScan}
-use Rattle.dap_frame.specs.declared.line_scan.LineScan.TheVariants.{Name, OtherName, Length, OtherValue, NoField}
+use Rattle.dap_frame.specs.declared.line_scan.LineScan.TheVariants.{Name}
 use Rattle.dap_frame.specs.declared.header_scan.EndMark.{EndMark}
 use Rattle.dap_frame.specs.declared.header_scan.EndMark.TheVariants.{Nothing, Cr, CrLf, CrLfCr}
 use Rattle.dap_frame.specs.declared.header_scan.Findings.{Findings}
 use Rattle.dap_frame.specs.declared.header_scan.HeaderScan.{HeaderScan}
-use Rattle.dap_frame.specs.declared.header_scan.ScanStep.TheVariants.{Unfinished, Ended}
-use Rattle.dap_frame.specs.Lines.{Lacks, line_end, header_end, ended, is_field_line, is_length_line, value_of, trimmed}
-use Rattle.dap_frame.specs.Frame.{lengths_in, the_length, length_from}
+use Rattle.dap_frame.specs.declared.header_scan.ScanStep.TheVariants.{Unfinished}
+use Rattle.dap_frame.specs.Lines.{Lacks, line_end, header_end, ended}
 use Rattle.dap_frame.specs.LineScan.{LineSays, line_run, line_step}
-use Rattle.dap_frame.specs.Findings.{AreFindings, FindsLength, is_some_line, with_no_field, with_line}
-use Rattle.dap_frame.specs.HeaderScan.{pending, held_line, at_cr, at_lf, header_step, HeaderEnds, StepGives, ends, IsMark, is_cr, is_crlf, is_crlfcr, FitsMark, IsScanOf}
+use Rattle.dap_frame.specs.Findings.{AreFindings, with_line}
+use Rattle.dap_frame.specs.HeaderScan.{held_line, at_cr, at_lf, header_step, HeaderEnds, StepGives, ends, IsMark, is_cr, FitsMark, IsScanOf}
 use Rattle.dap_frame.proofs.Marks.{ends_at_front}
-use Rattle.dap_frame.proofs.LineRuns.{line_says, run_more}
-
-and_true : (b : Bool) → (b && true) ≡ b
-and_true true = refl
-and_true false = refl
-
-and_assoc : (a b c : Bool) → (a && (b && c)) ≡ ((a && b) && c)
-and_assoc true b c = refl
-and_assoc false b c = refl
-
-nil_snoc : (ys : List ℕ) (b : ℕ) → pointwise nat_eq [] (ys ++ b ∷ []) ≡ false
-nil_snoc [] b = refl
-nil_snoc (y ∷ ys) b = refl
-
-snoc_nil : (m : List ℕ) (c : ℕ) → pointwise nat_eq (m ++ c ∷ []) [] ≡ false
-snoc_nil [] c = refl
-snoc_nil (x ∷ m) c = refl
-
-snoc_alike : (m ys : List ℕ) (c b : ℕ) → pointwise nat_eq (m ++ c ∷ []) (ys ++ b ∷ []) ≡ (pointwise nat_eq m ys && nat_eq c b)
-snoc_alike [] [] c b = and_true (nat_eq c b)
-snoc_alike [] (y ∷ ys) c b = and_right (nat_eq c y) _ (nil_snoc ys b)
-snoc_alike (x ∷ m) [] c b = and_right (nat_eq x b) _ (snoc_nil m c)
-snoc_alike (x ∷ m) (y ∷ ys) c b = ap (λ t. nat_eq x y && t) (snoc_alike m ys c b) ∙ and_assoc (nat_eq x y) (pointwise nat_eq m ys) (nat_eq c b)
-
-ends_more : (m xs : List ℕ) (c b : ℕ) → ends (m ++ c ∷ []) (xs ++ b ∷ []) ≡ (ends m xs && nat_eq c b)
-ends_more m xs c b =
-    let n : length (xs ++ b ∷ []) - length (m ++ c ∷ []) ≡ length xs - length m = omega (arith, length-append xs (b ∷ []), length-append m (c ∷ [])) in
-    ap (λ n. pointwise nat_eq (m ++ c ∷ []) (drop n (xs ++ b ∷ []))) n
-    ∙ ap (pointwise nat_eq (m ++ c ∷ [])) (drop-append-le (length xs - length m) xs (b ∷ []) (omega arith))
-    ∙ snoc_alike m (drop (length xs - length m) xs) c b
-
-is_empty : (xs : List ℕ) → length xs ≡ 0 → xs ≡ []
-is_empty [] e = refl
-is_empty (x ∷ xs) e = absurd (omega arith)
-
-ends_nil : (xs : List ℕ) → ends [] xs ≡ true
-ends_nil xs = ap (pointwise nat_eq []) (is_empty (drop (length xs - 0) xs) (omega (arith, length-drop (length xs - 0) xs)))
-
-pub lacks_more : (m xs : List ℕ) (b : ℕ) → Lacks m xs → ends m (xs ++ b ∷ []) ≡ false → Lacks m (xs ++ b ∷ [])
-lacks_more m xs b lacks last j le =
-    elim (cases_lt j (length xs + 1)) [
-      | inl less ↦ ends_at_front m (xs ++ b ∷ []) xs j (length xs) (omega arith) (take-append-le (length xs) xs (b ∷ []) (omega arith)) ∙ lacks j (omega arith)
-      | inr past ↦ ap (λ p. ends_with nat_eq p m) (take_all j (xs ++ b ∷ []) (omega (arith, length-append xs (b ∷ [])))) ∙ last
-    ]
-
-abbrev lf_mark : EndMark → EndMark
-lf_mark Nothing = Nothing
-lf_mark Cr = CrLf
-lf_mark CrLf = Nothing
-lf_mark CrLfCr = CrLf
-
-lf_two : (mark : EndMark) → is_cr mark ≡ is_crlf (lf_mark mark)
-lf_two Nothing = refl
-lf_two Cr = refl
-lf_two CrLf = refl
-lf_two CrLfCr = refl
-
-lf_others : (mark : EndMark) → (false ≡ is_cr (lf_mark mark)) × (false ≡ is_crlfcr (lf_mark mark))
-lf_others Nothing = (refl, refl)
-lf_others Cr = (refl, refl)
-lf_others CrLf = (refl, refl)
-lf_others CrLfCr = (refl, refl)
-
-cr_all : (mark : EndMark) → (true ≡ is_cr (at_cr mark)) × (false ≡ is_crlf (at_cr mark)) × (is_crlf mark ≡ is_crlfcr (at_cr mark)) × (pending (at_cr mark) ≡ 13 ∷ [])
-cr_all Nothing = (refl, refl, refl, refl)
-cr_all Cr = (refl, refl, refl, refl)
-cr_all CrLf = (refl, refl, refl, refl)
-cr_all CrLfCr = (refl, refl, refl, refl)
-
-mark_lf : (bytes : List ℕ) (mark : EndMark) → IsMark bytes mark → IsMark (bytes ++ 10 ∷ []) (lf_mark mark)
-mark_lf bytes mark h = record {
-  one = ends_more [] bytes 13 10 ∙ and_right (ends [] bytes) _ refl ∙ (lf_others mark).0;
-  two = ends_more (13 ∷ []) bytes 10 10 ∙ and_true (ends (13 ∷ []) bytes) ∙ h.one ∙ lf_two mark;
-  three = ends_more (13 ∷ 10 ∷ []) bytes 13 10 ∙ and_right (ends (13 ∷ 10 ∷ []) bytes) _ refl ∙ (lf_others mark).1;
-}
-
-mark_cr : (bytes : List ℕ) (mark : EndMark) → IsMark bytes mark → IsMark (bytes ++ 13 ∷ []) (at_cr mark)
-mark_cr bytes mark h = record {
-  one = ends_more [] bytes 13 13 ∙ and_true (ends [] bytes) ∙ ends_nil bytes ∙ (cr_all mark).0;
-  two = ends_more (13 ∷ []) bytes 10 13 ∙ and_right (ends (13 ∷ []) bytes) _ refl ∙ (cr_all mark).1;
-  three = ends_more (13 ∷ 10 ∷ []) bytes 13 13 ∙ and_true (ends (13 ∷ 10 ∷ []) bytes) ∙ h.two ∙ (cr_all mark).2;
-}
-
-mark_other : (bytes : List ℕ) (b : ℕ) → nat_eq 13 b ≡ false → nat_eq 10 b ≡ false → IsMark (bytes ++ b ∷ []) Nothing
-mark_other bytes b no_cr no_lf = record {
-  one = ends_more [] bytes 13 b ∙ and_right (ends [] bytes) _ no_cr;
-  two = ends_more (13 ∷ []) bytes 10 b ∙ and_right (ends (13 ∷ []) bytes) _ no_lf;
-  three = ends_more (13 ∷ 10 ∷ []) bytes 13 b ∙ and_right (ends (13 ∷ 10 ∷ []) bytes) _ no_cr;
-}
-
-all_push : (p : List ℕ → Bool) (xs : List (List ℕ)) (x : List ℕ) → list_all p (xs ++ x ∷ []) ≡ (list_all p xs && p x)
-all_push p [] x = and_true (p x)
-all_push p (y ∷ ys) x = ap (λ t. p y && t) (all_push p ys x) ∙ and_assoc (p y) (list_all p ys) (p x)
-
-lengths_yes : (lines : List (List ℕ)) (line : List ℕ) → is_length_line line ≡ true → lengths_in (lines ++ line ∷ []) ≡ lengths_in lines ++ value_of line ∷ []
-lengths_yes [] line h = rw h refl
-lengths_yes (l ∷ ls) line h =
-    elim (cases_Bool (is_length_line l)) [
-      | inl e ↦ rw e (ap (λ vs. value_of l ∷ vs) (lengths_yes ls line h))
-      | inr e ↦ rw e (lengths_yes ls line h)
-    ]
-
-lengths_no : (lines : List (List ℕ)) (line : List ℕ) → is_length_line line ≡ false → lengths_in (lines ++ line ∷ []) ≡ lengths_in lines
-lengths_no [] line h = rw h refl
-lengths_no (l ∷ ls) line h =
-    elim (cases_Bool (is_length_line l)) [
-      | inl e ↦ rw e (ap (λ vs. value_of l ∷ vs) (lengths_no ls line h))
-      | inr e ↦ rw e (lengths_no ls line h)
-    ]
-
-length_push : (limits : FrameLimits) (vs : List (List ℕ)) (v : List ℕ) (has : Bool) (said : Result ℕ FrameFault) → has ≡ is_some_line vs → length_from limits (trimmed v) ≡ said
-    → cond has (Err TwoLengths) said ≡ the_length limits (vs ++ v ∷ [])
-length_push limits [] v has said h e = rw h (sym e)
-length_push limits (w ∷ []) v has said h e = rw h refl
-length_push limits (w ∷ u ∷ ws) v has said h e = rw h refl
-
-some_push : (vs : List (List ℕ)) (v : List ℕ) → true ≡ is_some_line (vs ++ v ∷ [])
-some_push [] v = refl
-some_push (w ∷ ws) v = refl
-
-no_field : (limits : FrameLimits) (lines : List (List ℕ)) (line : List ℕ) (findings : Findings) → is_field_line line ≡ false
-    → AreFindings limits (lines ++ line ∷ []) (record { are_fields = false; has_length = findings.has_length; length = findings.length })
-no_field limits lines line findings wrong = record {
-  are_fields = sym (all_push is_field_line lines line ∙ and_right (list_all is_field_line lines) _ wrong);
-  lengths = λ e. absurd (false≢true e);
-}
-
-pub found_more : (limits : FrameLimits) (lines : List (List ℕ)) (line : List ℕ) (findings : Findings) (s : LineScan) → LineSays limits line s → AreFindings limits lines findings → AreFindings limits (lines ++ line ∷ []) (with_line limits findings s)
-found_more limits lines line findings (Name n) says found = no_field limits lines line findings says
-found_more limits lines line findings OtherName says found = no_field limits lines line findings says
-found_more limits lines line findings NoField says found = no_field limits lines line findings says
-found_more limits lines line findings (Length d) says found = record {
-  are_fields = found.are_fields ∙ sym (all_push is_field_line lines line ∙ ap (λ t. list_all is_field_line lines && t) says.0 ∙ and_true (list_all is_field_line lines));
-  lengths = λ e. let t = found.lengths e in record {
-    length = length_push limits (lengths_in lines) (value_of line) findings.has_length _ t.has_length says.2 ∙ ap (the_length limits) (sym (lengths_yes lines line says.1));
-    has_length = some_push (lengths_in lines) (value_of line) ∙ ap is_some_line (sym (lengths_yes lines line says.1));
-  };
-}
-found_more limits lines line findings OtherValue says found = record {
-  are_fields = found.are_fields ∙ sym (all_push is_field_line lines line ∙ ap (λ t. list_all is_field_line lines && t) says.0 ∙ and_true (list_all is_field_line lines));
-  lengths = λ e. let t = found.lengths e in record {
-    length = t.length ∙ ap (the_length limits) (sym (lengths_no lines line says.1));
-    has_length = t.has_length ∙ ap is_some_line (sym (lengths_no lines line says.1));
-  };
-}
+use Rattle.dap_frame.proofs.LineRuns.{line_says, run_append}
+use Rattle.dap_frame.proofs.Ends.{and_true, ends_more, ends_nil, lacks_more, no_line_end, no_header_end}
+use Rattle.dap_frame.proofs.EndMarks.{cr_all, mark_lf, mark_cr, mark_other}
+use Rattle.dap_frame.proofs.FindingsSteps.{found_more}
 
 -- the present line with the CR that stands behind it
 record HeldLine (limits : FrameLimits) (bytes : List ℕ) (count : ℕ) (mark : EndMark) (findings : Findings) (state : LineScan) : Type 0 where
@@ -184,7 +40,8 @@ scan_of count mark findings line = record { count = count; mark = mark; findings
 held_cr : (present : List ℕ) → Lacks line_end present → Lacks line_end (present ++ 13 ∷ [])
 held_cr present lacks = lacks_more line_end present 13 lacks (ends_more (13 ∷ []) present 10 13 ∙ and_right (ends (13 ∷ []) present) _ refl)
 
-held_of : (limits : FrameLimits) (bytes : List ℕ) (count : ℕ) (mark : EndMark) (findings : Findings) (line : LineScan) → IsScanOf limits bytes (scan_of count mark findings line) → HeldLine limits bytes count mark findings line
+held_of : (limits : FrameLimits) (bytes : List ℕ) (count : ℕ) (mark : EndMark) (findings : Findings) (line : LineScan)
+    → IsScanOf limits bytes (scan_of count mark findings line) → HeldLine limits bytes count mark findings line
 held_of limits bytes count Nothing findings line h =
     let same = append-nil h.present in
     record {
@@ -206,7 +63,7 @@ held_of limits bytes count Cr findings line h =
       each = h.each;
       one_line = held_cr h.present h.one_line;
       cr = ends_more [] h.present 13 13 ∙ and_true (ends [] h.present) ∙ ends_nil h.present;
-      line = ap (λ s. line_step s 13) h.line ∙ sym (run_more (Name 0) h.present 13);
+      line = ap (λ s. line_step s 13) h.line ∙ sym (run_append (Name 0) h.present (13 ∷ []));
       fits = tt;
       found = h.found;
     }
@@ -231,7 +88,7 @@ held_of limits bytes count CrLfCr findings line h =
       each = h.each;
       one_line = held_cr h.present h.one_line;
       cr = ends_more [] h.present 13 13 ∙ and_true (ends [] h.present) ∙ ends_nil h.present;
-      line = ap (λ s. line_step s 13) h.line ∙ sym (run_more (Name 0) h.present 13);
+      line = ap (λ s. line_step s 13) h.line ∙ sym (run_append (Name 0) h.present (13 ∷ []));
       fits = tt;
       found = h.found;
     }
@@ -241,7 +98,8 @@ counted bytes b count e = omega (arith, e, length-append bytes (b ∷ []))
 
 -- a byte that ends no line and is no CR
 push : (limits : FrameLimits) (bytes : List ℕ) (count : ℕ) (mark : EndMark) (findings : Findings) (line : LineScan) (b : ℕ)
-    → IsScanOf limits bytes (scan_of count mark findings line) → nat_eq 13 b ≡ false → (is_cr mark && nat_eq 10 b) ≡ false
+    → IsScanOf limits bytes (scan_of count mark findings line) → nat_eq 13 b ≡ false
+    → (is_cr mark && nat_eq 10 b) ≡ false
     → IsMark (bytes ++ b ∷ []) Nothing → Lacks header_end (bytes ++ b ∷ [])
     → IsScanOf limits (bytes ++ b ∷ []) (scan_of (count + 1) Nothing findings (line_step (held_line mark line) b))
 push limits bytes count mark findings line b h no_cr no_end is_mark lacks =
@@ -254,14 +112,15 @@ push limits bytes count mark findings line b h no_cr no_end is_mark lacks =
       each = g.each;
       one_line = lacks_more line_end g.held b g.one_line (ends_more (13 ∷ []) g.held 10 b ∙ ap (λ t. t && nat_eq 10 b) g.cr ∙ no_end);
       fits = ends_more [] g.held 13 b ∙ and_right (ends [] g.held) _ no_cr;
-      line = ap (λ s. line_step s b) g.line ∙ sym (run_more (Name 0) g.held b);
+      line = ap (λ s. line_step s b) g.line ∙ sym (run_append (Name 0) g.held (b ∷ []));
       found = g.found;
       mark = is_mark;
       lacks = lacks;
     }
 
 push_cr : (limits : FrameLimits) (bytes : List ℕ) (count : ℕ) (mark : EndMark) (findings : Findings) (line : LineScan)
-    → IsScanOf limits bytes (scan_of count mark findings line) → IsScanOf limits (bytes ++ 13 ∷ []) (scan_of (count + 1) (at_cr mark) findings (held_line mark line))
+    → IsScanOf limits bytes (scan_of count mark findings line)
+    → IsScanOf limits (bytes ++ 13 ∷ []) (scan_of (count + 1) (at_cr mark) findings (held_line mark line))
 push_cr limits bytes count mark findings line h =
     let g = held_of limits bytes count mark findings line h in
     record {
@@ -278,21 +137,19 @@ push_cr limits bytes count mark findings line h =
       lacks = lacks_more header_end bytes 13 h.lacks (ends_more (13 ∷ 10 ∷ 13 ∷ []) bytes 10 13 ∙ and_right (ends (13 ∷ 10 ∷ 13 ∷ []) bytes) _ refl);
     }
 
-no_line : Lacks line_end []
-no_line zero h = refl
-no_line (suc j) h = refl
-
 flat_push : (lines : List (List ℕ)) (line : List ℕ) → ended (lines ++ line ∷ []) ≡ ended lines ++ (line ++ line_end)
 flat_push [] line = append-nil (line ++ line_end)
 flat_push (x ∷ xs) line = ap (λ ys. x ++ line_end ++ ys) (flat_push xs line) ∙ sym (append_assoc (x ++ line_end) (ended xs) (line ++ line_end))
 
-each_push : (lines : List (List ℕ)) (line : List ℕ) → AllByRecursion (Lacks line_end) lines → Lacks line_end line → AllByRecursion (Lacks line_end) (lines ++ line ∷ [])
+each_push : (lines : List (List ℕ)) (line : List ℕ) → AllByRecursion (Lacks line_end) lines → Lacks line_end line
+    → AllByRecursion (Lacks line_end) (lines ++ line ∷ [])
 each_push [] line all one = (one, tt)
 each_push (x ∷ xs) line all one = (all.0, each_push xs line all.1 one)
 
 -- a line's end
 end_line : (limits : FrameLimits) (bytes : List ℕ) (count : ℕ) (findings : Findings) (line : LineScan)
-    → IsScanOf limits bytes (scan_of count Cr findings line) → IsScanOf limits (bytes ++ 10 ∷ []) (scan_of (count + 1) CrLf (with_line limits findings line) (Name 0))
+    → IsScanOf limits bytes (scan_of count Cr findings line)
+    → IsScanOf limits (bytes ++ 10 ∷ []) (scan_of (count + 1) CrLf (with_line limits findings line) (Name 0))
 end_line limits bytes count findings line h = record {
   lines = h.lines ++ h.present ∷ [];
   present = [];
@@ -300,7 +157,7 @@ end_line limits bytes count findings line h = record {
   bytes_are = ap (λ xs. xs ++ 10 ∷ []) h.bytes_are ∙ append_assoc (ended h.lines) (h.present ++ 13 ∷ []) (10 ∷ []) ∙ ap (λ xs. ended h.lines ++ xs) (append_assoc h.present (13 ∷ []) (10 ∷ []))
       ∙ sym (flat_push h.lines h.present) ∙ sym (append-nil (ended (h.lines ++ h.present ∷ [])));
   each = each_push h.lines h.present h.each h.one_line;
-  one_line = no_line;
+  one_line = no_line_end;
   fits = refl;
   line = refl;
   found = found_more limits h.lines h.present findings line (subst (LineSays limits h.present) (sym h.line) (line_says limits h.present)) h.found;
@@ -329,7 +186,8 @@ end_header limits bytes count findings line h =
     }
 
 at_line_feed : (limits : FrameLimits) (bytes : List ℕ) (count : ℕ) (mark : EndMark) (findings : Findings) (line : LineScan)
-    → IsScanOf limits bytes (scan_of count mark findings line) → StepGives limits bytes 10 (at_lf limits (scan_of count mark findings line))
+    → IsScanOf limits bytes (scan_of count mark findings line)
+    → StepGives limits bytes 10 (at_lf limits (scan_of count mark findings line))
 at_line_feed limits bytes count Nothing findings line h =
     push limits bytes count Nothing findings line 10 h refl refl (mark_lf bytes Nothing h.mark)
     (lacks_more header_end bytes 10 h.lacks (ends_more (13 ∷ 10 ∷ 13 ∷ []) bytes 10 10 ∙ and_left (ends (13 ∷ 10 ∷ 13 ∷ []) bytes) _ h.mark.three))
@@ -340,7 +198,8 @@ at_line_feed limits bytes count CrLf findings line h =
 at_line_feed limits bytes count CrLfCr findings line h = end_header limits bytes count findings line h
 
 -- what is kept of the bytes and one more
-pub scan_gives : (limits : FrameLimits) (bytes : List ℕ) (scan : HeaderScan) (b : ℕ) → IsScanOf limits bytes scan → StepGives limits bytes b (header_step limits scan b)
+pub scan_gives : (limits : FrameLimits) (bytes : List ℕ) (scan : HeaderScan) (b : ℕ) → IsScanOf limits bytes scan
+    → StepGives limits bytes b (header_step limits scan b)
 scan_gives limits bytes scan b h =
     elim (cases_Bool (nat_eq b 10)) [
       | inl lf ↦ (
@@ -361,10 +220,6 @@ scan_gives limits bytes scan b h =
       ]
     ]
 
-no_end : Lacks header_end []
-no_end zero h = refl
-no_end (suc j) h = refl
-
 -- the findings of no lines
 abbrev pub none_found : Findings
 none_found = record { are_fields = true; has_length = false; length = Err NoLength }
@@ -377,10 +232,10 @@ scan_start limits = record {
   count = refl;
   bytes_are = refl;
   each = tt;
-  one_line = no_line;
+  one_line = no_line_end;
   fits = refl;
   line = refl;
   found = record { are_fields = refl; lengths = λ h. record { length = refl; has_length = refl } };
   mark = record { one = refl; two = refl; three = refl };
-  lacks = no_end;
+  lacks = no_header_end;
 }

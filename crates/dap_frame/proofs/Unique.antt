@@ -1,16 +1,17 @@
--- A header part has one list of lines and says one thing, so bytes begin with one frame, or show one fault, or are open.
-use Rattle.std.proofs.Common.{◌≡◌, ℕ, zero, suc, ◌+◌, ◌-◌, ◌<◌, ◌≤◌, ◌⊎◌, inl, inr, ⊎_elim, Bool, true, false, List, [], ◌∷◌, ◌++◌, length, take, drop, get_or, Result, Ok, Err, refl, sym, ap, ◌∙◌, subst, arith, nat_eq}
-use Rattle.std.proofs.lemmas.List.{take-append-le, take_at, append_assoc, append_cancel_left, length-append, length-take, length-take-le, length-drop, take-take, take-append-drop, drop_at, get_or-append-add}
+-- A header part has one list of lines and says one thing, so bytes begin with one frame, or show
+-- one fault, or are open.
+use Rattle.std.proofs.Common.{◌≡◌, ℕ, ◌+◌, ◌-◌, ◌<◌, ◌≤◌, ⊎_elim, true, List, [], ◌∷◌, ◌++◌, length, take, drop, get_or, Result, Ok, Err, refl, sym, ap, ◌∙◌, subst, arith, nat_eq}
+use Rattle.std.proofs.lemmas.List.{take-append-le, take_at, append_assoc, append_cancel_left, length-append, length-take, length-drop, take-take, drop_at, get_or-append-add}
 use Rattle.std.proofs.lemmas.Bool.{false≢true, cases_lt}
 use Rattle.std.proofs.Math.Seq.{take-append-add}
 use Rattle.std.specs.List.{ends_with, AllByRecursion}
 use lib.Pointwise.{pointwise}
 use Rattle.dap_frame.specs.declared.limits.FrameLimits.{FrameLimits}
 use Rattle.dap_frame.specs.declared.fault.FrameFault.{FrameFault}
-use Rattle.dap_frame.specs.Lines.{ends_at, IsFirstEnd, header_end, Lacks, line_end, ended, AreLines}
+use Rattle.dap_frame.specs.Lines.{ends_at, IsFirstEnd, header_end, Lacks, line_end, ended}
 use Rattle.dap_frame.specs.Frame.{Says, BeginsWith, IsFrame, Shows, in_header, too_long, IsOpen, header_open, content_open, judged}
 use Rattle.dap_frame.proofs.Marks.{ends_at_front, BeginsWith-more}
-use Rattle.dap_frame.proofs.SameMark.{same_mark}
+use Rattle.dap_frame.proofs.Ends.{same_mark, no_header_end}
 
 -- behind a line stands its end
 ends_behind : (line rest : List ℕ) → ends_at line_end (line ++ (line_end ++ rest)) (length line + 2) ≡ true
@@ -19,7 +20,8 @@ ends_behind line rest =
     ∙ ap (λ n. pointwise nat_eq line_end (drop n (line ++ line_end))) (let e : length (line ++ line_end) - 2 ≡ length line = omega (arith, length-append line line_end) in e)
     ∙ ap (pointwise nat_eq line_end) (drop_at line line_end (length line) refl) ∙ same_mark line_end
 
-not_shorter : (l m r s : List ℕ) → Lacks line_end m → l ++ (line_end ++ r) ≡ m ++ (line_end ++ s) → length l < length m → ⊥
+not_shorter : (l m r s : List ℕ) → Lacks line_end m → l ++ (line_end ++ r) ≡ m ++ (line_end ++ s) → length l < length m
+    → ⊥
 not_shorter l m r s lacks e short =
     ⊎_elim
     (λ (one : length m < length l + 2).
@@ -32,7 +34,8 @@ not_shorter l m r s lacks e short =
     false≢true (sym (lacks (length l + 2) long) ∙ same ∙ ap (λ xs. ends_at line_end xs (length l + 2)) (sym e) ∙ whole))
     (cases_lt (length m) (length l + 2))
 
-same_line : (l m r s : List ℕ) → Lacks line_end l → Lacks line_end m → l ++ (line_end ++ r) ≡ m ++ (line_end ++ s) → l ≡ m
+same_line : (l m r s : List ℕ) → Lacks line_end l → Lacks line_end m → l ++ (line_end ++ r) ≡ m ++ (line_end ++ s)
+    → l ≡ m
 same_line l m r s lacks_l lacks_m e =
     let up : length l < length m → ⊥ = not_shorter l m r s lacks_m e in
     let down : length m < length l → ⊥ = not_shorter m l s r lacks_l (sym e) in
@@ -54,7 +57,8 @@ lines_unique (l ∷ ls) (m ∷ ms) p q e =
     let more = lines_unique ls ms p.1 q.1 (append_cancel_left line_end _ _ rest) in
     ap (λ x. x ∷ ls) same ∙ ap (λ xs. m ∷ xs) more
 
-pub says_one : (limits : FrameLimits) (header : List ℕ) (a b : Result ℕ FrameFault) → Says limits header a → Says limits header b → a ≡ b
+pub says_one : (limits : FrameLimits) (header : List ℕ) (a b : Result ℕ FrameFault) → Says limits header a
+    → Says limits header b → a ≡ b
 says_one limits header a b p q =
     let same = lines_unique p.lines q.lines p.are_lines.each q.are_lines.each (sym p.are_lines.bytes ∙ q.are_lines.bytes) in
     p.said_so ∙ ap (judged limits) same ∙ sym q.said_so
@@ -65,7 +69,8 @@ first_end_one mark x i j p q =
     let down : j < i → ⊥ = λ h. false≢true (sym (p.first j h) ∙ q.ends) in
     ⊎_elim (λ h. absurd (up h)) (λ (le : j ≤ i). ⊎_elim (λ h. absurd (down h)) (λ (ge : i ≤ j). omega arith) (cases_lt j i)) (cases_lt i j)
 
-pub begins_one : (limits : FrameLimits) (x : List ℕ) (i j : ℕ) (a b : Result ℕ FrameFault) → BeginsWith limits x i a → BeginsWith limits x j b → (i ≡ j) × (a ≡ b)
+pub begins_one : (limits : FrameLimits) (x : List ℕ) (i j : ℕ) (a b : Result ℕ FrameFault) → BeginsWith limits x i a
+    → BeginsWith limits x j b → (i ≡ j) × (a ≡ b)
 begins_one limits x i j a b p q =
     let same = first_end_one header_end x i j p.ended q.ended in
     (same, says_one limits (take j x) a b (subst (λ k. Says limits (take k x) a) same p.says) q.says)
@@ -77,7 +82,8 @@ err_inj : (f g : FrameFault) → ◌≡◌ {A = Result ℕ FrameFault} (Err f) (
 err_inj f g e = cc
 
 -- a header part within the limit ends in the first bytes up to the limit
-no_end : (limits : FrameLimits) (x : List ℕ) (len : ℕ) (said : Result ℕ FrameFault) → BeginsWith limits x len said → Lacks header_end (take limits.header x) → ⊥
+no_end : (limits : FrameLimits) (x : List ℕ) (len : ℕ) (said : Result ℕ FrameFault) → BeginsWith limits x len said
+    → Lacks header_end (take limits.header x) → ⊥
 no_end limits x len said begins lacks =
     let low = begins.within in
     let in_x = begins.ended.within in
@@ -92,7 +98,8 @@ frame_begins limits frame more content is =
     let within = is.header.ended.within in
     (BeginsWith-more limits frame more is.len (Ok (length content)) is.header, omega (arith, ap length is.content_is, length-drop is.len frame))
 
-pub one_frame : (limits : FrameLimits) (f g y z c d : List ℕ) → f ++ y ≡ g ++ z → IsFrame limits f c → IsFrame limits g d → (f ≡ g) × (c ≡ d)
+pub one_frame : (limits : FrameLimits) (f g y z c d : List ℕ) → f ++ y ≡ g ++ z → IsFrame limits f c
+    → IsFrame limits g d → (f ≡ g) × (c ≡ d)
 one_frame limits f g y z c d e p q =
     let a = frame_begins limits f y c p in
     let b = frame_begins limits g z d q in
@@ -102,21 +109,18 @@ one_frame limits f g y z c d e p q =
     let whole : f ≡ g = sym (take_at f y (length f) refl) ∙ ap (take (length f)) e ∙ take_at g z (length f) long in
     (whole, sym p.content_is ∙ ap (λ k. drop k f) same.0 ∙ ap (drop q.len) whole ∙ q.content_is)
 
--- no header part ends in no bytes
-pub lacks_none : Lacks header_end []
-lacks_none zero h = refl
-lacks_none (suc j) h = refl
-
 pub no_empty_frame : (limits : FrameLimits) (content : List ℕ) → IsFrame limits [] content → ⊥
-no_empty_frame limits content is = false≢true (sym (lacks_none is.len is.header.ended.within) ∙ is.header.ended.ends)
+no_empty_frame limits content is = false≢true (sym (no_header_end is.len is.header.ended.within) ∙ is.header.ended.ends)
 
-pub frame_not_faulty : (limits : FrameLimits) (frame more content : List ℕ) (fault : FrameFault) (i : ℕ) → IsFrame limits frame content → Shows limits (frame ++ more) fault i → ⊥
+pub frame_not_faulty : (limits : FrameLimits) (frame more content : List ℕ) (fault : FrameFault) (i : ℕ)
+    → IsFrame limits frame content → Shows limits (frame ++ more) fault i → ⊥
 frame_not_faulty limits frame more content fault i is (in_header h) =
     let same = (begins_one limits (frame ++ more) is.len i _ _ (frame_begins limits frame more content is).0 h).1 in cc
 frame_not_faulty limits frame more content fault i is (too_long long lacks) =
     no_end limits (frame ++ more) is.len _ (frame_begins limits frame more content is).0 lacks
 
-pub frame_not_open : (limits : FrameLimits) (frame more content : List ℕ) → IsFrame limits frame content → IsOpen limits (frame ++ more) → ⊥
+pub frame_not_open : (limits : FrameLimits) (frame more content : List ℕ) → IsFrame limits frame content
+    → IsOpen limits (frame ++ more) → ⊥
 frame_not_open limits frame more content is (header_open short lacks) =
     let begins = (frame_begins limits frame more content is).0 in
     false≢true (sym (lacks is.len begins.ended.within) ∙ begins.ended.ends)
@@ -126,13 +130,15 @@ frame_not_open limits frame more content is (content_open len content_len begins
     let size = ok_inj _ _ same.1 in
     omega (arith, mine.1, same.0, length-append frame more)
 
-pub open_not_faulty : (limits : FrameLimits) (bytes : List ℕ) (fault : FrameFault) (i : ℕ) → IsOpen limits bytes → Shows limits bytes fault i → ⊥
+pub open_not_faulty : (limits : FrameLimits) (bytes : List ℕ) (fault : FrameFault) (i : ℕ) → IsOpen limits bytes
+    → Shows limits bytes fault i → ⊥
 open_not_faulty limits bytes fault i (header_open short lacks) (in_header h) = false≢true (sym (lacks i h.ended.within) ∙ h.ended.ends)
 open_not_faulty limits bytes fault i (header_open short lacks) (too_long long nowhere) = omega arith
 open_not_faulty limits bytes fault i (content_open len content begins short) (in_header h) = let same = (begins_one limits bytes len i _ _ begins h).1 in cc
 open_not_faulty limits bytes fault i (content_open len content begins short) (too_long long lacks) = no_end limits bytes len _ begins lacks
 
-pub one_fault : (limits : FrameLimits) (bytes : List ℕ) (f g : FrameFault) (i j : ℕ) → Shows limits bytes f i → Shows limits bytes g j → (f ≡ g) × (i ≡ j)
+pub one_fault : (limits : FrameLimits) (bytes : List ℕ) (f g : FrameFault) (i j : ℕ) → Shows limits bytes f i
+    → Shows limits bytes g j → (f ≡ g) × (i ≡ j)
 one_fault limits bytes f g i j (in_header p) (in_header q) =
     let same = begins_one limits bytes i j _ _ p q in (err_inj f g same.1, same.0)
 one_fault limits bytes f g i j (in_header p) (too_long long lacks) = absurd (no_end limits bytes i _ p lacks)

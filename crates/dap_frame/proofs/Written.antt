@@ -1,8 +1,8 @@
 -- What is written for a content is a frame with this content: the scan of its header part says so.
-use Rattle.std.proofs.Common.{◌≡◌, ℕ, zero, suc, ◌+◌, ◌-◌, ◌*◌, ◌/◌, ◌%◌, ◌^◌, ◌<◌, ◌≤◌, Bool, true, false, not, ◌&&◌, List, [], ◌∷◌, ◌++◌, length, take, drop, nat_eq, nat_lt, nat_le, ◌==◌, codes, decimal, Ok, refl, sym, ap, ◌∙◌, subst, arith, lit<}
+use Rattle.std.proofs.Common.{◌≡◌, ℕ, zero, suc, ◌+◌, ◌-◌, ◌*◌, ◌/◌, ◌%◌, ◌^◌, ◌<◌, ◌≤◌, Bool, true, false, not, ◌&&◌, List, [], ◌∷◌, ◌++◌, length, nat_eq, nat_lt, nat_le, ◌==◌, codes, decimal, Ok, refl, sym, ap, ◌∙◌, subst, arith, lit<}
 use native.Mathlib.Numerals.{unary_clauses}
 use Rattle.std.proofs.Math.Nat.{pow-le-pow_right}
-use Rattle.std.proofs.lemmas.Bool.{cases_Bool, and_parts}
+use Rattle.std.proofs.lemmas.Bool.{and_parts}
 use Rattle.std.proofs.lemmas.Fmt.{decimal_by_steps}
 use Rattle.std.proofs.lemmas.List.{append_assoc, append-nil, length-append, drop_at}
 use Rattle.std.specs.List.{list_all}
@@ -17,33 +17,24 @@ use Rattle.dap_frame.specs.declared.header_scan.Findings.{Findings}
 use Rattle.dap_frame.specs.Limits.{IsSound}
 use Rattle.dap_frame.specs.Lines.{is_blank, is_value_byte}
 use Rattle.dap_frame.specs.Frame.{BeginsWith, IsFrame, frame_text, judged}
-use Rattle.dap_frame.specs.LengthScan.{length_step}
 use Rattle.dap_frame.specs.LineScan.{line_step, line_run}
 use Rattle.dap_frame.specs.Findings.{with_line}
 use Rattle.dap_frame.specs.HeaderScan.{IsScanOf, HeaderEnds, StepGives, header_step}
 use Rattle.dap_frame.proofs.Marks.{BeginsWith-more}
-use Rattle.dap_frame.proofs.LineRuns.{run_more}
+use Rattle.dap_frame.proofs.LineRuns.{run_append}
 use Rattle.dap_frame.proofs.HeaderParts.{header_begins, judged_by_findings}
 use Rattle.dap_frame.proofs.ScanSteps.{scan_gives, scan_start, scan_of, none_found}
 
+-- a byte that is neither CR nor LF
 abbrev is_plain : ℕ → Bool
 is_plain b = not (b == 10) && not (b == 13)
 
-plain_push : (xs : List ℕ) (b : ℕ) → list_all is_plain xs ≡ true → is_plain b ≡ true → list_all is_plain (xs ++ b ∷ []) ≡ true
-plain_push [] b all one = rw one refl
-plain_push (x ∷ xs) b all one =
-    let parts = and_parts (is_plain x) (list_all is_plain xs) all in
-    rw (parts.0, plain_push xs b parts.1 one) refl
-
-plain_append : (xs ys : List ℕ) → list_all is_plain xs ≡ true → list_all is_plain ys ≡ true → list_all is_plain (xs ++ ys) ≡ true
+plain_append : (xs ys : List ℕ) → list_all is_plain xs ≡ true → list_all is_plain ys ≡ true
+    → list_all is_plain (xs ++ ys) ≡ true
 plain_append [] ys all more = more
 plain_append (x ∷ xs) ys all more =
     let parts = and_parts (is_plain x) (list_all is_plain xs) all in
     rw (parts.0, plain_append xs ys parts.1 more) refl
-
-run_append : (s : LineScan) (xs ys : List ℕ) → line_run s (xs ++ ys) ≡ line_run (line_run s xs) ys
-run_append s [] ys = refl
-run_append s (x ∷ xs) ys = run_append (line_step s x) xs ys
 
 -- the digits of a number below 10 ^ k, as the value of a length
 record AreDigits (n k : ℕ) (text : List ℕ) : Type 0 where
@@ -81,9 +72,9 @@ next_digit n ds more before (suc (suc j)) some most fits =
     let long : length (ds ++ ((48 + n % 10) ∷ [])) ≡ length ds + 1 = length-append ds ((48 + n % 10) ∷ []) in
     let stepped : line_step (Length (Digits (length ds) (n / 10))) (48 + n % 10) ≡ Length (Digits (length ds + 1) n) = rw (value, no_blank, digit, room, low, number) refl in
     record {
-      run = run_more (Length Blank) ds (48 + n % 10) ∙ ap (λ s. line_step s (48 + n % 10)) was.run ∙ stepped ∙ ap (λ c. Length (Digits c n)) (sym long);
+      run = run_append (Length Blank) ds ((48 + n % 10) ∷ []) ∙ ap (λ s. line_step s (48 + n % 10)) was.run ∙ stepped ∙ ap (λ c. Length (Digits c n)) (sym long);
       few = omega (arith, long);
-      plain = plain_push ds (48 + n % 10) was.plain plain;
+      plain = plain_append ds ((48 + n % 10) ∷ []) was.plain (rw plain refl);
     }
 
 -- what is written for a number is its digits
@@ -93,8 +84,10 @@ decimal_is n small =
     decimal_by_steps (λ n ds. (k : ℕ) → 0 < k → k ≤ 10 → n < 10 ^ k → AreDigits n k ds) first_digit next_digit n wide 10 (omega arith) (omega arith) small
 
 -- a run of bytes that are neither CR nor LF
-scan_plain : (limits : FrameLimits) (bytes text : List ℕ) (count : ℕ) (findings : Findings) (line : LineScan) → list_all is_plain text ≡ true
-    → IsScanOf limits bytes (scan_of count Nothing findings line) → (n : ℕ) × IsScanOf limits (bytes ++ text) (scan_of n Nothing findings (line_run line text))
+scan_plain : (limits : FrameLimits) (bytes text : List ℕ) (count : ℕ) (findings : Findings) (line : LineScan)
+    → list_all is_plain text ≡ true
+    → IsScanOf limits bytes (scan_of count Nothing findings line)
+    → (n : ℕ) × IsScanOf limits (bytes ++ text) (scan_of n Nothing findings (line_run line text))
 scan_plain limits bytes [] count findings line all is = (count, subst (λ xs. IsScanOf limits xs (scan_of count Nothing findings line)) (sym (append-nil bytes)) is)
 scan_plain limits bytes (b ∷ text) count findings line all is =
     let parts = and_parts (is_plain b) (list_all is_plain text) all in
@@ -107,7 +100,8 @@ scan_plain limits bytes (b ∷ text) count findings line all is =
     (rest.0, subst (λ xs. IsScanOf limits xs (scan_of rest.0 Nothing findings (line_run line (b ∷ text)))) (append_assoc bytes (b ∷ []) text) rest.1)
 
 -- a lone line, and the header part's end
-ends_after : (limits : FrameLimits) (line : List ℕ) → list_all is_plain line ≡ true → HeaderEnds limits (line ++ codes "\r\n\r\n") (with_line limits none_found (line_run (Name 0) line))
+ends_after : (limits : FrameLimits) (line : List ℕ) → list_all is_plain line ≡ true
+    → HeaderEnds limits (line ++ codes "\r\n\r\n") (with_line limits none_found (line_run (Name 0) line))
 ends_after limits line plain =
     let s = scan_plain limits [] line 0 none_found (Name 0) plain (scan_start limits) in
     let cr = scan_gives limits line _ 13 s.1 in
@@ -116,7 +110,8 @@ ends_after limits line plain =
     let ended = scan_gives limits (((line ++ 13 ∷ []) ++ 10 ∷ []) ++ 13 ∷ []) _ 10 cr_again in
     subst (λ xs. HeaderEnds limits xs (with_line limits none_found (line_run (Name 0) line))) (simp append_assoc) ended
 
-pub written_is_frame : (limits : FrameLimits) (content : List ℕ) → IsSound limits → length content ≤ limits.content → IsFrame limits (frame_text content) content
+pub written_is_frame : (limits : FrameLimits) (content : List ℕ) → IsSound limits → length content ≤ limits.content
+    → IsFrame limits (frame_text content) content
 written_is_frame limits content sound short =
     let high = sound.content_high in
     let low = sound.header_low in

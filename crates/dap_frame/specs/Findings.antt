@@ -1,5 +1,5 @@
 -- What the finished lines of a header part say.
-use Rattle.std.specs.Prelude.{◌≡◌, Bool, true, false, List, [], ◌∷◌, ℕ, if◌then◌else◌, Result, Err}
+use Rattle.std.specs.Prelude.{◌≡◌, Bool, true, false, List, [], ◌∷◌, ℕ, if◌then◌else◌, Err}
 use Rattle.std.specs.List.{list_all}
 use Rattle.dap_frame.specs.declared.limits.FrameLimits.{FrameLimits}
 use Rattle.dap_frame.specs.declared.fault.FrameFault.TheVariants.{TwoLengths}
@@ -10,11 +10,13 @@ use Rattle.dap_frame.specs.Lines.{is_field_line}
 use Rattle.dap_frame.specs.Frame.{lengths_in, the_length}
 use Rattle.dap_frame.specs.LengthScan.{length_outcome}
 
+-- there is a line
 abbrev pub is_some_line : List (List ℕ) → Bool
 is_some_line [] = false
 is_some_line (line ∷ lines) = true
 
--- The findings tell the length by the fields named Content-Length among these lines, and whether there is one.
+-- The findings tell the length by the fields named Content-Length among these lines, and whether
+-- there is one.
 pub record FindsLength (limits : FrameLimits) (lines : List (List ℕ)) (findings : Findings) : Type 0 where
   pub length : findings.length ≡ the_length limits (lengths_in lines)
   pub has_length : findings.has_length ≡ is_some_line (lengths_in lines)

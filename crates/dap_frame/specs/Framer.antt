@@ -9,10 +9,12 @@ use Rattle.dap_frame.specs.declared.progress.Progress.{Progress}
 use Rattle.dap_frame.specs.Limits.{IsSound}
 use Rattle.dap_frame.specs.Reading.{Reading, IsKeptOf}
 
+-- the fault that was met
 abbrev pub fault_in : State → Option FrameFault
 fault_in (Open progress) = None
 fault_in (Failed fault) = Some fault
 
+-- how far the present frame has come
 abbrev pub progress_in : State → Option Progress
 progress_in (Open progress) = Some progress
 progress_in (Failed fault) = None

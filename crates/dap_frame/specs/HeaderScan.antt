@@ -35,30 +35,36 @@ at_cr Cr = Cr
 at_cr CrLf = CrLfCr
 at_cr CrLfCr = Cr
 
--- an LF more: a byte of the line, the line's end, or the header part's end
+-- the scan with one byte more
+abbrev pub scan_with : HeaderScan → EndMark → Findings → LineScan → HeaderScan
+scan_with scan mark findings line = record { count = scan.count + 1; mark = mark; findings = findings; line = line }
+
+-- what an LF more is: a byte of the line, the line's end, or the header part's end
 abbrev pub match_mark : EndMark → ScanStep → ScanStep → ScanStep → ScanStep
 match_mark Nothing a b c = a
 match_mark Cr a b c = b
 match_mark CrLf a b c = a
 match_mark CrLfCr a b c = c
 
+-- an LF more
 abbrev pub at_lf : FrameLimits → HeaderScan → ScanStep
 at_lf limits scan = match_mark scan.mark
-    (Unfinished (record { count = scan.count + 1; mark = Nothing; findings = scan.findings; line = line_step scan.line 10 }))
-    (Unfinished (record { count = scan.count + 1; mark = CrLf; findings = with_line limits scan.findings scan.line; line = Name 0 }))
+    (Unfinished (scan_with scan Nothing scan.findings (line_step scan.line 10)))
+    (Unfinished (scan_with scan CrLf (with_line limits scan.findings scan.line) (Name 0)))
     (Ended scan.findings)
 
 -- one byte more of a header part
 abbrev pub header_step : FrameLimits → HeaderScan → ℕ → ScanStep
 header_step limits scan b =
     if b == 10 then at_lf limits scan
-    else (if b == 13 then Unfinished (record { count = scan.count + 1; mark = at_cr scan.mark; findings = scan.findings; line = held_line scan.mark scan.line })
-    else Unfinished (record { count = scan.count + 1; mark = Nothing; findings = scan.findings; line = line_step (held_line scan.mark scan.line) b }))
+    else (if b == 13 then Unfinished (scan_with scan (at_cr scan.mark) scan.findings (held_line scan.mark scan.line))
+    else Unfinished (scan_with scan Nothing scan.findings (line_step (held_line scan.mark scan.line) b)))
 
 -- the bytes end with the mark
 abbrev pub ends : List ℕ → List ℕ → Bool
 ends mark bytes = ends_with nat_eq bytes mark
 
+-- whether a CR, a CR LF or a CR LF CR stands at the end
 abbrev pub is_cr : EndMark → Bool
 is_cr Nothing = false
 is_cr Cr = true
@@ -90,7 +96,8 @@ FitsMark Cr present = Unit {0}
 FitsMark CrLf present = present ≡ []
 FitsMark CrLfCr present = present ≡ []
 
--- The scan is that of these bytes, in which no header part ends. Its lines and the present line are in the bytes alone.
+-- The scan is that of these bytes, in which no header part ends. Its lines and the present line are
+-- in the bytes alone.
 pub record IsScanOf (limits : FrameLimits) (bytes : List ℕ) (scan : HeaderScan) : Type 0 where
   pub lines : List (List ℕ)
   pub present : List ℕ

@@ -11,64 +11,84 @@ use Rattle.dap_frame.specs.Feeding.{IsCall, Feeds}
 
 -- Bytes begin with at most one frame.
 abbrev pub OneFrame : Type 0
-OneFrame = (limits : FrameLimits) (f g y z c d : List ℕ) → f ++ y ≡ g ++ z → IsFrame limits f c → IsFrame limits g d → (f ≡ g) × (c ≡ d)
+OneFrame = (limits : FrameLimits) (f g y z c d : List ℕ)
+    → f ++ y ≡ g ++ z → IsFrame limits f c → IsFrame limits g d → (f ≡ g) × (c ≡ d)
 
 -- No frame is empty.
 abbrev pub NoEmptyFrame : Type 0
 NoEmptyFrame = (limits : FrameLimits) (content : List ℕ) → IsFrame limits [] content → ⊥
 
--- Bytes are at most one stream: frames of these contents, and this rest.
+-- All bytes are frames of some contents, and a rest with no frame at its front.
+abbrev pub SomeStream : Type 0
+SomeStream = (limits : FrameLimits) (bytes : List ℕ)
+    → (contents : List (List ℕ)) × (rest : List ℕ) × Stream limits bytes contents rest
+
+-- They are so in one way.
 abbrev pub OneStream : Type 0
-OneStream = (limits : FrameLimits) (bytes : List ℕ) (cs ds : List (List ℕ)) (r s : List ℕ) → Stream limits bytes cs r → Stream limits bytes ds s → (cs ≡ ds) × (r ≡ s)
+OneStream = (limits : FrameLimits) (bytes : List ℕ) (cs ds : List (List ℕ)) (r s : List ℕ)
+    → Stream limits bytes cs r → Stream limits bytes ds s → (cs ≡ ds) × (r ≡ s)
 
 -- Bytes show at most one fault, at one byte.
 abbrev pub OneFault : Type 0
-OneFault = (limits : FrameLimits) (bytes : List ℕ) (f g : FrameFault) (i j : ℕ) → Shows limits bytes f i → Shows limits bytes g j → (f ≡ g) × (i ≡ j)
+OneFault = (limits : FrameLimits) (bytes : List ℕ) (f g : FrameFault) (i j : ℕ)
+    → Shows limits bytes f i → Shows limits bytes g j → (f ≡ g) × (i ≡ j)
 
--- A fault is shown at a byte of the bytes, counted from 1.
+-- The byte that shows a fault is one of the bytes, counted from 1.
 abbrev pub ShownWithin : Type 0
-ShownWithin = (limits : FrameLimits) (bytes : List ℕ) (fault : FrameFault) (i : ℕ) → Shows limits bytes fault i → (IsSound limits → 0 < i) × (i ≤ length bytes)
+ShownWithin = (limits : FrameLimits) (bytes : List ℕ) (fault : FrameFault) (i : ℕ)
+    → Shows limits bytes fault i → (IsSound limits → 0 < i) × (i ≤ length bytes)
 
--- What bytes show is a fault of their format.
+-- Bytes show neither the end of a stream nor a lack of memory.
 abbrev pub ShownOfFormat : Type 0
-ShownOfFormat = (limits : FrameLimits) (bytes : List ℕ) (fault : FrameFault) (i : ℕ) → Shows limits bytes fault i → (fault ≢ Cut) × (fault ≢ Memory)
+ShownOfFormat = (limits : FrameLimits) (bytes : List ℕ) (fault : FrameFault) (i : ℕ)
+    → Shows limits bytes fault i → (fault ≢ Cut) × (fault ≢ Memory)
 
 -- A fault stays when more bytes come.
 abbrev pub FaultStays : Type 0
-FaultStays = (limits : FrameLimits) (bytes more : List ℕ) (fault : FrameFault) (i : ℕ) → Shows limits bytes fault i → Shows limits (bytes ++ more) fault i
+FaultStays = (limits : FrameLimits) (bytes more : List ℕ) (fault : FrameFault) (i : ℕ)
+    → Shows limits bytes fault i → Shows limits (bytes ++ more) fault i
 
 -- A fault does not lean on bytes behind the one that shows it.
 abbrev pub FaultNeedsNoMore : Type 0
-FaultNeedsNoMore = (limits : FrameLimits) (bytes more : List ℕ) (fault : FrameFault) (i : ℕ) → Shows limits (bytes ++ more) fault i → i ≤ length bytes → Shows limits bytes fault i
+FaultNeedsNoMore = (limits : FrameLimits) (bytes more : List ℕ) (fault : FrameFault) (i : ℕ)
+    → Shows limits (bytes ++ more) fault i → i ≤ length bytes → Shows limits bytes fault i
 
 -- What begins with a frame shows no fault.
 abbrev pub FrameNotFaulty : Type 0
-FrameNotFaulty = (limits : FrameLimits) (frame more content : List ℕ) (fault : FrameFault) (i : ℕ) → IsFrame limits frame content → Shows limits (frame ++ more) fault i → ⊥
+FrameNotFaulty = (limits : FrameLimits) (frame more content : List ℕ) (fault : FrameFault) (i : ℕ)
+    → IsFrame limits frame content → Shows limits (frame ++ more) fault i → ⊥
 
 -- What begins with a frame is not open.
 abbrev pub FrameNotOpen : Type 0
-FrameNotOpen = (limits : FrameLimits) (frame more content : List ℕ) → IsFrame limits frame content → IsOpen limits (frame ++ more) → ⊥
+FrameNotOpen = (limits : FrameLimits) (frame more content : List ℕ)
+    → IsFrame limits frame content → IsOpen limits (frame ++ more) → ⊥
 
 -- What is open shows no fault.
 abbrev pub OpenNotFaulty : Type 0
-OpenNotFaulty = (limits : FrameLimits) (bytes : List ℕ) (fault : FrameFault) (i : ℕ) → IsOpen limits bytes → Shows limits bytes fault i → ⊥
+OpenNotFaulty = (limits : FrameLimits) (bytes : List ℕ) (fault : FrameFault) (i : ℕ)
+    → IsOpen limits bytes → Shows limits bytes fault i → ⊥
 
--- Bytes begin with a frame, or show a fault, or are open.
+-- All bytes begin with a frame, or show a fault, or are open.
 abbrev pub SomeOutcome : Type 0
-SomeOutcome = (limits : FrameLimits) (bytes : List ℕ) → HasFrame limits bytes ⊎ (((fault : FrameFault) × (i : ℕ) × Shows limits bytes fault i) ⊎ IsOpen limits bytes)
+SomeOutcome = (limits : FrameLimits) (bytes : List ℕ)
+    → HasFrame limits bytes ⊎ (((fault : FrameFault) × (i : ℕ) × Shows limits bytes fault i) ⊎ IsOpen limits bytes)
 
 -- What is written for a content is a frame with this content.
 abbrev pub WrittenIsFrame : Type 0
-WrittenIsFrame = (limits : FrameLimits) (content : List ℕ) → IsSound limits → length content ≤ limits.content → IsFrame limits (frame_text content) content
+WrittenIsFrame = (limits : FrameLimits) (content : List ℕ)
+    → IsSound limits → length content ≤ limits.content → IsFrame limits (frame_text content) content
 
--- Whatever the pieces: once they are used up, the contents that were given are those of the stream of the bytes that the framer stood
--- for and of the pieces, and the framer stands for that stream's rest.
+-- Whatever the pieces: once they are used up, the contents that were given are those of the stream of
+-- the bytes that the framer stood for and of the pieces, and the framer stands for that stream's rest.
 abbrev pub AnyPieces : Type 0
-AnyPieces = (first last : Reading) (held : List ℕ) (pieces contents : List (List ℕ)) → Stands first held → Feeds first pieces contents [] last
+AnyPieces = (first last : Reading) (held : List ℕ) (pieces contents : List (List ℕ))
+    → Stands first held → Feeds first pieces contents [] last
     → (rest : List ℕ) × Stream (limits_of first) (held ++ concat pieces) contents rest × Stands last rest
 
--- Whatever the pieces: where a fault of the format is told, the contents given before are those of the stream, and its rest shows the fault.
+-- Whatever the pieces: where a call tells a fault of the format, the contents that were given before are
+-- those of that stream, and the stream's rest shows the fault.
 abbrev pub FaultInAnyPieces : Type 0
 FaultInAnyPieces = (first last new : Reading) (held piece : List ℕ) (pieces contents left : List (List ℕ)) (fault : FrameFault)
     → Stands first held → Feeds first pieces contents (piece ∷ left) last → IsCall last piece (Err fault) new → fault ≢ Memory
-    → (rest : List ℕ) × (i : ℕ) × Stream (limits_of first) (held ++ concat pieces) contents rest × Shows (limits_of first) rest fault i × HasFailed new fault
+    → (rest : List ℕ) × (i : ℕ) × Stream (limits_of first) (held ++ concat pieces) contents rest
+    × Shows (limits_of first) rest fault i × HasFailed new fault

@@ -1,5 +1,5 @@
--- What a byte more makes of the value of a length. The code's own steps: proofs/LengthRuns.antt shows that a run of them over a
--- whole value says what `length_from` says of it.
+-- What a byte more makes of the value of a length. The code's own steps: proofs/LengthRuns.antt
+-- shows that a run of them over a whole value says what `length_from` says of it.
 use Rattle.std.specs.Prelude.{ℕ, ◌+◌, ◌-◌, ◌*◌, ◌&&◌, nat_lt, nat_le, if◌then◌else◌, Result, Ok, Err}
 use Rattle.std.specs.Char.{is_ascii_digit}
 use Rattle.dap_frame.specs.declared.limits.FrameLimits.{FrameLimits}

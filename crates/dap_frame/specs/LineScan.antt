@@ -1,5 +1,5 @@
--- What a byte more makes of a line. The code's own steps: proofs/LineRuns.antt shows that a run of them over a whole line says what
--- `is_field_line`, `is_length_line` and `length_from` say of it.
+-- What a byte more makes of a line. The code's own steps: proofs/LineRuns.antt shows that a run of
+-- them over a whole line says what `is_field_line`, `is_length_line` and `length_from` say of it.
 use Rattle.std.specs.Prelude.{◌≡◌, ℕ, ◌+◌, true, false, ◌&&◌, List, [], ◌∷◌, codes, nat_eq, nat_lt, if◌then◌else◌, slice_index_or}
 use Rattle.std.specs.Char.{eq_ignore_ascii_case}
 use Rattle.dap_frame.specs.declared.limits.FrameLimits.{FrameLimits}
@@ -33,6 +33,8 @@ line_run s (b ∷ bs) = line_run (line_step s b) bs
 abbrev pub LineSays : FrameLimits → List ℕ → LineScan → Type 0
 LineSays limits line (Name n) = is_field_line line ≡ false
 LineSays limits line OtherName = is_field_line line ≡ false
-LineSays limits line (Length value) = (is_field_line line ≡ true) × (is_length_line line ≡ true) × (length_from limits (trimmed (value_of line)) ≡ length_outcome limits value)
+LineSays limits line (Length value) =
+    (is_field_line line ≡ true) × (is_length_line line ≡ true)
+    × (length_from limits (trimmed (value_of line)) ≡ length_outcome limits value)
 LineSays limits line OtherValue = (is_field_line line ≡ true) × (is_length_line line ≡ false)
 LineSays limits line NoField = is_field_line line ≡ false

@@ -1,4 +1,5 @@
--- A header part, its lines and their fields. A byte is its number: 13 is CR, 10 is LF, 9 is TAB, 32 is a space, 58 is a colon.
+-- A header part, its lines and their fields. A byte is its number: 13 is CR, 10 is LF, 9 is TAB, 32
+-- is a space, 58 is a colon.
 use Rattle.std.specs.Prelude.{◌≡◌, ℕ, ◌+◌, ◌-◌, ◌*◌, ◌<◌, ◌≤◌, Bool, true, false, not, ◌&&◌, ◌||◌, List, [], ◌∷◌, ◌++◌, length, take, drop, codes, nat_eq, nat_lt, nat_le, ◌==◌}
 use Rattle.std.specs.List.{ends_with, list_all, fold, before_first, after_first, prefix_len, suffix_len, flat_map, AllByRecursion}
 use Rattle.std.specs.Str.{str_eq_ignore_ascii_case}
@@ -30,7 +31,8 @@ Lacks mark bytes = (j : ℕ) → j ≤ length bytes → ends_at mark bytes j ≡
 abbrev pub ended : List (List ℕ) → List ℕ
 ended lines = flat_map (λ line. line ++ line_end) lines
 
--- The header part is these lines, each ended by its first CR LF, and a further CR LF (DAP base protocol).
+-- The header part is these lines, each ended by its first CR LF, and a further CR LF (DAP base
+-- protocol).
 pub record AreLines (header : List ℕ) (lines : List (List ℕ)) : Type 0 where
   pub bytes : header ≡ ended lines ++ line_end
   pub each : AllByRecursion (Lacks line_end) lines
@@ -43,6 +45,7 @@ is_name_byte b = nat_le 33 b && nat_le b 126 && not (b == 58)
 abbrev pub is_value_byte : ℕ → Bool
 is_value_byte b = (nat_le 32 b && nat_le b 126) || (b == 9)
 
+-- the end of a field's name (DAP base protocol)
 abbrev pub is_colon : ℕ → Bool
 is_colon b = b == 58
 

@@ -35,10 +35,12 @@ pub record ShowsInHeader (limits : FrameLimits) (rest piece : List ℕ) (fault :
 -- what a piece makes of a header part that had not ended
 abbrev pub TakesHeader : FrameLimits → List ℕ → List ℕ → Result HeaderTaken FrameFault → Type 0
 TakesHeader limits rest piece (Ok (Unfinished scan)) = GoesOn limits rest piece scan
-TakesHeader limits rest piece (Ok (Ended header_len content_len used)) = HasEnded limits rest piece header_len content_len used
+TakesHeader limits rest piece (Ok (Ended header_len content_len used)) =
+    HasEnded limits rest piece header_len content_len used
 TakesHeader limits rest piece (Err fault) = ShowsInHeader limits rest piece fault
 
--- So much of the piece was taken before the bytes of the content, of which these came before the piece.
+-- So much of the piece was taken before the bytes of the content, of which these came before the
+-- piece.
 pub record IsAtContent (limits : FrameLimits) (bytes rest piece : List ℕ) (header_len content_len used : ℕ) : Type 0 where
   pub within : used ≤ length piece
   pub progress : 0 < used + (content_len - length bytes)
@@ -50,5 +52,6 @@ pub record IsAtContent (limits : FrameLimits) (bytes rest piece : List ℕ) (hea
 -- what a piece makes of a header part that may have ended before it
 abbrev pub TakesRestOfHeader : FrameLimits → List ℕ → List ℕ → List ℕ → Result HeaderTaken FrameFault → Type 0
 TakesRestOfHeader limits bytes rest piece (Ok (Unfinished scan)) = (bytes ≡ []) × GoesOn limits rest piece scan
-TakesRestOfHeader limits bytes rest piece (Ok (Ended header_len content_len used)) = IsAtContent limits bytes rest piece header_len content_len used
+TakesRestOfHeader limits bytes rest piece (Ok (Ended header_len content_len used)) =
+    IsAtContent limits bytes rest piece header_len content_len used
 TakesRestOfHeader limits bytes rest piece (Err fault) = (bytes ≡ []) × ShowsInHeader limits rest piece fault

@@ -2,7 +2,8 @@ ghost use Rattle.std.specs.Prelude.{◌≡◌};
 
 use std::marker::Model;
 
-/// The content of a frame: bytes of which nothing more is known. Contracts see it as the list of its bytes.
+/// The content of a frame: bytes of which nothing more is known. Contracts see it as the list of
+/// its bytes.
 #[derive(Debug, Drop)]
 pub struct Content {
     bytes: Vec<u8>,

@@ -5,6 +5,7 @@ use crate::content::Content;
 pub struct Fed {
     /// How many bytes of the piece were taken, from its front. The next call gets the rest.
     pub used: usize,
-    /// The content of the frame that ended at the last byte taken. `None`: the whole piece was taken, and no frame ended.
+    /// The content of the frame that ended at the last byte taken. `None`: the whole piece was
+    /// taken, and no frame ended.
     pub content: Option<Content>,
 }

@@ -1,5 +1,6 @@
-ghost use Rattle.std.specs.Prelude.{◌≡◌, ℕ, ◌≤◌, ◌+◌, ◌<◌, ◌↔◌, List, [], length, Err, IsErrOf, IfErr, IsOk, IfOk};
+ghost use Rattle.std.specs.Prelude.{◌≡◌, ℕ, ◌≤◌, ◌+◌, ◌<◌, ◌↔◌, ◌++◌, List, [], length, Err, IsErrOf, IfErr, IsOk, IfOk};
 ghost use Rattle.dap_frame.specs.Limits.{IsSound};
+ghost use Rattle.dap_frame.specs.Frame.{HasContentByte};
 ghost use Rattle.dap_frame.specs.Reading.{Stands, HasFailed, Gives, limits_of};
 
 use crate::content::Content;
@@ -23,13 +24,14 @@ enum State {
 
 /// Reads frames from the pieces of a stream, which may be cut anywhere.
 ///
-/// A framer stands for the bytes that came behind the last whole frame. It keeps of them at most the bytes of the present
-/// frame's content, and none of a header part: of that it keeps a count, how the present line goes and what the finished lines
-/// say.
+/// A framer stands for the bytes that came behind the last whole frame. It keeps of them at most
+/// the bytes of the present frame's content, and none of a header part: of that it keeps a count,
+/// how the present line goes and what the finished lines say.
 ///
-/// To read a stream, make one framer with limits that are sound. Pass each piece to [`feed`](Framer::feed), and then again
-/// what is left of it behind `used`, until nothing is left: each answer with a content is the next frame of the stream. At the
-/// end of the stream ask [`finish`](Framer::finish) whether it ended between two frames.
+/// To read a stream, make one framer with limits that are sound. Pass each piece to
+/// [`feed`](Framer::feed), and then again what is left of it behind `used`, until nothing is left:
+/// each answer with a content is the next frame of the stream. At the end of the stream ask
+/// [`finish`](Framer::finish) whether it ended between two frames.
 #[derive(Drop)]
 pub struct Framer {
     alloc: Global,
@@ -81,17 +83,22 @@ impl Framer {
 
     /// Reads to the end of one frame or of the piece, whichever is first.
     ///
-    /// Answers every fault but `Cut`. After `Memory` the framer is unchanged and has used nothing, so the call may be made
-    /// again with the same piece. After another fault `feed` and [`finish`](Framer::finish) answer that fault from then on.
-    /// Only bytes of a content take memory, which the answered [`Content`] then owns.
+    /// Answers every fault but `Cut`. After `Memory` the framer is unchanged and has used nothing,
+    /// so the call may be made again with the same piece. After another fault `feed` and
+    /// [`finish`](Framer::finish) answer that fault from then on. Only bytes of a content take
+    /// memory, which the answered [`Content`] then owns.
     pub fn feed(&mut self, piece: &[u8]) -> Result<Fed, FrameFault>
-        ensures gives { (rest : List ℕ) → Stands self.old rest → Gives (limits_of self.old) rest piece.now result self.new }
+        ensures gives { (rest : List ℕ) → Stands self.old rest
+            → Gives (limits_of self.old) rest piece.now result self.new }
         ensures used { IfOk result (λ fed. fed.used ≤ length piece.now) }
         ensures progress { IfOk result (λ fed. 0 < length piece.now → 0 < fed.used) }
 
         // What stands after a fault.
         ensures memory { IsErrOf result FrameFault.Memory → self.new ≡ self.old }
-        ensures failed { (fault : _) → HasFailed self.old fault → (result ≡ Err fault) × (self.new ≡ self.old) }
+        ensures memory_for_content { IsErrOf result FrameFault.Memory → (rest : List ℕ) → Stands self.old rest
+            → HasContentByte (limits_of self.old) (rest ++ piece.now) }
+        ensures failed { (fault : _) → HasFailed self.old fault
+            → (result ≡ Err fault) × (self.new ≡ self.old) }
 
         ensures limits { limits_of self.new ≡ limits_of self.old }
     {
@@ -144,10 +151,12 @@ impl Framer {
         })
     }
 
-    /// Whether the stream may end here: `Cut` inside a frame, or the fault that was met. Changes nothing and takes no memory.
+    /// Whether the stream may end here: `Cut` inside a frame, or the fault that was met. Changes
+    /// nothing and takes no memory.
     pub fn finish(&self) -> Result<(), FrameFault>
         ensures ok { (rest : List ℕ) → Stands self.now rest → (IsOk result ↔ (rest ≡ [])) }
-        ensures cut { (rest : List ℕ) → Stands self.now rest → IfErr result (λ fault. fault ≡ FrameFault.Cut) }
+        ensures cut { (rest : List ℕ) → Stands self.now rest
+            → IfErr result (λ fault. fault ≡ FrameFault.Cut) }
         ensures failed { (fault : _) → HasFailed self.now fault → result ≡ Err fault }
     {
         match self.state {

@@ -49,7 +49,8 @@ impl Findings {
 
     /// The content's length or the fault, by all the lines.
     pub fn outcome(self) -> Result<usize, FrameFault>
-        ensures { (limits : _) (lines : List (List ℕ)) → AreFindings limits lines self → result ≡ judged limits lines }
+        ensures { (limits : _) (lines : List (List ℕ)) → AreFindings limits lines self
+            → result ≡ judged limits lines }
     {
         if self.are_fields {
             self.length

@@ -1,6 +1,7 @@
-//! Theorems on frames, which hold of all bytes, and on framers, which hold of all pieces. Each function does nothing: a call of it gives its clauses to a proof.
+//! Theorems on frames, which hold of all bytes, and on framers, which hold of all pieces. Each
+//! function does nothing: a call of it gives its clauses to a proof.
 
-ghost use Rattle.dap_frame.specs.Laws.{OneFrame, NoEmptyFrame, OneFault, ShownWithin, ShownOfFormat, FaultStays, FaultNeedsNoMore, FrameNotFaulty, FrameNotOpen, OpenNotFaulty, SomeOutcome, WrittenIsFrame, OneStream, AnyPieces, FaultInAnyPieces};
+ghost use Rattle.dap_frame.specs.Laws.{OneFrame, NoEmptyFrame, OneFault, ShownWithin, ShownOfFormat, FaultStays, FaultNeedsNoMore, FrameNotFaulty, FrameNotOpen, OpenNotFaulty, SomeOutcome, WrittenIsFrame, SomeStream, OneStream, AnyPieces, FaultInAnyPieces};
 
 /// Bytes begin with at most one frame, and no frame is empty.
 pub fn one_frame()
@@ -8,7 +9,8 @@ pub fn one_frame()
     ensures not_empty { NoEmptyFrame }
 {}
 
-/// Bytes show at most one fault, at one of them, and it is none of memory or of the end of a stream.
+/// Bytes show at most one fault, at one of them, and it is none of memory or of the end of a
+/// stream.
 pub fn one_fault()
     ensures one { OneFault }
     ensures within { ShownWithin }
@@ -38,12 +40,14 @@ pub fn written_is_frame()
     ensures { WrittenIsFrame }
 {}
 
-/// Bytes are frames of one list of contents and one rest, no front of which is a frame.
+/// Bytes are frames of just one list of contents, and just one rest no front of which is a frame.
 pub fn one_stream()
-    ensures { OneStream }
+    ensures some { SomeStream }
+    ensures one { OneStream }
 {}
 
-/// Whatever the pieces, calls of `Framer::feed` give the contents of the stream of the pieces, up to its end or to its fault.
+/// Whatever the pieces, calls of `Framer::feed` give the contents of the stream of the pieces, up
+/// to its end or to its fault.
 pub fn any_pieces()
     ensures contents { AnyPieces }
     ensures fault { FaultInAnyPieces }

@@ -3,8 +3,9 @@ ghost use Rattle.dap_frame.specs.Limits.{IsSound};
 
 /// How long the parts of a frame may be, in bytes.
 ///
-/// Calls take limits that are sound: `header` is from 32 to 65,536, and `content` is at most 2,147,483,647. So each header part
-/// that [`write_frame`](crate::write_frame) writes, of 30 bytes at most, is within the limit.
+/// Calls take limits that are sound: `header` is from 32 to 65,536, and `content` is at most
+/// 2,147,483,647. So each header part that [`write_frame`](crate::write_frame) writes, of 30 bytes
+/// at most, is within the limit.
 #[derive(Clone, Copy, Debug, PartialEq, Eq)]
 pub struct FrameLimits {
     /// The header part, with the CR LF CR LF at its end.

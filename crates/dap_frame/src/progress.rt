@@ -16,7 +16,8 @@ use std::alloc::AllocError;
 pub enum Progress {
     /// Its header part has not ended.
     Header(HeaderScan),
-    /// Its header part had `header_len` bytes, and its content has `content_len` bytes, of which less have come.
+    /// Its header part had `header_len` bytes, and its content has `content_len` bytes, of which
+    /// less have come.
     Content {
         header_len: usize,
         content_len: usize,
@@ -43,7 +44,8 @@ fn take_header(
 ) -> Result<HeaderTaken, FrameFault>
     requires sound { IsSound limits }
     requires scan { IsShortScan limits scan }
-    ensures { (rest : List ℕ) → IsScanOf limits rest scan → length rest < limits.header → TakesHeader limits rest piece.now result }
+    ensures { (rest : List ℕ) → IsScanOf limits rest scan → length rest < limits.header
+        → TakesHeader limits rest piece.now result }
 {
     let mut scan = scan;
     for (i, byte) in piece.iter().enumerate() {
@@ -78,7 +80,8 @@ pub fn take_rest_of_header(
 ) -> Result<HeaderTaken, FrameFault>
     requires sound { IsSound limits }
     requires kept { (bytes : List ℕ) × (rest : List ℕ) × IsKeptOf limits progress bytes rest }
-    ensures { (bytes rest : List ℕ) → IsKeptOf limits progress bytes rest → TakesRestOfHeader limits bytes rest piece.now result }
+    ensures { (bytes rest : List ℕ) → IsKeptOf limits progress bytes rest
+        → TakesRestOfHeader limits bytes rest piece.now result }
 {
     match progress {
         Progress::Header(scan) => take_header(limits, scan, piece),
@@ -103,6 +106,7 @@ pub fn take_content(
     ensures ok { IfOk result (λ n. (n ≡ min (content_len - length bytes.old.items) (length piece.now))
         × (bytes.new.items ≡ bytes.old.items ++ take n piece.now)) }
     ensures err { OnErr result (bytes.new.items ≡ bytes.old.items) }
+    ensures refused { OnErr result (0 < length piece.now) }
 {
     let count = piece.len().min(content_len - bytes.len());
     bytes.extend_from_slice(&piece[..count])?;

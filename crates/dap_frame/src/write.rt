@@ -25,12 +25,12 @@ fn append_parts(out: &mut Vec<u8>, content: &[u8]) -> Result<(), AllocError>
     out.extend_from_slice(content)
 }
 
-/// Appends the frame of a content: `Content-Length: `, the number of its bytes without leading zeros, CR LF CR LF, and the
-/// content.
+/// Appends the frame of a content: `Content-Length: `, the number of its bytes without leading
+/// zeros, CR LF CR LF, and the content.
 ///
-/// Answers `ContentTooLong` exactly where the content is above its limit, and else `Memory` where a growth of `out` was
-/// refused. On both `out` holds the bytes that it held; its capacity may have grown. No memory is taken where the capacity
-/// leaves room for the content and 30 bytes.
+/// Answers `ContentTooLong` exactly where the content is above its limit, and else `Memory` where a
+/// growth of `out` was refused. On both `out` holds the bytes that it held; its capacity may have
+/// grown. No memory is taken where the capacity leaves room for the content and 30 bytes.
 pub fn write_frame(out: &mut Vec<u8>, content: &[u8], limits: FrameLimits) -> Result<(), FrameFault>
     requires { IsSound limits }
     ensures ok { OnOk result (out.new.items ≡ out.old.items ++ frame_text content.now) }
@@ -38,10 +38,12 @@ pub fn write_frame(out: &mut Vec<u8>, content: &[u8], limits: FrameLimits) -> Re
 
     // ContentTooLong comes exactly there, and the only other error is Memory.
     ensures too_long { result ≡ Err FrameFault.ContentTooLong ↔ (limits.content < length content.now) }
-    ensures only { IfErr result (λ fault. (fault ≡ FrameFault.ContentTooLong) ⊎ (fault ≡ FrameFault.Memory)) }
+    ensures only { IfErr result (λ fault.
+        (fault ≡ FrameFault.ContentTooLong) ⊎ (fault ≡ FrameFault.Memory)) }
 
     // Room for the frame is enough, and a frame takes at most 30 bytes more than its content.
-    ensures room { length content.now ≤ limits.content → vec_len out.old + length content.now + 30 ≤ vec_capacity out.old → IsOk result }
+    ensures room { length content.now ≤ limits.content
+        → vec_len out.old + length content.now + 30 ≤ vec_capacity out.old → IsOk result }
     ensures short { OnOk result (vec_len out.new ≤ vec_len out.old + length content.now + 30) }
     ensures capacity { vec_capacity out.old ≤ vec_capacity out.new }
 {

@@ -1,6 +1,7 @@
 -- Frames as the records that `compact` judges.
-use Rattle.std.proofs.Common.{◌≡◌, ◌<◌, ◌≤◌, arith}
-use Rattle.dap_frame.specs.Frame.{IsOpen}
+use Rattle.std.proofs.Common.{◌≡◌, ◌⊎◌, inl, inr, ◌<◌, ◌≤◌, ◌++◌, ℕ, List, arith}
+use Rattle.dap_frame.specs.declared.fault.FrameFault.{FrameFault}
+use Rattle.dap_frame.specs.Frame.{HasFrame, IsFrame, IsOpen, Shows}
 use Rattle.dap_frame.proofs.Unique.{one_frame, no_empty_frame, one_fault, frame_not_faulty, frame_not_open, open_not_faulty}
 use Rattle.dap_frame.proofs.Faults.{shown_within, fault_stays, fault_early}
 use Rattle.dap_frame.proofs.FedSteps.{open_at_first}
@@ -30,5 +31,11 @@ module _ (limits : Limits) where
     laws = record_laws sound;
     faults = fault_laws;
     open_none = open_at_first limits.frame (let low = sound.frame.header_low in omega arith);
-    some_outcome = some_outcome limits.frame;
+    some_outcome = λ bytes. some (some_outcome limits.frame bytes);
   }
+    where
+      some : {bytes : List ℕ} → HasFrame limits.frame bytes ⊎ (((fault : FrameFault) × (place : ℕ) × Shows limits.frame bytes fault place) ⊎ IsOpen limits.frame bytes)
+          → ((front : List ℕ) × (more : List ℕ) × (content : List ℕ) × (bytes ≡ front ++ more) × IsFrame limits.frame front content)
+          ⊎ (((fault : FrameFault) × (place : ℕ) × Shows limits.frame bytes fault place) ⊎ IsOpen limits.frame bytes)
+      some (inl has) = inl (has.frame, has.more, has.content, has.bytes_are, has.is_frame)
+      some (inr other) = inr other

@@ -1,5 +1,5 @@
-use Rattle.dap_frame.proofs.Streams.{one_stream}
+use Rattle.dap_frame.proofs.Streams.{some_stream, one_stream}
 use Rattle.dap_frame.proofs.laws.one_stream.Goals as goal
 
 pub returns : goal.returns
-returns c = one_stream
+returns c = record { some = some_stream; one = one_stream }

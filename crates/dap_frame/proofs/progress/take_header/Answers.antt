@@ -1,7 +1,6 @@
-use Rattle.std.proofs.Common.{◌≡◌, ◌<◌, ◌≤◌, ◌+◌, ◌++◌, ℕ, List, length, take, get_or, arith, ap, subst, ◌∙◌, sym}
+use Rattle.std.proofs.Common.{◌≡◌, ◌++◌, length, take, arith, ap, subst}
 use Rattle.std.proofs.lemmas.List.{take_all}
 use Rattle.dap_frame.specs.HeaderScan.{IsScanOf}
-use Rattle.dap_frame.specs.Progress.{GoesOn}
 use Rattle.dap_frame.proofs.HeaderSteps.{gives_more, has_ended, header_fault, header_too_long}
 use Rattle.dap_frame.proofs.progress.take_header.Goals as goal
 

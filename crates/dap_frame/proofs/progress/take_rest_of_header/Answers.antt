@@ -1,4 +1,4 @@
-use Rattle.std.proofs.Common.{◌≡◌, subst}
+use Rattle.std.proofs.Common.{subst}
 use Rattle.dap_frame.specs.Reading.{IsKeptOf}
 use Rattle.dap_frame.proofs.FedSteps.{rest_taken}
 use Rattle.dap_frame.proofs.progress.take_rest_of_header.Goals as goal
