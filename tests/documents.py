@@ -39,7 +39,7 @@ def promises(report):
             continue
         report.check(f"{crate}::{path} has a contract", "ensures" in text)
         for clause in re.findall(r"`(\w+)`", clauses):
-            report.check(f"{crate}::{path} has the clause {clause}", f"ensures {clause} {{" in text)
+            report.check(f"{crate}::{path} has the clause {clause}", re.search(rf"ensures\*? {clause} \{{", text) is not None)
 
 
 def links(report):
