@@ -1,15 +1,15 @@
 -- Frames of JSON contents, judged by `compact`: what its runs owe, and that they are what it accepts.
-use Rattle.std.proofs.Common.{◌≡◌, ◌⊎◌, inl, inr, ℕ, ◌+◌, ◌<◌, ◌≤◌, Bool, true, false, List, [], ◌∷◌, ◌++◌, length, Option, Some, None, refl, sym, ◌∙◌, ap, subst, arith, append_assoc, append-nil, length-append}
+use Rattle.std.proofs.Common.{◌≡◌, ◌⊎◌, inl, inr, ℕ, ◌+◌, ◌<◌, ◌≤◌, List, [], ◌∷◌, ◌++◌, length, refl, sym, ◌∙◌, ap, subst, arith, append_assoc, append-nil, length-append}
 use Rattle.std.proofs.lemmas.Bool.{cases_lt}
 use Rattle.std.specs.List.{AllByRecursion}
 use Rattle.dap_tree.specs.Doc.{Doc}
 use Rattle.dap_tree.specs.Json.{IsRead, Outcome, HasOutcome, data_of, text_of}
 use Rattle.dap_tree.specs.Json as reading
 use Rattle.dap_tree.proofs.Outcomes.{read_once, whole_or_fraction, some_outcome}
-use Rattle.dap_frame.specs.Frame.{AreFrames, IsFrame, frame_text}
+use Rattle.dap_frame.specs.Frame.{AreFrames, frame_text}
 use Rattle.dapnorm.specs.declared.limits.Limits.{Limits}
-use Rattle.dapnorm.specs.Compacting.{AreRead, Fits, IsCompactable, Objection, no_reading, fraction, grown, Objects, compacting, text}
-use Rattle.dapnorm.proofs.Runs.{Run, PassesAt, ValueLaws, ValueFacts, AcceptedFacts}
+use Rattle.dapnorm.specs.Compacting.{AreRead, Fits, Objection, no_reading, fraction, grown, Objects, compacting, text}
+use Rattle.dapnorm.proofs.Runs.{Run, ValueLaws, ValueFacts, AcceptedFacts}
 
 module _ (limits : Limits) where
   one_objection : (values : List Doc) (content : List ℕ) (why because : Objection) → Objects limits values content why → Objects limits values content because → why ≡ because

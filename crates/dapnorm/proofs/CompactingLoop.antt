@@ -1,5 +1,5 @@
 -- What the loop of `compact` over its input keeps, and what it may answer.
-use Rattle.std.proofs.Common.{◌≡◌, ◌≢◌, ◌⊎◌, inl, inr, ℕ, ◌+◌, ◌<◌, ◌≤◌, List, [], ◌∷◌, ◌++◌, length, take, drop, Option, Some, None, MatchOption, Result, Ok, Err, refl, sym, ap, ◌∙◌, subst, arith}
+use Rattle.std.proofs.Common.{◌≡◌, ◌≢◌, ◌⊎◌, inl, inr, ℕ, ◌<◌, ◌≤◌, List, [], ◌∷◌, ◌++◌, length, take, drop, Option, Some, None, MatchOption, Ok, Err, refl, sym, ◌∙◌, subst, arith}
 use Rattle.std.proofs.lemmas.List.{nil_from_length, length-drop}
 use Rattle.dap_tree.specs.Doc.{Doc}
 use Rattle.dap_frame.specs.declared.fault.FrameFault.{FrameFault}
@@ -13,9 +13,9 @@ use Rattle.dapnorm.specs.declared.refused.RecordCause.TheVariants.{Cut}
 use Rattle.dapnorm.specs.declared.compacting.ContentFault.{ContentFault}
 use Rattle.dapnorm.specs.declared.compacting.ContentFault.TheVariants.{Json, Fraction, Grew, Memory}
 use Rattle.dapnorm.specs.Limits.{AreSound}
-use Rattle.dapnorm.specs.Judging.{IsFirstRefusal, faulty, cut, objected, input_too_long}
-use Rattle.dapnorm.specs.Compacting.{Compacts, Fits, IsCompactable, IsRefused, compacting, text, no_reading, fraction, grown}
-use Rattle.dapnorm.specs.CompactingSteps.{Appended, HasGoneOn, IsAppended, JudgesInput, refusal_at}
+use Rattle.dapnorm.specs.Judging.{IsFirstRefusal, faulty, cut, input_too_long}
+use Rattle.dapnorm.specs.Compacting.{Compacts, Fits, IsRefused, compacting, text, no_reading, fraction, grown}
+use Rattle.dapnorm.specs.CompactingSteps.{Appended, HasGoneOn, JudgesInput, refusal_at}
 use Rattle.dapnorm.proofs.Going.{Going, going_start, going_fed, going_record, going_accepted, going_shown, going_objected, going_cut, going_too_long}
 use Rattle.dapnorm.proofs.CompactingFacts.{accepted_facts, fits_none, value_laws}
 use Rattle.dapnorm.proofs.FrameFacts.{record_laws, fault_laws}

@@ -1,5 +1,5 @@
 -- Frames as the records that `compact` judges.
-use Rattle.std.proofs.Common.{◌≡◌, ◌⊎◌, inl, inr, ◌<◌, ◌≤◌, ◌++◌, ℕ, List, arith}
+use Rattle.std.proofs.Common.{◌≡◌, ◌⊎◌, inl, inr, ◌++◌, ℕ, List, arith}
 use Rattle.dap_frame.specs.declared.fault.FrameFault.{FrameFault}
 use Rattle.dap_frame.specs.Frame.{HasFrame, IsFrame, IsOpen, Shows}
 use Rattle.dap_frame.proofs.Unique.{one_frame, no_empty_frame, one_fault, frame_not_faulty, frame_not_open, open_not_faulty}

@@ -1,5 +1,5 @@
 -- The program's command line, as `clap` reads it, and the job that it names. Source: own.
-use Rattle.std.specs.Prelude.{ℕ, List, Option, Some, None, codes, if◌then◌else◌, option_and_then, true}
+use Rattle.std.specs.Prelude.{List, Option, Some, None, codes, if◌then◌else◌, option_and_then, true}
 use Rattle.std.specs.Str.{bytes_eq}
 use Rattle.clap.specs.Words.{App, Row, Text, new_app, with_subcommand}
 use Rattle.dapnorm.specs.declared.jobs.Job.{Job}

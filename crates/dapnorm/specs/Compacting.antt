@@ -8,10 +8,9 @@ use Rattle.dap_tree.specs.Json.{IsRead, HasFraction, HasNoReading, text_of}
 use Rattle.dapnorm.specs.declared.limits.Limits.{Limits}
 use Rattle.dapnorm.specs.declared.refused.Refused.{Refused}
 use Rattle.dapnorm.specs.declared.refused.Refused.TheVariants.{InputTooLong, Record, Json, Fraction, Grew, ReadFault, WriteFault, Memory}
-use Rattle.dapnorm.specs.declared.refused.RecordCause.{RecordCause}
 use Rattle.dapnorm.specs.declared.refused.RecordCause.TheVariants as cause
 use Rattle.dapnorm.specs.Limits.{AreSound}
-use Rattle.dapnorm.specs.Judging.{Judging, Reason, faulty, input_too_long, cut, objected, IsFirstRefusal, HasOneOutcome, RefusalStays}
+use Rattle.dapnorm.specs.Judging.{Judging, faulty, input_too_long, cut, objected, IsFirstRefusal, HasOneOutcome, RefusalStays}
 
 -- the text of these trees: for each a frame of its canonical text
 abbrev pub text : List Doc → List ℕ

@@ -6,7 +6,7 @@ use Rattle.dap_tree.specs.Doc.{Doc}
 use Rattle.dap_tree.specs.Json.{IsRead, HasFraction, HasNoReading}
 use Rattle.dapnorm.specs.declared.limits.Limits.{Limits}
 use Rattle.dapnorm.specs.declared.reading.Stop.{Stop}
-use Rattle.dapnorm.specs.declared.reading.Stop.TheVariants.{End, Full, Failed}
+use Rattle.dapnorm.specs.declared.reading.Stop.TheVariants.{End, Failed}
 use Rattle.dapnorm.specs.declared.refused.Refused.{Refused}
 use Rattle.dapnorm.specs.declared.refused.Refused.TheVariants as refused
 use Rattle.dapnorm.specs.declared.refused.RecordCause.TheVariants.{Cut}

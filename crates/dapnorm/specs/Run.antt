@@ -3,7 +3,7 @@ use Rattle.std.specs.Prelude.{◌≡◌, ◌⊎◌, ℕ, List, Option, Result, O
 use Rattle.dapnorm.specs.declared.jobs.UsageFault.{UsageFault}
 use Rattle.dapnorm.specs.declared.jobs.UsageFault.TheVariants as usage
 use Rattle.dapnorm.specs.declared.refused.Refused.{Refused}
-use Rattle.dapnorm.specs.declared.refused.Refused.TheVariants.{InputTooLong, Record, Json, Fraction, Grew, ReadFault, WriteFault, Memory}
+use Rattle.dapnorm.specs.declared.refused.Refused.TheVariants.{ReadFault, WriteFault, Memory}
 use Rattle.dapnorm.specs.Device.{AllWritten, FrontWritten}
 use Rattle.dapnorm.specs.Engine.{Answers}
 

@@ -1,4 +1,4 @@
-use Rattle.std.proofs.Common.{ap, map, ◌≡◌, ◌∙◌}
+use Rattle.std.proofs.Common.{ap, map, ◌∙◌}
 use Rattle.clap.specs.Words.{takes}
 use Rattle.dapnorm.proofs.command_line.job.Goals as goal
 
