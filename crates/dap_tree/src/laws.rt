@@ -1,7 +1,7 @@
 //! Laws of the definitions that the contracts of this crate speak in. Each function does nothing.
 ghost use Rattle.dap_tree.specs.Laws.{SomeOutcome, OneOutcome, ReadIsSound, ChangesMember, KeepsMembers, ChangesPaths, KeepsPaths};
 
-/// Every content is one of three, and one alone: the text of one tree, no JSON, or JSON with a fraction.
+/// Every content is the text of one tree, no JSON, or JSON with a fraction: one of the three alone.
 pub fn one_outcome()
     ensures some { SomeOutcome }
     ensures one { OneOutcome }

@@ -25,8 +25,9 @@ impl Tree {
         }
     }
 
-    /// The member of that name, to be written: `None` where there is none, or the tree is no object.
+    /// The member of that name, to be written.
     ///
+    /// `None` where there is no such member, or the tree is no object.
     /// The proof of a caller reads nothing from `writes_back`, since a tree is lent out of a tree.
     /// Where a proof rests on what a write leaves, call `set_child`, `with_child` or `members_mut`.
     pub fn child_mut(&mut self, name: &str) -> Option<&mut Tree>
@@ -55,7 +56,8 @@ impl Tree {
     pub fn set_child(&mut self, name: &str, tree: Tree) -> Result<Tree, Tree>
         ensures changed { view self.new ≡ change_child name.now (λ _. view tree) (view self.old) }
         ensures ok { IfOk result (λ old. get name.now (view self.old) ≡ Some (view old)) }
-        ensures err { IfErr result (λ back. (get name.now (view self.old) ≡ None) × (back ≡ tree)) }
+        ensures err { IfErr result
+            (λ back. (get name.now (view self.old) ≡ None) × (back ≡ tree)) }
     {
         match self.members_mut() {
             None => Err(tree),

@@ -12,8 +12,8 @@ use std::collections::BTreeMap;
 
 /// Reads the tree of a content.
 ///
-/// Of members with one name the last stays.
-/// `Memory` may come for any content that is not empty, and says nothing of it.
+/// Of members with one name the last stays, and no text is copied.
+/// Where memory is refused the answer is `Memory`, which says nothing of the content.
 pub fn read_tree(alloc: Global, content: &[u8]) -> Result<Tree, TreeFault>
     ensures ok { IfOk result (λ t. IsRead content.now (view t)) }
     ensures sound { IfOk result (λ t. is_sound (view t) ≡ true) }
@@ -76,7 +76,8 @@ fn members_of(
     alloc: Global,
     values: Map<String, Value>,
 ) -> Result<BTreeMap<String, Tree>, TreeFault>
-    ensures ok { IfOk result (λ m. MembersStand (pairs_view values.entries) (members_view m.entries)) }
+    ensures ok { IfOk result
+        (λ m. MembersStand (pairs_view values.entries) (members_view m.entries)) }
     ensures err { IfErr result (ExplainsMembers (pairs_view values.entries)) }
 {
     let mut members = BTreeMap::new(alloc);

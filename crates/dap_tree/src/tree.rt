@@ -3,7 +3,7 @@ use std::collections::BTreeMap;
 /// A JSON value whose numbers are whole.
 ///
 /// The members of an object stand in the byte order of their names, each name once.
-/// A tree that is made by hand may nest deeper, or hold larger numbers, than can be written: `sound` tells.
+/// One that is made by hand may nest too deep, or hold too large numbers, to be written: `sound` tells.
 #[derive(Drop)]
 pub enum Tree {
     Null,

@@ -11,6 +11,8 @@ use std::alloc::{AllocError, Global};
 use std::collections::BTreeMap;
 
 /// Writes a sound tree as compact JSON: no spaces, members in the byte order of their names.
+///
+/// Where memory is refused the answer is `Memory`, and there is no other fault.
 pub fn write_tree(alloc: Global, tree: &Tree) -> Result<String, TreeFault>
     requires { is_sound (view tree.now) ≡ true }
     ensures text { IfOk result (λ s. string_bytes s ≡ text_of (view tree.now)) }
@@ -59,7 +61,8 @@ fn write_whole(n: i128, out: &mut Writer) -> Result<(), AllocError>
 #[cycle(write)]
 fn write_items(items: &Vec<Tree>, out: &mut Writer) -> Result<(), AllocError>
     requires { items_in_range (items_view items.now.items) ≡ true }
-    ensures ok { OnOk result (WritesItems (items_view items.now.items) out.old.tokens out.new.tokens) }
+    ensures ok { OnOk result
+        (WritesItems (items_view items.now.items) out.old.tokens out.new.tokens) }
     ensures before { out.new.before ≡ out.old.before }
 {
     for item in items {
@@ -71,7 +74,8 @@ fn write_items(items: &Vec<Tree>, out: &mut Writer) -> Result<(), AllocError>
 #[cycle(write)]
 fn write_members(members: &BTreeMap<String, Tree>, out: &mut Writer) -> Result<(), AllocError>
     requires { members_in_range (members_view members.now.entries) ≡ true }
-    ensures ok { OnOk result (WritesMembers (members_view members.now.entries) out.old.tokens out.new.tokens) }
+    ensures ok { OnOk result
+        (WritesMembers (members_view members.now.entries) out.old.tokens out.new.tokens) }
     ensures before { out.new.before ≡ out.old.before }
 {
     for (name, member) in members.iter() {

@@ -1,4 +1,4 @@
-use Rattle.std.proofs.Common.{◌≡◌, ◌∙◌, refl, sym, ap, option_map}
+use Rattle.std.proofs.Common.{◌∙◌, refl, sym, ap, option_map}
 use Rattle.dap_tree.specs.Doc.{object, get}
 use Rattle.dap_tree.specs.View.{view, members_view}
 use Rattle.dap_tree.proofs.Views.{object_from, lent_written, view_of_mut, view-lookup}

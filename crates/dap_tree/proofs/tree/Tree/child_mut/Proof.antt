@@ -1,15 +1,15 @@
 -- `child_mut` passes its reference on to `lend_child`, and hands on what that lends.
-use mathlib.Core.Path.{◌≡◌, refl}
+use mathlib.Core.Path.{refl}
 use mathlib.Core.List.{List, [], ◌∷◌}
 use seplogic.Ra.Ura.{Ura}
 use types.Logic.{Logic}
 use base.Fraction.{full_share}
-use base.Fml.{Lft, ftrue, flft, fsep}
+use base.Fml.{Lft, ftrue, flft}
 use base.Logic.{id⊢, emp}
 use mir.Raw.{raw as raw_of}
 use mir.Syntax.{named, w8}
-use mir.Val.{Val, vptr}
-use types.Kit.{Item, ‵, raw, ◌⊛◌, some, later, ◌$◌, ◌∵◌, !, qed, done, move, keep, drop, use0, use1, split, join, fjoin, pick, await, suffices, frame, group}
+use mir.Val.{Val}
+use types.Kit.{Item, ‵, raw, ◌⊛◌, some, later, ◌$◌, ◌∵◌, !, qed, done, move, keep, drop, use0, use1, split, join, fjoin, pick, await, suffices, frame}
 use types.Run.{enter, addr, stop, no_more, and_then, returns}
 use types.ByLocal.{alloc_all, pass_all, free_all, look_at, get, through, sets, lands_as}
 use contract.Monad.{fact, fact_i}
@@ -32,10 +32,9 @@ use denote.Such.{Such, such_Tells, such_Lawful}
 use denote.Text.{Utf8, StrRefOf}
 use denote.Triple.Call.{calls_at}
 use denote.Triple.Clauses.{lasts, at_exit}
-use denote.Triple.Entry.{on_entry}
 use denote.Triple.Spec.{triple_of}
 use denote.Triple.Table.{framed}
-use denote.Triple.Walked.{Stays, stay_dropped, walk_of, ends_at, says, Goes-spent_ref, Goes-dropped}
+use denote.Triple.Walked.{Stays, stay_dropped, walk_of, ends_at, Goes-spent_ref, Goes-dropped}
 use Rattle.std.proofs.raw_atomic.Walks.{proved}
 use Rattle.std.proofs.option.Option.TheLaws.{the_row_laws as option_laws}
 use Rattle.std.specs.contracts.option.Option
