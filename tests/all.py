@@ -36,6 +36,7 @@ def main():
     if failed == 0:
         for name, script in [
             ("the program on the examples", "program.py"),
+            ("the captures of real adapters", "captures.py"),
             ("growths of memory refused in turn", "fault_injection.py"),
             ("what the documents name", "documents.py"),
         ]:
