@@ -1,8 +1,8 @@
 -- The walk that counts levels down tests the depth and the ranges, and a document nests as its JSON value does.
-use Rattle.std.proofs.Common.{◌≡◌, ℕ, suc, max, ◌-◌, Bool, true, ◌&&◌, refl, sym, ap, ap₂, ◌∙◌, arith, ltb, leb, le-leb}
+use Rattle.std.proofs.Common.{◌≡◌, ℕ, suc, max, ◌-◌, Bool, true, false, not, ◌&&◌, ◌||◌, refl, sym, ap, ap₂, ◌∙◌, arith, ltb, leb, le-leb}
 use Rattle.std.proofs.lemmas.Bool.Decides.{nat_tests}
 use Rattle.serde_json.specs.Data as json
-use Rattle.dap_tree.specs.Doc.{Doc, null, boolean, whole, text, list, object, Items, no_items, item, Members, no_members, member, depth, items_depth, members_depth, in_range, all_in_range, items_in_range, members_in_range, fits, items_fit, members_fit}
+use Rattle.dap_tree.specs.Doc.{Doc, null, boolean, whole, text, list, object, id, Items, no_items, item, Members, no_members, member, depth, items_depth, members_depth, in_range, all_in_range, items_in_range, members_in_range, has_id, items_have_id, members_have_id, is_sound, is_plain, all_plain, items_plain, members_plain, fits, items_fit, members_fit}
 use Rattle.dap_tree.specs.Json.{data_of, items_data, members_data}
 
 both : (a b n : ℕ) (p q : Bool) → ((leb a n && p) && (leb b n && q)) ≡ (leb (max a b) n && (p && q))
@@ -22,6 +22,7 @@ mutual
   fits_is n (text s) = sym (ap (λ b. b && true) (at_zero n))
   fits_is n (list ds) = ap (λ b. ltb 0 n && b) (items_fit_is (n - 1) ds) ∙ under n (items_depth ds) (items_in_range ds)
   fits_is n (object ms) = ap (λ b. ltb 0 n && b) (members_fit_is (n - 1) ms) ∙ under n (members_depth ms) (members_in_range ms)
+  fits_is n (id s z) = sym (ap (λ b. b && true) (at_zero n))
 
   pub items_fit_is : (n : ℕ) (ds : Items) → items_fit n ds ≡ (leb (items_depth ds) n && items_in_range ds)
   items_fit_is n no_items = sym (ap (λ b. b && true) (at_zero n))
@@ -39,6 +40,7 @@ mutual
   depth_data (text s) = refl
   depth_data (list ds) = ap suc (items_depth_data ds)
   depth_data (object ms) = ap suc (members_depth_data ms)
+  depth_data (id s z) = refl
 
   items_depth_data : (ds : Items) → json.items_depth (items_data ds) ≡ items_depth ds
   items_depth_data no_items = refl
@@ -47,3 +49,34 @@ mutual
   members_depth_data : (ms : Members) → json.members_depth (members_data ms) ≡ members_depth ms
   members_depth_data no_members = refl
   members_depth_data (member k d ms) = ap₂ max (depth_data d) (members_depth_data ms)
+
+-- ---- plain documents
+
+cross : (a b p q : Bool) → ((a && not p) && (b && not q)) ≡ ((a && b) && not (p || q))
+cross true true true q = refl
+cross true true false q = refl
+cross true false true q = refl
+cross true false false q = refl
+cross false b p q = refl
+
+alone : (b : Bool) → b ≡ (b && true)
+alone true = refl
+alone false = refl
+
+mutual
+  pub plain_is : (d : Doc) → all_plain d ≡ (all_in_range d && not (has_id d))
+  plain_is null = refl
+  plain_is (boolean b) = refl
+  plain_is (whole z) = alone (in_range z)
+  plain_is (text s) = refl
+  plain_is (list ds) = items_plain_is ds
+  plain_is (object ms) = members_plain_is ms
+  plain_is (id s z) = refl
+
+  items_plain_is : (ds : Items) → items_plain ds ≡ (items_in_range ds && not (items_have_id ds))
+  items_plain_is no_items = refl
+  items_plain_is (item d ds) = ap₂ (λ a b. a && b) (plain_is d) (items_plain_is ds) ∙ cross (all_in_range d) (items_in_range ds) (has_id d) (items_have_id ds)
+
+  members_plain_is : (ms : Members) → members_plain ms ≡ (members_in_range ms && not (members_have_id ms))
+  members_plain_is no_members = refl
+  members_plain_is (member k d ms) = ap₂ (λ a b. a && b) (plain_is d) (members_plain_is ms) ∙ cross (all_in_range d) (members_in_range ms) (has_id d) (members_have_id ms)

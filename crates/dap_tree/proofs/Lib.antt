@@ -1,8 +1,12 @@
 pub mod Booleans
 pub mod Views
 pub mod Depths
+pub mod Without
 pub mod Reading
 pub mod Numbers
 pub mod Writing
 pub mod Paths
+pub mod Joins
+pub mod Numbered
 pub mod Outcomes
+pub mod IdPaths

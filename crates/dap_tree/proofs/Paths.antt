@@ -1,11 +1,11 @@
 -- A change at one member, read path by path.
-use Rattle.std.proofs.Common.{◌≡◌, ◌≢◌, ℕ, List, ◌∷◌, Option, Some, None, option_map, option_and_then, Ordering, Less, Equal, Greater, nat_cmp, Bool, true, false, bytes_eq, is_eq, refl, sym, ap, ◌∙◌}
+use Rattle.std.proofs.Common.{◌≡◌, ◌≢◌, ℕ, List, zero, suc, ◌∷◌, Option, Some, None, option_map, option_and_then, Ordering, Less, Equal, Greater, nat_cmp, Bool, true, false, bytes_eq, is_eq, refl, sym, ap, ◌∙◌}
 use Rattle.std.proofs.lemmas.Map.Text.{is_eq-slice_cmp}
 use Rattle.std.proofs.lemmas.Slice.Eq.{bytes_eq-Decides}
 use Rattle.std.specs.Cmp.Lexicographic.{slice_cmp}
 use Rattle.std.specs.Ordering.{match_ordering}
-use Rattle.dap_tree.specs.Doc.{Doc, null, boolean, whole, text, list, object, Members, no_members, member, get, get_member, change_member, change_child}
-use Rattle.dap_tree.specs.Path.{Step, name, place, step, at}
+use Rattle.dap_tree.specs.Doc.{Doc, null, boolean, whole, text, list, object, id, Items, no_items, item, Members, no_members, member, get, get_member, change_member, change_child, map_items}
+use Rattle.dap_tree.specs.Path.{Step, name, place, step, at, get_item}
 
 here_at : (o : Ordering) (k l : List ℕ) (f : Doc → Doc) (e : Doc) (ms changed : Members) → slice_cmp nat_cmp k l ≡ o → get_member k changed ≡ option_map f (get_member k ms)
     → get_member k (match_ordering o (member l e changed) (member l (f e) ms) (member l e changed)) ≡ option_map f (match_ordering o (get_member k ms) (Some e) (get_member k ms))
@@ -25,6 +25,7 @@ get-change k f (whole z) = refl
 get-change k f (text s) = refl
 get-change k f (list ds) = refl
 get-change k f (object ms) = get_member-change k f ms
+get-change k f (id s z) = refl
 
 differ : (xs ys : List ℕ) (b : Bool) → bytes_eq xs ys ≡ b → (xs ≡ ys → ⊥) → b ≡ false
 differ xs ys true e other = absurd (other ((bytes_eq-Decides xs ys).0 e))
@@ -35,7 +36,7 @@ either Less a b e = refl
 either Equal a b e = cc
 either Greater a b e = refl
 
-skips : (q k : List ℕ) (d : Doc) (ms : Members) → (q ≡ k → ⊥) → get_member q (member k d ms) ≡ get_member q ms
+pub skips : (q k : List ℕ) (d : Doc) (ms : Members) → (q ≡ k → ⊥) → get_member q (member k d ms) ≡ get_member q ms
 skips q k d ms other = either (slice_cmp nat_cmp q k) _ _ (is_eq-slice_cmp q k ∙ differ q k _ refl other)
 
 other_at : (o : Ordering) (q k l : List ℕ) (f : Doc → Doc) (e : Doc) (ms changed : Members) → slice_cmp nat_cmp k l ≡ o → (q ≡ k → ⊥) → get_member q changed ≡ get_member q ms
@@ -59,6 +60,13 @@ get-change_other k f (whole z) other apart = refl
 get-change_other k f (text s) other apart = refl
 get-change_other k f (list ds) other apart = refl
 get-change_other k f (object ms) other apart = get_member-change_other other k f ms apart
+get-change_other k f (id s z) other apart = refl
+
+-- f of an item
+pub get_item-map : (f : Doc → Doc) (n : ℕ) (ds : Items) → get_item n (map_items f ds) ≡ option_map f (get_item n ds)
+get_item-map f n no_items = refl
+get_item-map f zero (item d ds) = refl
+get_item-map f (suc n) (item d ds) = get_item-map f n ds
 
 mapped : (f : Doc → Doc) (g h : Doc → Option Doc) → ((d : Doc) → h (f d) ≡ g d) → (o : Option Doc) → option_and_then h (option_map f o) ≡ option_and_then g o
 mapped f g h step None = refl
@@ -77,6 +85,7 @@ step-change_other k f (whole z) (place n) apart = refl
 step-change_other k f (text s) (place n) apart = refl
 step-change_other k f (list ds) (place n) apart = refl
 step-change_other k f (object ms) (place n) apart = refl
+step-change_other k f (id s z) (place n) apart = refl
 
 pub at-change_other : (k : List ℕ) (f : Doc → Doc) (d : Doc) (first : Step) (rest : List Step) → first ≢ name k → at (first ∷ rest) (change_child k f d) ≡ at (first ∷ rest) d
 at-change_other k f d first rest apart = ap (option_and_then (at rest)) (step-change_other k f d first apart)

@@ -10,12 +10,13 @@ use Rattle.serde_json.specs.View.{view as value_view, items_view as values_view,
 use Rattle.serde_json.specs.Written.{has_float, items_have_float, members_have_float}
 use Rattle.serde_json.specs.declared.value.Value.{Value}
 use Rattle.serde_json.proofs.Views.{Entry as Pair, put_last as pair_last}
-use Rattle.dap_tree.specs.Doc.{Doc, Members, no_members, member, put}
+use Rattle.dap_tree.specs.Doc.{Doc, Members, no_members, member, put, has_id, items_have_id, members_have_id}
 use Rattle.dap_tree.specs.Json.{data_of, items_data, members_data, Explains, Stands, ItemsStand, MembersStand}
 use Rattle.dap_tree.specs.View.{view, items_view, members_view}
 use Rattle.dap_tree.specs.declared.tree.Tree.{Tree}
 use Rattle.dap_tree.specs.declared.fault.TreeFault.{TreeFault}
 use Rattle.dap_tree.specs.declared.fault.TreeFault.TheVariants.{Json, Fraction, Memory}
+use Rattle.dap_tree.proofs.Booleans.{or_left, or_right, or_both}
 use Rattle.dap_tree.proofs.Views.{Entry, members_view-insert_entry}
 
 -- ---- faults
@@ -52,8 +53,12 @@ pub items_snoc : (ts : List Tree) (t : Tree) → items_data (items_view (ts ++ t
 items_snoc [] t = refl
 items_snoc (x ∷ ts) t = ap (json.item (data_of (view x))) (items_snoc ts t)
 
+no_id_pushed : (ts : List Tree) (t : Tree) → items_have_id (items_view ts) ≡ false → has_id (view t) ≡ false → items_have_id (items_view (ts ++ t ∷ [])) ≡ false
+no_id_pushed [] t h k = or_both _ false k refl
+no_id_pushed (x ∷ ts) t h k = or_both (has_id (view x)) _ (or_left _ _ h) (no_id_pushed ts t (or_right (has_id (view x)) _ h) k)
+
 pub stand_push : (vs : List Value) (ts : List Tree) (v : Value) (t : Tree) → ItemsStand (values_view vs) (items_view ts) → Stands (value_view v) (view t) → ItemsStand (values_view (vs ++ v ∷ [])) (items_view (ts ++ t ∷ []))
-stand_push vs ts v t done one = values_snoc vs v ∙ ap₂ snoc done one ∙ sym (items_snoc ts t)
+stand_push vs ts v t done one = (values_snoc vs v ∙ ap₂ snoc done.0 one.0 ∙ sym (items_snoc ts t), no_id_pushed ts t done.1 one.1)
 
 -- ---- one more member
 
@@ -66,12 +71,26 @@ pub members_data-put : (k : List ℕ) (d : Doc) (ms : Members) → members_data 
 members_data-put k d no_members = refl
 members_data-put k d (member l e ms) = put_data_at (slice_cmp nat_cmp k l) _ _ _ ∙ rw (members_data-put k d ms)
 
+no_id_at : (o : Ordering) (a b c : Members) → members_have_id a ≡ false → members_have_id b ≡ false → members_have_id c ≡ false → members_have_id (match_ordering o a b c) ≡ false
+no_id_at Less a b c p q r = p
+no_id_at Equal a b c p q r = q
+no_id_at Greater a b c p q r = r
+
+no_id_put : (k : List ℕ) (d : Doc) (ms : Members) → has_id d ≡ false → members_have_id ms ≡ false → members_have_id (put k d ms) ≡ false
+no_id_put k d no_members h g = or_both _ false h refl
+no_id_put k d (member l e ms) h g =
+    let first = or_left (has_id e) (members_have_id ms) g in
+    let rest = or_right (has_id e) (members_have_id ms) g in
+    no_id_at (slice_cmp nat_cmp k l) _ _ _ (or_both _ _ h g) (or_both _ _ h rest) (or_both _ _ first (no_id_put k d ms h rest))
+
 pub stand_insert : (done : List Pair) (p : Pair) (left : List Pair) (es : List Entry) (t : Tree) → IsStrictlySortedBy string_cmp (keys_of (done ++ p ∷ left))
     → MembersStand (pairs_view done) (members_view es) → Stands (value_view p.1) (view t) → MembersStand (pairs_view (done ++ p ∷ [])) (members_view (insert_entry string_cmp es p.0 t))
 stand_insert done p left es t ordered before one =
     let name = string_bytes p.0 in
-    let written = members_view-insert_entry es p.0 t in
-    sym (pair_last done p left ordered) ∙ ap₂ (json.put name) one before ∙ sym (ap members_data written ∙ members_data-put name (view t) (members_view es))
+    let written = members_view-insert_entry es p.0 t in (
+      sym (pair_last done p left ordered) ∙ ap₂ (json.put name) one.0 before.0 ∙ sym (ap members_data written ∙ members_data-put name (view t) (members_view es)),
+      ap members_have_id written ∙ no_id_put name (view t) (members_view es) one.1 before.1,
+    )
 
 -- ---- lists
 

@@ -5,11 +5,11 @@ use Rattle.std.specs.Cmp.Lexicographic.{slice_cmp}
 use Rattle.std.specs.List.{AllByRecursion}
 use Rattle.std.specs.List.Sorted.{IsStrictlySortedBy}
 use Rattle.std.specs.Map.{keys_of, lookup, set_value}
-use Rattle.std.specs.Option.{option_copied_mut}
-use Rattle.std.specs.Prelude.{OnSome}
 use Rattle.std.specs.Ordering.{match_ordering, ordering_reverse}
 use Rattle.std.specs.BTreeMap.{insert_entry, is_at}
-use Rattle.dap_tree.specs.Doc.{Doc, null, boolean, whole, text, list, object, Members, no_members, member, put, get, get_member, change_member, change_child, as_object}
+use Rattle.std.specs.Option.{option_copied_mut}
+use Rattle.std.specs.Prelude.{OnSome}
+use Rattle.dap_tree.specs.Doc.{Doc, null, boolean, whole, text, list, object, id, Members, no_members, member, put, get, get_member, change_member, change_child, as_object}
 use Rattle.dap_tree.specs.View.{view, items_view, members_view}
 use Rattle.dap_tree.specs.declared.tree.Tree.{Tree, the_lemmas}
 use Rattle.dap_tree.specs.declared.tree.Tree as tree
@@ -71,6 +71,7 @@ object_from (whole z) ms e = cc
 object_from (text s) ms e = cc
 object_from (list ds) ms e = cc
 object_from (object ns) ms e = cc
+object_from (id s z) ms e = cc
 
 pub unchanged : (k : List ℕ) (f : Doc → Doc) (d : Doc) → None ≡ as_object d → d ≡ change_child k f d
 unchanged k f null e = refl
@@ -79,6 +80,7 @@ unchanged k f (whole z) e = refl
 unchanged k f (text s) e = refl
 unchanged k f (list ds) e = refl
 unchanged k f (object ns) e = cc
+unchanged k f (id s z) e = refl
 
 -- what is no object has no members
 pub no_member : (k : List ℕ) (d : Doc) → None ≡ as_object d → get k d ≡ None
@@ -88,6 +90,7 @@ no_member k (whole z) e = refl
 no_member k (text s) e = refl
 no_member k (list ds) e = refl
 no_member k (object ns) e = cc
+no_member k (id s z) e = refl
 
 -- the keys that are this name
 abbrev at_name : List ℕ → String Global → Bool
@@ -166,3 +169,4 @@ change_nothing k (whole z) = refl
 change_nothing k (text s) = refl
 change_nothing k (list ds) = refl
 change_nothing k (object ms) = ap object (change_no_member k ms)
+change_nothing k (id s z) = refl

@@ -1,6 +1,7 @@
 -- The tokens of a document: their text is its compact text, and they read back as the document.
 use Rattle.std.proofs.Common.{◌≡◌, ℕ, suc, max, ◌≤◌, ◌^◌, List, [], ◌∷◌, ◌++◌, Bool, true, false, ◌||◌, Some, option_map, option_and_then, refl, sym, ap, ap₂, ◌∙◌, subst, leb, ℤ, pos, negsuc, nat_abs, int_lt, decimal, string_bytes, string_cmp, append_assoc, append-nil, w64, to_z, of_z, arith}
 use Rattle.std.proofs.Math.Facts.{to_z-neg}
+use Rattle.std.specs.Prelude.{FitsSigned, ◌<◌}
 use Rattle.std.proofs.lemmas.Bool.{leb-true, ltb-true}
 use Rattle.std.specs.Fmt.{signed_decimal}
 use Rattle.std.specs.List.Sorted.{IsStrictlySortedBy}
@@ -18,7 +19,7 @@ use Rattle.serde_json.specs.Read.{of_json, of_members, max_depth, read}
 use Rattle.serde_json.specs.Written.{compact_text, has_float, items_have_float, members_have_float}
 use Rattle.serde_json.proofs.Numbers.{number_of-decimal, number_of-negative}
 use Rattle.serde_json.proofs.Texts.{print-outline}
-use Rattle.dap_tree.specs.Doc.{Doc, null, boolean, whole, text, list, object, Items, no_items, item, Members, no_members, member, depth, items_depth, members_depth, in_range, all_in_range, is_sound}
+use Rattle.dap_tree.specs.Doc.{Doc, null, boolean, whole, text, list, object, id, Items, no_items, item, Members, no_members, member, depth, items_depth, members_depth, in_range, all_in_range, is_sound}
 use Rattle.dap_tree.specs.Json.{data_of, items_data, members_data}
 use Rattle.dap_tree.specs.View.{view, members_view}
 use Rattle.dap_tree.specs.Written.{json_of, items_json, members_json, WritesDoc}
@@ -44,6 +45,7 @@ mutual
   no_float (text s) = refl
   no_float (list ds) = items_no_float ds
   no_float (object ms) = members_no_float ms
+  no_float (id s z) = whole_number z
 
   items_no_float : (ds : Items) → items_have_float (items_data ds) ≡ false
   items_no_float no_items = refl
@@ -61,6 +63,7 @@ mutual
   depth_json (text s) = refl
   depth_json (list ds) = ap suc (items_depth_json ds)
   depth_json (object ms) = ap suc (members_depth_json ms)
+  depth_json (id s z) = refl
 
   items_depth_json : (ds : Items) → tree.items_depth (items_json ds) ≡ items_depth ds
   items_depth_json no_items = refl
@@ -86,6 +89,19 @@ negative_written (negsuc n) y old new same below ranged e = (e ∙ ap (λ z. old
 pub unsigned_written : (z : ℤ) (m : ℕ) (old new : List Token) → m ≡ nat_abs z → int_lt z (pos 0) ≡ false → in_range z ≡ true → new ≡ old ++ number (decimal m) ∷ [] → WritesDoc (whole z) old new
 unsigned_written (pos n) m old new same above ranged e = (e ∙ ap (λ k. old ++ number (decimal k) ∷ []) same, ap (option_map json.number) (number_of-decimal n (ltb-true n (2 ^ 64) ranged)))
 unsigned_written (negsuc n) m old new same above ranged e = absurd (grind (arith, above))
+
+below_half : (n : ℕ) → FitsSigned w64 (pos n) → n < 2 ^ 63
+below_half n h = omega (arith, h)
+
+above_half : (n : ℕ) → FitsSigned w64 (negsuc n) → n < 2 ^ 63
+above_half n h = omega (arith, h)
+
+-- a number of 64 bits
+pub signed_written : (z y : ℤ) (old new : List Token) → y ≡ z → FitsSigned w64 z → new ≡ old ++ number (signed_decimal y) ∷ [] → WritesDoc (whole z) old new
+signed_written (pos n) y old new same ranged e =
+    let below : n < 2 ^ 64 = omega (arith, below_half n ranged) in
+    (e ∙ ap (λ z. old ++ number (signed_decimal z) ∷ []) same, ap (option_map json.number) (number_of-decimal n below))
+signed_written (negsuc n) y old new same ranged e = (e ∙ ap (λ z. old ++ number (signed_decimal z) ∷ []) same, ap (option_map json.number) (number_of-negative n (above_half n ranged)))
 
 -- ---- one more member
 

@@ -1,9 +1,9 @@
--- What contracts see of a tree: a JSON value of whole numbers, whose members stand in the byte order of their names.
-use Rattle.std.specs.Prelude.{ℕ, suc, max, ◌^◌, ◌-◌, ℤ, pos, negsuc, List, Bool, true, ◌&&◌, nat_le, nat_lt, Option, Some, None}
-use Rattle.std.specs.Ordering.{nat_cmp, match_ordering}
+-- What contracts see of a tree: a JSON value of whole numbers and ids, whose members stand in the byte order of their names.
+use Rattle.std.specs.Prelude.{ℕ, suc, max, ◌^◌, ◌-◌, ℤ, pos, negsuc, List, Bool, true, false, ◌&&◌, ◌||◌, not, nat_le, nat_lt, Option, Some, None}
+use Rattle.std.specs.Ordering.{nat_cmp, match_ordering, is_lt}
 use Rattle.std.specs.Cmp.Lexicographic.{slice_cmp}
+use Rattle.dap_tree.specs.declared.sort.Sort.{Sort}
 
--- A JSON value (RFC 8259) whose numbers are whole. A text and a name are their UTF-8 bytes.
 mutual
   pub data Doc : Type 0 where
     null : Doc
@@ -12,6 +12,7 @@ mutual
     text : List ℕ → Doc
     list : Items → Doc
     object : Members → Doc
+    id : Sort → ℤ → Doc
 
   pub data Items : Type 0 where
     no_items : Items
@@ -32,6 +33,7 @@ abbrev mutual
   depth (text s) = 0
   depth (list ds) = suc (items_depth ds)
   depth (object ms) = suc (members_depth ms)
+  depth (id s z) = 0
 
   pub items_depth : Items → ℕ
   items_depth no_items = 0
@@ -46,7 +48,7 @@ abbrev pub in_range : ℤ → Bool
 in_range (pos n) = nat_lt n (2 ^ 64)
 in_range (negsuc n) = nat_lt n (2 ^ 63)
 
--- Each whole number of the document is in range.
+-- Each whole number of the document is in range: the number of an id, which is of 64 bits, is not asked.
 abbrev mutual
   pub all_in_range : Doc → Bool
   all_in_range null = true
@@ -55,6 +57,7 @@ abbrev mutual
   all_in_range (text s) = true
   all_in_range (list ds) = items_in_range ds
   all_in_range (object ms) = members_in_range ms
+  all_in_range (id s z) = true
 
   pub items_in_range : Items → Bool
   items_in_range no_items = true
@@ -72,6 +75,48 @@ max_depth = 127
 abbrev pub is_sound : Doc → Bool
 is_sound d = nat_le (depth d) max_depth && all_in_range d
 
+-- Whether some id is in the document.
+abbrev mutual
+  pub has_id : Doc → Bool
+  has_id null = false
+  has_id (boolean b) = false
+  has_id (whole z) = false
+  has_id (text s) = false
+  has_id (list ds) = items_have_id ds
+  has_id (object ms) = members_have_id ms
+  has_id (id s z) = true
+
+  pub items_have_id : Items → Bool
+  items_have_id no_items = false
+  items_have_id (item d ds) = has_id d || items_have_id ds
+
+  pub members_have_id : Members → Bool
+  members_have_id no_members = false
+  members_have_id (member k d ms) = has_id d || members_have_id ms
+
+-- A plain document (own) is sound, and has no id: it is what a content is read as.
+abbrev pub is_plain : Doc → Bool
+is_plain d = is_sound d && not (has_id d)
+
+-- For lemmas: what a plain document has beside its depth. Each whole number is in range, and no id is there.
+abbrev mutual
+  pub all_plain : Doc → Bool
+  all_plain null = true
+  all_plain (boolean b) = true
+  all_plain (whole z) = in_range z
+  all_plain (text s) = true
+  all_plain (list ds) = items_plain ds
+  all_plain (object ms) = members_plain ms
+  all_plain (id s z) = false
+
+  pub items_plain : Items → Bool
+  items_plain no_items = true
+  items_plain (item d ds) = all_plain d && items_plain ds
+
+  pub members_plain : Members → Bool
+  members_plain no_members = true
+  members_plain (member k d ms) = all_plain d && members_plain ms
+
 -- For private clauses: the document is in range, and fits so many levels.
 abbrev mutual
   pub fits : ℕ → Doc → Bool
@@ -81,6 +126,7 @@ abbrev mutual
   fits n (text s) = true
   fits n (list ds) = nat_lt 0 n && items_fit (n - 1) ds
   fits n (object ms) = nat_lt 0 n && members_fit (n - 1) ms
+  fits n (id s z) = true
 
   pub items_fit : ℕ → Items → Bool
   items_fit n no_items = true
@@ -92,7 +138,7 @@ abbrev mutual
 
 -- ---- members
 
--- The members of an object (own): no other document has any.
+-- The members of an object.
 abbrev pub as_object : Doc → Option Members
 as_object null = None
 as_object (boolean b) = None
@@ -100,13 +146,13 @@ as_object (whole z) = None
 as_object (text s) = None
 as_object (list ds) = None
 as_object (object ms) = Some ms
+as_object (id s z) = None
 
--- The member of that name, among members.
 abbrev pub get_member : List ℕ → Members → Option Doc
 get_member k no_members = None
 get_member k (member l e ms) = match_ordering (slice_cmp nat_cmp k l) (get_member k ms) (Some e) (get_member k ms)
 
--- The member of that name (own): there is one in an object alone.
+-- The member of that name (JSON): there is one in an object alone.
 abbrev pub get : List ℕ → Doc → Option Doc
 get k null = None
 get k (boolean b) = None
@@ -114,13 +160,13 @@ get k (whole z) = None
 get k (text s) = None
 get k (list ds) = None
 get k (object ms) = get_member k ms
+get k (id s z) = None
 
 -- The members, with d at the name k: in the place of the member of that name, or between its neighbours.
 abbrev pub put : List ℕ → Doc → Members → Members
 put k d no_members = member k d no_members
 put k d (member l e ms) = match_ordering (slice_cmp nat_cmp k l) (member k d (member l e ms)) (member l d ms) (member l e (put k d ms))
 
--- The members with f of the one of that name in its place.
 abbrev pub change_member : List ℕ → (Doc → Doc) → Members → Members
 change_member k f no_members = no_members
 change_member k f (member l e ms) = match_ordering (slice_cmp nat_cmp k l) (member l e (change_member k f ms)) (member l (f e) ms) (member l e (change_member k f ms))
@@ -133,3 +179,44 @@ change_child k f (whole z) = whole z
 change_child k f (text s) = text s
 change_child k f (list ds) = list ds
 change_child k f (object ms) = object (change_member k f ms)
+change_child k f (id s z) = id s z
+
+-- The name is less in byte order than each of the members'.
+abbrev pub is_below_all : List ℕ → Members → Bool
+is_below_all k no_members = true
+is_below_all k (member l e ms) = is_lt (slice_cmp nat_cmp k l) && is_below_all k ms
+
+-- The members of each object stand in the byte order of their names, each name once (own). A `BTreeMap` keeps them so, but no contract says it of every `Tree`.
+abbrev mutual
+  pub is_ordered : Doc → Bool
+  is_ordered null = true
+  is_ordered (boolean b) = true
+  is_ordered (whole z) = true
+  is_ordered (text s) = true
+  is_ordered (list ds) = items_ordered ds
+  is_ordered (object ms) = members_ordered ms
+  is_ordered (id s z) = true
+
+  pub items_ordered : Items → Bool
+  items_ordered no_items = true
+  items_ordered (item d ds) = is_ordered d && items_ordered ds
+
+  pub members_ordered : Members → Bool
+  members_ordered no_members = true
+  members_ordered (member k d ms) = is_below_all k ms && (is_ordered d && members_ordered ms)
+
+-- ---- items
+
+abbrev pub map_items : (Doc → Doc) → Items → Items
+map_items f no_items = no_items
+map_items f (item d ds) = item (f d) (map_items f ds)
+
+-- The list with f of each of its items (own): a document that is no list as it is.
+abbrev pub change_items : (Doc → Doc) → Doc → Doc
+change_items f null = null
+change_items f (boolean b) = boolean b
+change_items f (whole z) = whole z
+change_items f (text s) = text s
+change_items f (list ds) = list (map_items f ds)
+change_items f (object ms) = object ms
+change_items f (id s z) = id s z

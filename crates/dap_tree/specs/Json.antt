@@ -1,14 +1,14 @@
 -- Documents beside the JSON values of `serde_json`, and the reading of a content.
-use Rattle.std.specs.Prelude.{◌≡◌, List, ℕ, Bool, true, Some, IsUtf8}
+use Rattle.std.specs.Prelude.{◌≡◌, List, ℕ, Bool, true, false, Some, IsUtf8}
 use Rattle.serde_json.specs.Data as json
 use Rattle.serde_json.specs.Find.{of_integer}
 use Rattle.serde_json.specs.Read.{read}
 use Rattle.serde_json.specs.Written.{compact_text, has_float, items_have_float, members_have_float}
-use Rattle.dap_tree.specs.Doc.{Doc, null, boolean, whole, text, list, object, Items, no_items, item, Members, no_members, member}
+use Rattle.dap_tree.specs.Doc.{Doc, null, boolean, whole, text, list, object, id, Items, no_items, item, Members, no_members, member, has_id, items_have_id, members_have_id}
 use Rattle.dap_tree.specs.declared.fault.TreeFault.{TreeFault}
 use Rattle.dap_tree.specs.declared.fault.TreeFault.TheVariants.{Json, Fraction, Memory}
 
--- The JSON value that a document is written as (own).
+-- The JSON value that a document is written as: an id as its number.
 abbrev mutual
   pub data_of : Doc → json.Data
   data_of null = json.null
@@ -17,6 +17,7 @@ abbrev mutual
   data_of (text s) = json.string s
   data_of (list ds) = json.array (items_data ds)
   data_of (object ms) = json.object (members_data ms)
+  data_of (id s z) = json.number (of_integer z)
 
   pub items_data : Items → json.Items
   items_data no_items = json.no_items
@@ -26,7 +27,7 @@ abbrev mutual
   members_data no_members = json.no_members
   members_data (member k d ms) = json.member k (data_of d) (members_data ms)
 
--- The canonical text of a document (own: the compact text of serde_json), without spaces.
+-- The compact text of a document (serde_json): no spaces, members in the byte order of their names.
 abbrev pub text_of : Doc → List ℕ
 text_of d = compact_text (data_of d)
 
@@ -36,9 +37,9 @@ text_of d = compact_text (data_of d)
 abbrev pub Reads : List ℕ → json.Data → Type 0
 Reads bytes d = IsUtf8 bytes × (read bytes ≡ Some d)
 
--- The content is the text of this document: each number is kept as a whole number.
+-- The content is the text of this document: each number is kept as a whole number, and none is an id.
 abbrev pub IsRead : List ℕ → Doc → Type 0
-IsRead bytes d = Reads bytes (data_of d)
+IsRead bytes d = Reads bytes (data_of d) × (has_id d ≡ false)
 
 -- The content is no JSON text.
 abbrev pub HasNoReading : List ℕ → Type 0
@@ -54,7 +55,6 @@ pub data Outcome : Type 0 where
   no_reading : Outcome
   fraction : Outcome
 
--- The outcome is that of the content.
 abbrev pub HasOutcome : List ℕ → Outcome → Type 0
 HasOutcome bytes (document d) = IsRead bytes d
 HasOutcome bytes no_reading = HasNoReading bytes
@@ -74,32 +74,26 @@ Tells o Memory = Unit {0}
 
 -- ---- for private clauses: a document beside a value that has been read
 
--- The document is that of the value.
 abbrev pub Stands : json.Data → Doc → Type 0
-Stands v d = v ≡ data_of d
+Stands v d = (v ≡ data_of d) × (has_id d ≡ false)
 
--- The same of items.
 abbrev pub ItemsStand : json.Items → Items → Type 0
-ItemsStand vs ds = vs ≡ items_data ds
+ItemsStand vs ds = (vs ≡ items_data ds) × (items_have_id ds ≡ false)
 
--- The same of members.
 abbrev pub MembersStand : json.Members → Members → Type 0
-MembersStand vs ms = vs ≡ members_data ms
+MembersStand vs ms = (vs ≡ members_data ms) × (members_have_id ms ≡ false)
 
--- What a fault tells of a value that may have a float.
+-- What a fault tells of a value: whether it has a float.
 abbrev pub Explains : Bool → TreeFault → Type 0
 Explains float Json = ⊥
 Explains float Fraction = float ≡ true
 Explains float Memory = Unit {0}
 
--- The same of a value.
 abbrev pub ExplainsData : json.Data → TreeFault → Type 0
 ExplainsData v = Explains (has_float v)
 
--- The same of items.
 abbrev pub ExplainsItems : json.Items → TreeFault → Type 0
 ExplainsItems vs = Explains (items_have_float vs)
 
--- The same of members.
 abbrev pub ExplainsMembers : json.Members → TreeFault → Type 0
 ExplainsMembers vs = Explains (members_have_float vs)

@@ -1,19 +1,21 @@
 -- Places in a document.
-use Rattle.std.specs.Prelude.{ℕ, zero, suc, List, [], ◌∷◌, Option, Some, None, option_and_then}
-use Rattle.dap_tree.specs.Doc.{Doc, null, boolean, whole, text, list, object, Items, no_items, item, get}
+use Rattle.std.specs.Prelude.{◌≡◌, ◌⊎◌, ℕ, zero, suc, ◌<◌, ℤ, List, [], ◌∷◌, map, AllPairs, Contains, true, Option, Some, None, option_and_then}
+use Rattle.std.specs.Cmp.Lexicographic.{slice_cmp}
+use Rattle.std.specs.Ordering.{nat_cmp, is_lt}
+use Rattle.dap_tree.specs.declared.sort.Sort.{Sort}
+use Rattle.dap_tree.specs.Doc.{Doc, null, boolean, whole, text, list, object, id, Items, no_items, item, get}
+use Rattle.dap_tree.specs.Ids.{ids}
 
 -- A step into a document (own): to a member by its name, or to an item by its place, from 0.
 pub data Step : Type 0 where
   name : List ℕ → Step
   place : ℕ → Step
 
--- The item at that place.
 abbrev pub get_item : ℕ → Items → Option Doc
 get_item n no_items = None
 get_item zero (item d ds) = Some d
 get_item (suc n) (item d ds) = get_item n ds
 
--- What one step leads to.
 abbrev pub step : Step → Doc → Option Doc
 step (name k) d = get k d
 step (place n) null = None
@@ -22,8 +24,30 @@ step (place n) (whole z) = None
 step (place n) (text s) = None
 step (place n) (list ds) = get_item n ds
 step (place n) (object ms) = None
+step (place n) (id s z) = None
 
 -- What stands at the path (own): None, where some step leads nowhere.
 abbrev pub at : List Step → Doc → Option Doc
 at [] d = Some d
 at (p ∷ ps) d = option_and_then (at ps) (step p d)
+
+-- ---- the order of paths
+
+-- A step stands before another (own): its name is less in byte order, or its place is less.
+abbrev pub StandsBefore : Step → Step → Type 0
+StandsBefore (name k) (name l) = is_lt (slice_cmp nat_cmp k l) ≡ true
+StandsBefore (name k) (place n) = ⊥
+StandsBefore (place m) (name l) = ⊥
+StandsBefore (place m) (place n) = m < n
+
+-- A path is before another (own): at the first step where they differ, its step stands before the other's.
+abbrev pub IsBefore : List Step → List Step → Type 0
+IsBefore [] qs = ⊥
+IsBefore (p ∷ ps) [] = ⊥
+IsBefore (p ∷ ps) (q ∷ qs) = StandsBefore p q ⊎ ((p ≡ q) × IsBefore ps qs)
+
+-- The paths to the ids of a document (own): the i-th leads to the i-th id, each is before the later ones, and no other path leads to an id.
+pub record AreIdPaths (d : Doc) (paths : List (List Step)) : Type 0 where
+  pub reached : map (λ p. at p d) paths ≡ map (λ i. Some (id i.0 i.1)) (ids d)
+  pub ordered : AllPairs IsBefore paths
+  pub every : (p : List Step) (s : Sort) (z : ℤ) → at p d ≡ Some (id s z) → Contains paths p

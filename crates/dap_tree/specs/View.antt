@@ -1,16 +1,14 @@
 -- The document that a `Tree` stands for.
 use Rattle.std.specs.Prelude.{List, [], ◌∷◌, map, String, string_bytes}
 use Rattle.std.specs.declared.alloc.Global.{Global}
-use Rattle.dap_tree.specs.Doc.{Doc, null, boolean, whole, text, list, object, Items, no_items, item, Members, no_members, member}
+use Rattle.dap_tree.specs.Doc.{Doc, null, boolean, whole, text, list, object, id, Items, no_items, item, Members, no_members, member}
 use Rattle.dap_tree.specs.declared.tree.Tree.{Tree, fold-Tree}
 use Rattle.dap_tree.specs.declared.tree.Tree.TheOpen.{Tree-F}
 
--- Documents, as the items of a list.
 abbrev pub items_of : List Doc → Items
 items_of [] = no_items
 items_of (d ∷ ds) = item d (items_of ds)
 
--- Documents by their names, as the members of an object.
 abbrev pub members_of : List (String Global × Doc) → Members
 members_of [] = no_members
 members_of (m ∷ ms) = member (string_bytes m.0) m.1 (members_of ms)
@@ -23,15 +21,14 @@ view_step (Tree-F.Whole z) = whole z
 view_step (Tree-F.Text s) = text (string_bytes s)
 view_step (Tree-F.List v) = list (items_of v.items)
 view_step (Tree-F.Object m) = object (members_of m.entries)
+view_step (Tree-F.Id s z) = id s z
 
 -- The document of a tree (own).
 abbrev pub view : Tree → Doc
 view = fold-Tree Doc view_step
 
--- The items that the trees stand for.
 abbrev pub items_view : List Tree → Items
 items_view ts = items_of (map view ts)
 
--- The members that the entries of a map stand for.
 abbrev pub members_view : List (String Global × Tree) → Members
 members_view ms = members_of (map (λ m. (m.0, view m.1)) ms)

@@ -9,15 +9,13 @@ use Rattle.serde_json.specs.Written.{outline, items_outline, members_outline}
 use Rattle.dap_tree.specs.Doc.{Doc, Items, Members}
 use Rattle.dap_tree.specs.Json.{data_of, items_data, members_data}
 
--- A document in the grammar of JSON (json).
+-- A document in the grammar of JSON (RFC 8259).
 abbrev pub json_of : Doc → grammar.Json
 json_of d = outline (data_of d)
 
--- The same of items.
 abbrev pub items_json : Items → grammar.Items
 items_json ds = items_outline (items_data ds)
 
--- The same of members.
 abbrev pub members_json : Members → grammar.Members
 members_json ms = members_outline (members_data ms)
 

@@ -27,6 +27,7 @@ fn copy_tree(alloc: Global, tree: &Tree) -> Result<Tree, AllocError>
         Tree::Text(text) => Ok(Tree::Text(text.clone()?)),
         Tree::List(items) => Ok(Tree::List(copy_items(alloc, items)?)),
         Tree::Object(members) => Ok(Tree::Object(copy_members(alloc, members)?)),
+        Tree::Id(sort, n) => Ok(Tree::Id(*sort, *n)),
     }
 }
 

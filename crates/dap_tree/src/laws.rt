@@ -1,15 +1,16 @@
 //! Laws of the definitions that the contracts of this crate speak in. Each function does nothing.
-ghost use Rattle.dap_tree.specs.Laws.{SomeOutcome, OneOutcome, ReadIsSound, ChangesMember, KeepsMembers, ChangesPaths, KeepsPaths};
+ghost use Rattle.dap_tree.specs.Laws.{SomeOutcome, OneOutcome, ReadIsPlain, ChangesMember, KeepsMembers, ChangesPaths, KeepsPaths};
+ghost use Rattle.dap_tree.specs.Laws.{CountsIds, NumbersIds, TakesIds, KeepsOwnIds, KeepsSound, KeepsSkeleton, DiffersInNumbers, SkeletonTells, SkeletonHasSorts, SkeletonHasCount, SkeletonHasDepth, SkeletonIsAsSound, WithoutIdsIsPlain, PlainHasNoIds, HasSameText, IdsStandByPath};
 
-/// Every content is the text of one tree, no JSON, or JSON with a fraction: one of the three alone.
+/// Every content is one of three, and one alone: the text of one tree, no JSON, or JSON with a fraction.
 pub fn one_outcome()
     ensures some { SomeOutcome }
     ensures one { OneOutcome }
 {}
 
-/// A content nests no deeper than a tree may, and its whole numbers are in range.
-pub fn read_is_sound()
-    ensures { ReadIsSound }
+/// A content nests no deeper than a tree may, its whole numbers are in range, and it has no ids.
+pub fn read_is_plain()
+    ensures { ReadIsPlain }
 {}
 
 /// A change at one name changes the member of that name and nothing else.
@@ -18,4 +19,36 @@ pub fn changes_one_member()
     ensures members { KeepsMembers }
     ensures path { ChangesPaths }
     ensures paths { KeepsPaths }
+{}
+
+/// The i-th number goes to the i-th id, and nothing else changes.
+pub fn numbers_ids()
+    ensures count { CountsIds }
+    ensures numbers { NumbersIds }
+    ensures ids { TakesIds }
+    ensures own { KeepsOwnIds }
+    ensures sound { KeepsSound }
+{}
+
+/// Two documents have one skeleton exactly where they differ at most in the numbers of their ids.
+pub fn skeletons_are_all_but_numbers()
+    ensures same { KeepsSkeleton }
+    ensures differ { DiffersInNumbers }
+    ensures told { SkeletonTells }
+    ensures sorts { SkeletonHasSorts }
+    ensures count { SkeletonHasCount }
+    ensures depth { SkeletonHasDepth }
+    ensures sound { SkeletonIsAsSound }
+{}
+
+/// The ids of a document may be whole numbers, and the text is the same.
+pub fn ids_are_written_as_numbers()
+    ensures plain { WithoutIdsIsPlain }
+    ensures none { PlainHasNoIds }
+    ensures text { HasSameText }
+{}
+
+/// Ids in the order of the text are ids in the order of their paths.
+pub fn ids_stand_by_path()
+    ensures { IdsStandByPath }
 {}

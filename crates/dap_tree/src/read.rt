@@ -1,7 +1,7 @@
 ghost use Rattle.std.specs.Prelude.{◌≡◌, true, IfOk, IfErr, MatchResult};
 ghost use Rattle.serde_json.specs.Data.{number as json_number};
 ghost use Rattle.serde_json.specs.View.{number_view, view as value_view, items_view as values_view, members_view as pairs_view};
-ghost use Rattle.dap_tree.specs.Doc.{is_sound};
+ghost use Rattle.dap_tree.specs.Doc.{is_plain};
 ghost use Rattle.dap_tree.specs.Json.{IsRead, Outcome, document, HasOutcome, ExplainsText, Tells, ExplainsData, ExplainsItems, ExplainsMembers, Stands, ItemsStand, MembersStand};
 ghost use Rattle.dap_tree.specs.View.{view, items_view, members_view};
 
@@ -12,11 +12,11 @@ use std::collections::BTreeMap;
 
 /// Reads the tree of a content.
 ///
-/// Of members with one name the last stays, and no text is copied.
-/// Where memory is refused the answer is `Memory`, which says nothing of the content.
+/// Of members with one name the last stays.
+/// `Memory` may come for any content that is not empty, and says nothing of it.
 pub fn read_tree(alloc: Global, content: &[u8]) -> Result<Tree, TreeFault>
     ensures ok { IfOk result (λ t. IsRead content.now (view t)) }
-    ensures sound { IfOk result (λ t. is_sound (view t) ≡ true) }
+    ensures plain { IfOk result (λ t. is_plain (view t) ≡ true) }
     ensures err { IfErr result (ExplainsText content.now) }
 
     // And the other way round: the outcome of the content is what the answer says.
@@ -76,8 +76,7 @@ fn members_of(
     alloc: Global,
     values: Map<String, Value>,
 ) -> Result<BTreeMap<String, Tree>, TreeFault>
-    ensures ok { IfOk result
-        (λ m. MembersStand (pairs_view values.entries) (members_view m.entries)) }
+    ensures ok { IfOk result (λ m. MembersStand (pairs_view values.entries) (members_view m.entries)) }
     ensures err { IfErr result (ExplainsMembers (pairs_view values.entries)) }
 {
     let mut members = BTreeMap::new(alloc);

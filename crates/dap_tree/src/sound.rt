@@ -6,13 +6,13 @@ use crate::Tree;
 use std::collections::BTreeMap;
 
 /// How deep lists and objects may nest.
-const MAX_DEPTH: u8 = 127;
+pub(crate) const MAX_DEPTH: u8 = 127;
 
 impl Tree {
     /// Whether the tree can be written and read back.
     ///
     /// Lists and objects nest at most 127 deep, an empty one counted as one level,
-    /// and each whole number is from -2^63 to 2^64 - 1.
+    /// and each whole number is from -2^63 to 2^64 - 1. An id always fits.
     pub fn sound(&self) -> bool
         ensures { result ≡ is_sound (view self.now) }
     {
@@ -25,7 +25,7 @@ fn fits(tree: &Tree, levels: u8) -> bool
     ensures { result ≡ fits_in levels (view tree.now) }
 {
     match tree {
-        Tree::Null | Tree::Bool(_) | Tree::Text(_) => true,
+        Tree::Null | Tree::Bool(_) | Tree::Text(_) | Tree::Id(..) => true,
         Tree::Whole(n) => is_in_range(*n),
         Tree::List(items) => levels > 0 && items_fit(items, levels - 1),
         Tree::Object(members) => levels > 0 && members_fit(members, levels - 1),

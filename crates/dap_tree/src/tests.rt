@@ -1,4 +1,4 @@
-use crate::{Tree, TreeFault, laws, read_tree, write_tree};
+use crate::{Side, Sort, Tree, TreeFault, laws, read_tree, write_tree};
 use std::alloc::Global;
 use std::test::Fail;
 
@@ -25,6 +25,19 @@ fn nested_tree(alloc: Global, levels: usize) -> Result<Tree, TreeFault> {
         items.push(tree)?;
         tree = Tree::List(items);
     }
+    Ok(tree)
+}
+
+// The tree of an evaluate request, with ids in the place of its two numbers.
+fn evaluate_request(alloc: Global) -> Result<Tree, TreeFault> {
+    let mut tree = read_tree(
+        alloc,
+        b"{\"type\":\"request\",\"seq\":2,\"command\":\"evaluate\",\"arguments\":{\"frameId\":7,\"expression\":\"x\"}}",
+    )?;
+    drop(tree.set_child("seq", Tree::Id(Sort::ClientSeq, 2)));
+    tree.with_child("arguments", |arguments| {
+        drop(arguments.set_child("frameId", Tree::Id(Sort::Frame, 7)));
+    });
     Ok(tree)
 }
 
@@ -151,6 +164,94 @@ fn lent_members(rt: HostRuntime) -> Result<(), Fail> {
 }
 
 #[test]
+fn ids_in_the_order_of_the_text(rt: HostRuntime) -> Result<(), Fail> {
+    let alloc = rt.alloc();
+    let tree = evaluate_request(alloc)?;
+    let mut found = Vec::new(alloc);
+    tree.add_ids(&mut found)?;
+    assert!(rt; found.len() == 2);
+    assert!(rt; found[0] == (Sort::Frame, 7) && found[1] == (Sort::ClientSeq, 2));
+    Ok(())
+}
+
+#[test]
+fn replaced_ids(rt: HostRuntime) -> Result<(), Fail> {
+    let alloc = rt.alloc();
+    let mut tree = evaluate_request(alloc)?;
+    let mut found = Vec::new(alloc);
+    tree.add_ids(&mut found)?;
+    laws::numbers_ids();
+    assert!(rt; found.len() == 2);
+    assert!(rt; tree.sound());
+    tree.replace_ids(&[4, 9]);
+    let text = write_tree(alloc, &tree);
+    assert!(rt;
+        matches!(&text, Ok(s) if s.as_str() == "{\"arguments\":{\"expression\":\"x\",\"frameId\":4},\"command\":\"evaluate\",\"seq\":9,\"type\":\"request\"}")
+    );
+    Ok(())
+}
+
+#[test]
+fn plain_trees(rt: HostRuntime) -> Result<(), Fail> {
+    let alloc = rt.alloc();
+    assert!(rt; Tree::Whole(1).plain());
+    assert!(rt; !Tree::Id(Sort::Frame, 1).plain());
+    assert!(rt; !Tree::Whole(18446744073709551616).plain());
+    assert!(rt; matches!(evaluate_request(alloc), Ok(tree) if tree.sound() && !tree.plain()));
+    Ok(())
+}
+
+#[test]
+fn copied_ids(rt: HostRuntime) -> Result<(), Fail> {
+    let alloc = rt.alloc();
+    let copy = evaluate_request(alloc)?.copy(alloc)?;
+    assert!(rt; matches!(copy.child("seq"), Some(Tree::Id(Sort::ClientSeq, 2))));
+    assert!(rt;
+        matches!(
+            copy.child("arguments")
+                .and_then(|arguments| arguments.child("frameId")),
+            Some(Tree::Id(Sort::Frame, 7))
+        )
+    );
+    Ok(())
+}
+
+#[test]
+fn ids_written_as_numbers(rt: HostRuntime) -> Result<(), Fail> {
+    let alloc = rt.alloc();
+    let mut items = Vec::new(alloc);
+    items.push(Tree::Id(Sort::AdapterSeq, -9223372036854775808))?;
+    items.push(Tree::Id(Sort::Reference, 9223372036854775807))?;
+    let tree = Tree::List(items);
+    assert!(rt; tree.sound());
+    let text = write_tree(alloc, &tree);
+    assert!(rt;
+        matches!(&text, Ok(s) if s.as_str() == "[-9223372036854775808,9223372036854775807]")
+    );
+    Ok(())
+}
+
+#[test]
+fn side_texts(rt: HostRuntime) -> Result<(), Fail> {
+    let alloc = rt.alloc();
+    let client = format!(in alloc; "{}", Side::Client)?;
+    assert_eq!(rt; client.as_str(), "client");
+    let adapter = format!(in alloc; "{}", Side::Adapter)?;
+    assert_eq!(rt; adapter.as_str(), "adapter");
+    Ok(())
+}
+
+#[test]
+fn order_of_sorts(rt: HostRuntime) -> Result<(), Fail> {
+    assert!(rt;
+        Sort::ClientSeq < Sort::AdapterSeq
+            && Sort::AdapterSeq < Sort::Frame
+            && Sort::Frame < Sort::Reference
+    );
+    Ok(())
+}
+
+#[test]
 fn fault_texts(rt: HostRuntime) -> Result<(), Fail> {
     let alloc = rt.alloc();
     let json = format!(in alloc; "{}", TreeFault::Json)?;
@@ -165,7 +266,10 @@ fn fault_texts(rt: HostRuntime) -> Result<(), Fail> {
 #[test]
 fn law_functions_return(_rt: HostRuntime) -> Result<(), Fail> {
     laws::one_outcome();
-    laws::read_is_sound();
+    laws::read_is_plain();
     laws::changes_one_member();
+    laws::numbers_ids();
+    laws::skeletons_are_all_but_numbers();
+    laws::ids_are_written_as_numbers();
     Ok(())
 }

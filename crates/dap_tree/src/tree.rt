@@ -1,9 +1,10 @@
+use crate::Sort;
 use std::collections::BTreeMap;
 
-/// A JSON value whose numbers are whole.
+/// A JSON value whose numbers are whole, where some of them may be ids.
 ///
 /// The members of an object stand in the byte order of their names, each name once.
-/// One that is made by hand may nest too deep, or hold too large numbers, to be written: `sound` tells.
+/// Trees that are made by hand may nest deeper, and hold larger numbers, than JSON of ours does: `sound` tells.
 #[derive(Drop)]
 pub enum Tree {
     Null,
@@ -12,4 +13,6 @@ pub enum Tree {
     Text(String),
     List(Vec<Tree>),
     Object(BTreeMap<String, Tree>),
+    /// A number that stands for something, and is written as that number.
+    Id(Sort, i64),
 }

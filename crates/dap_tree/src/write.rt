@@ -1,5 +1,6 @@
 ghost use Rattle.std.specs.Prelude.{◌≡◌, true, IfOk, IfErr, OnOk, string_bytes};
 ghost use Rattle.dap_tree.specs.Doc.{whole, in_range, all_in_range, items_in_range, members_in_range, is_sound};
+ghost use Rattle.dap_tree.specs.Ids.{without_ids};
 ghost use Rattle.dap_tree.specs.Json.{text_of, IsRead};
 ghost use Rattle.dap_tree.specs.Written.{WritesDoc, WritesItems, WritesMembers};
 ghost use Rattle.dap_tree.specs.View.{view, items_view, members_view};
@@ -10,13 +11,11 @@ use json::Writer;
 use std::alloc::{AllocError, Global};
 use std::collections::BTreeMap;
 
-/// Writes a sound tree as compact JSON: no spaces, members in the byte order of their names.
-///
-/// Where memory is refused the answer is `Memory`, and there is no other fault.
+/// Writes a sound tree as compact JSON: no spaces, members in the byte order of their names, an id as its number.
 pub fn write_tree(alloc: Global, tree: &Tree) -> Result<String, TreeFault>
     requires { is_sound (view tree.now) ≡ true }
     ensures text { IfOk result (λ s. string_bytes s ≡ text_of (view tree.now)) }
-    ensures reads_back { IfOk result (λ s. IsRead (string_bytes s) (view tree.now)) }
+    ensures reads_back { IfOk result (λ s. IsRead (string_bytes s) (without_ids (view tree.now))) }
     ensures memory { IfErr result (λ f. f ≡ TreeFault.Memory) }
 {
     let mut out = Writer::new(Vec::new(alloc));
@@ -43,6 +42,7 @@ fn write(tree: &Tree, out: &mut Writer) -> Result<(), AllocError>
             out.begin_object()?;
             write_members(members, out)
         }
+        Tree::Id(_, n) => write_id(*n, out),
     }
 }
 
@@ -58,11 +58,17 @@ fn write_whole(n: i128, out: &mut Writer) -> Result<(), AllocError>
     }
 }
 
+fn write_id(n: i64, out: &mut Writer) -> Result<(), AllocError>
+    ensures ok { OnOk result (WritesDoc (whole n) out.old.tokens out.new.tokens) }
+    ensures before { out.new.before ≡ out.old.before }
+{
+    out.i64(n)
+}
+
 #[cycle(write)]
 fn write_items(items: &Vec<Tree>, out: &mut Writer) -> Result<(), AllocError>
     requires { items_in_range (items_view items.now.items) ≡ true }
-    ensures ok { OnOk result
-        (WritesItems (items_view items.now.items) out.old.tokens out.new.tokens) }
+    ensures ok { OnOk result (WritesItems (items_view items.now.items) out.old.tokens out.new.tokens) }
     ensures before { out.new.before ≡ out.old.before }
 {
     for item in items {
@@ -74,8 +80,7 @@ fn write_items(items: &Vec<Tree>, out: &mut Writer) -> Result<(), AllocError>
 #[cycle(write)]
 fn write_members(members: &BTreeMap<String, Tree>, out: &mut Writer) -> Result<(), AllocError>
     requires { members_in_range (members_view members.now.entries) ≡ true }
-    ensures ok { OnOk result
-        (WritesMembers (members_view members.now.entries) out.old.tokens out.new.tokens) }
+    ensures ok { OnOk result (WritesMembers (members_view members.now.entries) out.old.tokens out.new.tokens) }
     ensures before { out.new.before ≡ out.old.before }
 {
     for (name, member) in members.iter() {

@@ -15,16 +15,16 @@ module _ (limits : Limits) where
   one_objection : (values : List Doc) (content : List ℕ) (why because : Objection) → Objects limits values content why → Objects limits values content because → why ≡ because
   one_objection values content no_reading no_reading one two = refl
   one_objection values content no_reading fraction one two = absurd (one two.0 two.1)
-  one_objection values content no_reading grown one two = absurd (one (data_of two.0) two.1)
+  one_objection values content no_reading grown one two = absurd (one (data_of two.0) two.1.0)
   one_objection values content fraction no_reading one two = absurd (two one.0 one.1)
   one_objection values content fraction fraction one two = refl
   one_objection values content fraction grown one two = absurd (whole_or_fraction content two.0 two.1 one)
-  one_objection values content grown no_reading one two = absurd (two (data_of one.0) one.1)
+  one_objection values content grown no_reading one two = absurd (two (data_of one.0) one.1.0)
   one_objection values content grown fraction one two = absurd (whole_or_fraction content one.0 one.1 two)
   one_objection values content grown grown one two = refl
 
   next_not_objected : (values : List Doc) (content : List ℕ) (value : Doc) (why : Objection) → IsRead content value × Fits limits (values ++ value ∷ []) → Objects limits values content why → ⊥
-  next_not_objected values content value no_reading next objects = objects (data_of value) next.0
+  next_not_objected values content value no_reading next objects = objects (data_of value) next.0.0
   next_not_objected values content value fraction next objects = whole_or_fraction content value next.0 objects
   next_not_objected values content value grown next objects =
       let same = read_once content value objects.0 next.0 objects.1 in

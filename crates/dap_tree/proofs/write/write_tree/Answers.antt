@@ -1,7 +1,8 @@
-use Rattle.std.proofs.Common.{◌∙◌, ap}
+use Rattle.std.proofs.Common.{◌∙◌, ap, sym, Some}
 use Rattle.std.proofs.lemmas.Str.{IsUtf8-string_bytes}
 use Rattle.std.specs.Prelude.{string_bytes}
 use Rattle.dap_tree.specs.View.{view}
+use Rattle.dap_tree.proofs.Without.{data-without, no_id_without}
 use Rattle.dap_tree.proofs.Writing.{depth_from_sound, text_of_tokens, tokens_read_back}
 use Rattle.dap_tree.proofs.write.write_tree.Goals as goal
 
@@ -17,7 +18,6 @@ returns-clause-reads_back c =
     let d = view c.args.tree.now in
     let told = rw c.unwrap.ensures at c.from_utf8.ensures.ok in
     let is = ap (λ v. v.items) told ∙ c.into_inner.ensures.items in
-    let empty = c.in_ok-write.ensures.before ∙ c.new-out.ensures.before ∙ c.new.ensures.items in (
-      IsUtf8-string_bytes c.unwrap.result,
-      tokens_read_back d c.new-out.result.tokens c.write.new.out.tokens _ (string_bytes c.unwrap.result) c.new-out.ensures.tokens empty c.in_ok-write.ensures.ok is c.into_inner.ensures.reads_back (depth_from_sound d c.requires),
-    )
+    let empty = c.in_ok-write.ensures.before ∙ c.new-out.ensures.before ∙ c.new.ensures.items in
+    let reads = tokens_read_back d c.new-out.result.tokens c.write.new.out.tokens _ (string_bytes c.unwrap.result) c.new-out.ensures.tokens empty c.in_ok-write.ensures.ok is c.into_inner.ensures.reads_back (depth_from_sound d c.requires) in
+    ((IsUtf8-string_bytes c.unwrap.result, reads ∙ ap Some (sym (data-without d))), no_id_without d)

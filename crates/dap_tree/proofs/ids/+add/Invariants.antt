@@ -1,0 +1,17 @@
+use Rattle.std.proofs.Common.{◌≡◌, ◌++◌, drop}
+use Rattle.dap_tree.specs.Ids.{items_ids, members_ids, Extends}
+use Rattle.dap_tree.specs.View.{items_view, members_view}
+use Rattle.dap_tree.proofs.ids.+add.Given as goal
+
+-- what is found so far and what is left to find are all
+abbrev pub invariant-add_items-loop-item : goal.invariant-add_items-loop-item
+invariant-add_items-loop-item l = record {
+  all : l.found.items ++ items_ids (items_view (drop l.item-index l.item-items)) ≡ l.initial.found.items ++ items_ids (items_view l.item-items);
+  more : Extends l.initial.found.items l.found.items;
+}
+
+abbrev pub invariant-add_members-loop-member : goal.invariant-add_members-loop-member
+invariant-add_members-loop-member l = record {
+  all : l.found.items ++ members_ids (members_view l.member-iterator) ≡ l.initial.found.items ++ members_ids (members_view l.members.entries);
+  more : Extends l.initial.found.items l.found.items;
+}

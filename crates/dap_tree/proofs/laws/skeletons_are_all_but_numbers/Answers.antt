@@ -1,0 +1,13 @@
+use Rattle.dap_tree.proofs.Numbered.{skeleton-with, with_others, same_from_skeleton, sorts_alike, count_alike, depth-skeleton, sound-skeleton}
+use Rattle.dap_tree.proofs.laws.skeletons_are_all_but_numbers.Goals as goal
+
+pub returns : goal.returns
+returns c = record {
+  same = skeleton-with;
+  differ = with_others;
+  told = same_from_skeleton;
+  sorts = sorts_alike;
+  count = count_alike;
+  depth = depth-skeleton;
+  sound = sound-skeleton;
+}

@@ -1,0 +1,129 @@
+-- The ids of a document in the order of its text, and the document with other numbers at them.
+use Rattle.std.specs.Prelude.{◌≡◌, ℕ, ◌+◌, ℤ, pos, List, [], ◌∷◌, ◌++◌, map, drop, slice_index_or, Bool, true, ◌&&◌}
+use Rattle.dap_tree.specs.declared.sort.Sort.{Sort}
+use Rattle.dap_tree.specs.Doc.{Doc, null, boolean, whole, text, list, object, id, Items, no_items, item, Members, no_members, member, in_range}
+
+-- The ids, each a sort and a number, in the order in which the text of the document has them (own).
+abbrev mutual
+  pub ids : Doc → List (Sort × ℤ)
+  ids null = []
+  ids (boolean b) = []
+  ids (whole z) = []
+  ids (text s) = []
+  ids (list ds) = items_ids ds
+  ids (object ms) = members_ids ms
+  ids (id s z) = (s, z) ∷ []
+
+  pub items_ids : Items → List (Sort × ℤ)
+  items_ids no_items = []
+  items_ids (item d ds) = ids d ++ items_ids ds
+
+  pub members_ids : Members → List (Sort × ℤ)
+  members_ids no_members = []
+  members_ids (member k d ms) = ids d ++ members_ids ms
+
+-- The sorts of ids, and their numbers.
+abbrev pub sorts_of : List (Sort × ℤ) → List Sort
+sorts_of is = map (λ i. i.0) is
+
+abbrev pub numbers_of : List (Sort × ℤ) → List ℤ
+numbers_of is = map (λ i. i.1) is
+
+-- How many ids the document has.
+abbrev mutual
+  pub id_count : Doc → ℕ
+  id_count null = 0
+  id_count (boolean b) = 0
+  id_count (whole z) = 0
+  id_count (text s) = 0
+  id_count (list ds) = items_id_count ds
+  id_count (object ms) = members_id_count ms
+  id_count (id s z) = 1
+
+  pub items_id_count : Items → ℕ
+  items_id_count no_items = 0
+  items_id_count (item d ds) = id_count d + items_id_count ds
+
+  pub members_id_count : Members → ℕ
+  members_id_count no_members = 0
+  members_id_count (member k d ms) = id_count d + members_id_count ms
+
+-- The document with the i-th number at its i-th id (own): an id past the last number keeps its own.
+abbrev mutual
+  pub with_ids : Doc → List ℤ → Doc
+  with_ids null ns = null
+  with_ids (boolean b) ns = boolean b
+  with_ids (whole z) ns = whole z
+  with_ids (text s) ns = text s
+  with_ids (list ds) ns = list (items_with_ids ds ns)
+  with_ids (object ms) ns = object (members_with_ids ms ns)
+  with_ids (id s z) ns = id s (slice_index_or ns 0 z)
+
+  pub items_with_ids : Items → List ℤ → Items
+  items_with_ids no_items ns = no_items
+  items_with_ids (item d ds) ns = item (with_ids d ns) (items_with_ids ds (drop (id_count d) ns))
+
+  pub members_with_ids : Members → List ℤ → Members
+  members_with_ids no_members ns = no_members
+  members_with_ids (member k d ms) ns = member k (with_ids d ns) (members_with_ids ms (drop (id_count d) ns))
+
+-- The document with each id as a whole number (own): it has the same text.
+abbrev mutual
+  pub without_ids : Doc → Doc
+  without_ids null = null
+  without_ids (boolean b) = boolean b
+  without_ids (whole z) = whole z
+  without_ids (text s) = text s
+  without_ids (list ds) = list (items_without_ids ds)
+  without_ids (object ms) = object (members_without_ids ms)
+  without_ids (id s z) = whole z
+
+  pub items_without_ids : Items → Items
+  items_without_ids no_items = no_items
+  items_without_ids (item d ds) = item (without_ids d) (items_without_ids ds)
+
+  pub members_without_ids : Members → Members
+  members_without_ids no_members = no_members
+  members_without_ids (member k d ms) = member k (without_ids d) (members_without_ids ms)
+
+-- The document with 0 as the number of each id (own): what two documents share that differ at most in the numbers of their ids.
+abbrev mutual
+  pub skeleton : Doc → Doc
+  skeleton null = null
+  skeleton (boolean b) = boolean b
+  skeleton (whole z) = whole z
+  skeleton (text s) = text s
+  skeleton (list ds) = list (items_skeleton ds)
+  skeleton (object ms) = object (members_skeleton ms)
+  skeleton (id s z) = id s (pos 0)
+
+  pub items_skeleton : Items → Items
+  items_skeleton no_items = no_items
+  items_skeleton (item d ds) = item (skeleton d) (items_skeleton ds)
+
+  pub members_skeleton : Members → Members
+  members_skeleton no_members = no_members
+  members_skeleton (member k d ms) = member k (skeleton d) (members_skeleton ms)
+
+-- The number of each id is in the range of whole numbers (own): that of a `Tree` is of 64 bits, so it always is.
+abbrev mutual
+  pub ids_in_range : Doc → Bool
+  ids_in_range null = true
+  ids_in_range (boolean b) = true
+  ids_in_range (whole z) = true
+  ids_in_range (text s) = true
+  ids_in_range (list ds) = items_ids_in_range ds
+  ids_in_range (object ms) = members_ids_in_range ms
+  ids_in_range (id s z) = in_range z
+
+  pub items_ids_in_range : Items → Bool
+  items_ids_in_range no_items = true
+  items_ids_in_range (item d ds) = ids_in_range d && items_ids_in_range ds
+
+  pub members_ids_in_range : Members → Bool
+  members_ids_in_range no_members = true
+  members_ids_in_range (member k d ms) = ids_in_range d && members_ids_in_range ms
+
+-- For private clauses: the new list is the old one with more behind it.
+abbrev pub Extends : List (Sort × ℤ) → List (Sort × ℤ) → Type 0
+Extends old new = (more : List (Sort × ℤ)) × (new ≡ old ++ more)

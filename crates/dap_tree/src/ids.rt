@@ -1,0 +1,171 @@
+ghost use Rattle.std.specs.Prelude.{◌≡◌, ◌++◌, ◌≤◌, true, length, drop, OnOk, OnErr};
+ghost use Rattle.dap_tree.specs.Doc.{depth, items_depth, members_depth, is_sound};
+ghost use Rattle.dap_tree.specs.Ids.{ids, items_ids, members_ids, id_count, items_id_count, members_id_count, with_ids, items_with_ids, members_with_ids, numbers_of, skeleton, Extends};
+ghost use Rattle.dap_tree.specs.View.{view, items_view, members_view};
+
+use crate::sound::MAX_DEPTH;
+use crate::{Sort, Tree};
+use std::alloc::AllocError;
+use std::collections::BTreeMap;
+
+impl Tree {
+    /// Appends the ids of the tree, each its sort and its number, in the order in which the text of the tree has them.
+    pub fn add_ids(&self, found: &mut Vec<(Sort, i64)>) -> Result<(), AllocError>
+        ensures ok { OnOk result (found.new.items ≡ found.old.items ++ ids (view self.now)) }
+        ensures err { OnErr result (found.new.items ≡ found.old.items) }
+    {
+        let before = found.len();
+        let added = add(self, found);
+        if added.is_err() {
+            found.truncate(before);
+        }
+        added
+    }
+
+    /// Gives the ids of the tree other numbers, in the order in which the text of the tree has them.
+    ///
+    /// The tree is changed in place, and no memory is taken.
+    pub fn replace_ids(&mut self, numbers: &[i64])
+        requires sound { is_sound (view self.old) ≡ true }
+        requires one_each { length numbers.now ≡ id_count (view self.old) }
+        ensures replaced { view self.new ≡ with_ids (view self.old) numbers.now }
+
+        // The numbers are those, and nothing else is changed.
+        ensures numbers { numbers_of (ids (view self.new)) ≡ numbers.now }
+        ensures alike { skeleton (view self.new) ≡ skeleton (view self.old) }
+        ensures sound { is_sound (view self.new) ≡ true }
+    {
+        put(self, numbers, MAX_DEPTH);
+    }
+}
+
+#[cycle(add)]
+fn add(tree: &Tree, found: &mut Vec<(Sort, i64)>) -> Result<(), AllocError>
+    ensures ok { OnOk result (found.new.items ≡ found.old.items ++ ids (view tree.now)) }
+    ensures err { OnErr result (Extends found.old.items found.new.items) }
+{
+    match tree {
+        Tree::Id(sort, n) => {
+            found.push((*sort, *n))?;
+            Ok(())
+        }
+        Tree::List(items) => add_items(items, found),
+        Tree::Object(members) => add_members(members, found),
+        _ => Ok(()),
+    }
+}
+
+#[cycle(add)]
+fn add_items(items: &Vec<Tree>, found: &mut Vec<(Sort, i64)>) -> Result<(), AllocError>
+    ensures ok { OnOk result (found.new.items ≡ found.old.items ++ items_ids (items_view items.now.items)) }
+    ensures err { OnErr result (Extends found.old.items found.new.items) }
+{
+    for item in items {
+        add(item, found)?;
+    }
+    Ok(())
+}
+
+#[cycle(add)]
+fn add_members(
+    members: &BTreeMap<String, Tree>,
+    found: &mut Vec<(Sort, i64)>,
+) -> Result<(), AllocError>
+    ensures ok { OnOk result (found.new.items ≡ found.old.items ++ members_ids (members_view members.now.entries)) }
+    ensures err { OnErr result (Extends found.old.items found.new.items) }
+{
+    for (_, member) in members.iter() {
+        add(member, found)?;
+    }
+    Ok(())
+}
+
+// What is left of the numbers after one for each id of the tree.
+#[cycle(skip)]
+fn skip<'a>(tree: &Tree, numbers: &'a [i64]) -> &'a [i64]
+    ensures { result.now ≡ drop (id_count (view tree.now)) numbers.now }
+{
+    match tree {
+        Tree::Id(..) => match numbers {
+            [] => numbers,
+            [_, rest @ ..] => rest,
+        },
+        Tree::List(items) => skip_items(items, numbers),
+        Tree::Object(members) => skip_members(members, numbers),
+        _ => numbers,
+    }
+}
+
+#[cycle(skip)]
+fn skip_items<'a>(items: &Vec<Tree>, numbers: &'a [i64]) -> &'a [i64]
+    ensures { result.now ≡ drop (items_id_count (items_view items.now.items)) numbers.now }
+{
+    let mut rest = numbers;
+    for item in items {
+        rest = skip(item, rest);
+    }
+    rest
+}
+
+#[cycle(skip)]
+fn skip_members<'a>(members: &BTreeMap<String, Tree>, numbers: &'a [i64]) -> &'a [i64]
+    ensures { result.now ≡ drop (members_id_count (members_view members.now.entries)) numbers.now }
+{
+    let mut rest = numbers;
+    for (_, member) in members.iter() {
+        rest = skip(member, rest);
+    }
+    rest
+}
+
+// The i-th number at the i-th id of a tree that nests at most so many levels.
+#[cycle(put)]
+fn put(tree: &mut Tree, numbers: &[i64], levels: u8)
+    requires { depth (view tree.old) ≤ levels }
+    ensures { view tree.new ≡ with_ids (view tree.old) numbers.now }
+{
+    match tree {
+        Tree::Id(_, n) => {
+            if let [first, ..] = numbers {
+                *n = *first;
+            }
+        }
+        Tree::List(items) => put_items(items, numbers, levels - 1),
+        Tree::Object(members) => put_members(members, numbers, levels - 1),
+        _ => {}
+    }
+}
+
+#[cycle(put)]
+fn put_items(items: &mut Vec<Tree>, numbers: &[i64], levels: u8)
+    requires { items_depth (items_view items.old.items) ≤ levels }
+    ensures { items_view items.new.items ≡ items_with_ids (items_view items.old.items) numbers.now }
+{
+    let mut rest = numbers;
+    for item in items.iter_mut() {
+        let left = skip(item, rest);
+        put(item, rest, levels);
+        rest = left;
+    }
+}
+
+#[cycle(put)]
+fn put_members(members: &mut BTreeMap<String, Tree>, numbers: &[i64], levels: u8)
+    requires { members_depth (members_view members.old.entries) ≤ levels }
+    ensures { members_view members.new.entries ≡ members_with_ids (members_view members.old.entries) numbers.now }
+{
+    let mut rest = numbers;
+    members.retain(
+        move |_, member|
+            requires { depth (view member.old) ≤ levels }
+            ensures kept { result ≡ true }
+            ensures rest { rest.exit.now ≡ drop (id_count (view member.old)) rest.entry.now }
+            ensures put { view member.new ≡ with_ids (view member.old) rest.entry.now }
+        {
+            let left = skip(member, rest);
+            put(member, rest, levels);
+            rest = left;
+            true
+        },
+    );
+}
