@@ -2,7 +2,7 @@
 use Rattle.std.proofs.Common.{◌≡◌, ℕ, suc, max, ◌-◌, Bool, true, false, not, ◌&&◌, ◌||◌, refl, sym, ap, ap₂, ◌∙◌, arith, ltb, leb, le-leb}
 use Rattle.std.proofs.lemmas.Bool.Decides.{nat_tests}
 use Rattle.serde_json.specs.Data as json
-use Rattle.dap_tree.specs.Doc.{Doc, null, boolean, whole, text, list, object, id, Items, no_items, item, Members, no_members, member, depth, items_depth, members_depth, in_range, all_in_range, items_in_range, members_in_range, has_id, items_have_id, members_have_id, is_sound, is_plain, all_plain, items_plain, members_plain, fits, items_fit, members_fit}
+use Rattle.dap_tree.specs.Doc.{Doc, null, boolean, whole, text, list, object, id, Items, no_items, item, Members, no_members, member, depth, items_depth, members_depth, in_range, all_in_range, items_in_range, members_in_range, has_id, items_have_id, members_have_id, all_plain, items_plain, members_plain, fits, items_fit, members_fit}
 use Rattle.dap_tree.specs.Json.{data_of, items_data, members_data}
 
 both : (a b n : ℕ) (p q : Bool) → ((leb a n && p) && (leb b n && q)) ≡ (leb (max a b) n && (p && q))

@@ -1,9 +1,9 @@
 -- Trees that are done, before a document's other items.
-use Rattle.std.proofs.Common.{◌≡◌, ℕ, zero, suc, ◌<◌, ◌≤◌, max, ℤ, List, [], ◌∷◌, ◌++◌, take, drop, set, get_or, length, Bool, true, cond, String, Global, refl, sym, ap, ◌∙◌, arith, subst}
+use Rattle.std.proofs.Common.{◌≡◌, ℕ, zero, suc, ◌<◌, ◌≤◌, ℤ, List, [], ◌∷◌, ◌++◌, take, drop, set, get_or, length, Bool, true, cond, String, Global, refl, sym, ap, ◌∙◌, arith, subst}
 use Rattle.std.proofs.Math.Seq.{take-append_seam}
 use Rattle.std.proofs.lemmas.List.{take_all, drop_all}
 use Rattle.std.specs.List.{FoldsTo}
-use Rattle.dap_tree.specs.Doc.{Doc, Items, no_items, item, Members, member, depth, items_depth, members_depth, map_items}
+use Rattle.dap_tree.specs.Doc.{Doc, Items, no_items, item, depth, items_depth, members_depth, map_items}
 use Rattle.dap_tree.specs.Ids.{with_ids, items_with_ids, members_with_ids, id_count}
 use Rattle.dap_tree.specs.View.{view, items_view, members_view}
 use Rattle.dap_tree.specs.declared.tree.Tree.{Tree}

@@ -8,5 +8,7 @@ pub mod Writing
 pub mod Paths
 pub mod Joins
 pub mod Numbered
+pub mod Texts
 pub mod Outcomes
+pub mod Ordered
 pub mod IdPaths

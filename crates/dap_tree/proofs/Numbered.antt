@@ -1,9 +1,13 @@
 -- The ids of a document, and the document with other numbers at them.
-use Rattle.std.proofs.Common.{◌≡◌, ℕ, zero, suc, ◌+◌, ◌-◌, ◌≤◌, max, ℤ, pos, List, [], ◌∷◌, ◌++◌, map, drop, get_or, length, Bool, true, ◌&&◌, refl, sym, ap, ap₂, ◌∙◌, leb, arith, length-append}
+use Rattle.std.proofs.Common.{◌≡◌, ℕ, zero, suc, ◌+◌, ◌-◌, ◌≤◌, max, ℤ, pos, List, [], ◌∷◌, ◌++◌, drop, get_or, length, ◌&&◌, refl, sym, ap, ap₂, ◌∙◌, leb, arith, length-append, false}
 use Rattle.std.proofs.lemmas.List.{length-map}
+use Rattle.std.specs.Cmp.Lexicographic.{slice_cmp}
+use Rattle.std.specs.Ordering.{nat_cmp, is_lt}
+use Rattle.std.specs.Str.{is_utf8}
 use Rattle.dap_tree.specs.declared.sort.Sort.{Sort}
-use Rattle.dap_tree.specs.Doc.{Doc, null, boolean, whole, text, list, object, id, Items, no_items, item, Members, no_members, member, depth, items_depth, members_depth, all_in_range, items_in_range, members_in_range, is_sound}
+use Rattle.dap_tree.specs.Doc.{Doc, null, boolean, whole, text, list, object, id, Items, no_items, item, Members, no_members, member, depth, items_depth, members_depth, all_in_range, items_in_range, members_in_range, is_sound, has_id, items_have_id, members_have_id, is_below_all, is_ordered, items_ordered, members_ordered, all_utf8, items_utf8, members_utf8}
 use Rattle.dap_tree.specs.Ids.{ids, items_ids, members_ids, id_count, items_id_count, members_id_count, with_ids, items_with_ids, members_with_ids, sorts_of, numbers_of, skeleton, items_skeleton, members_skeleton}
+use Rattle.dap_tree.proofs.Booleans.{or_left, or_right, or_both}
 
 -- ---- soundness
 
@@ -46,6 +50,50 @@ mutual
 pub sound_with : (d : Doc) (ns : List ℤ) → is_sound (with_ids d ns) ≡ is_sound d
 sound_with d ns = ap₂ (λ n b. leb n 127 && b) (depth_with d ns) (range_with d ns)
 
+-- ---- order and UTF-8
+
+below_with : (k : List ℕ) (ms : Members) (ns : List ℤ) → is_below_all k (members_with_ids ms ns) ≡ is_below_all k ms
+below_with k no_members ns = refl
+below_with k (member l d ms) ns = ap (λ b. is_lt (slice_cmp nat_cmp k l) && b) (below_with k ms (drop (id_count d) ns))
+
+mutual
+  ordered_with : (d : Doc) (ns : List ℤ) → is_ordered (with_ids d ns) ≡ is_ordered d
+  ordered_with null ns = refl
+  ordered_with (boolean b) ns = refl
+  ordered_with (whole z) ns = refl
+  ordered_with (text s) ns = refl
+  ordered_with (list ds) ns = items_ordered_with ds ns
+  ordered_with (object ms) ns = members_ordered_with ms ns
+  ordered_with (id s z) ns = refl
+
+  items_ordered_with : (ds : Items) (ns : List ℤ) → items_ordered (items_with_ids ds ns) ≡ items_ordered ds
+  items_ordered_with no_items ns = refl
+  items_ordered_with (item d ds) ns = ap₂ (λ a b. a && b) (ordered_with d ns) (items_ordered_with ds (drop (id_count d) ns))
+
+  members_ordered_with : (ms : Members) (ns : List ℤ) → members_ordered (members_with_ids ms ns) ≡ members_ordered ms
+  members_ordered_with no_members ns = refl
+  members_ordered_with (member k d ms) ns =
+      let rest = drop (id_count d) ns in
+      ap₂ (λ a b. a && b) (below_with k ms rest) (ap₂ (λ a b. a && b) (ordered_with d ns) (members_ordered_with ms rest))
+
+mutual
+  utf8_with : (d : Doc) (ns : List ℤ) → all_utf8 (with_ids d ns) ≡ all_utf8 d
+  utf8_with null ns = refl
+  utf8_with (boolean b) ns = refl
+  utf8_with (whole z) ns = refl
+  utf8_with (text s) ns = refl
+  utf8_with (list ds) ns = items_utf8_with ds ns
+  utf8_with (object ms) ns = members_utf8_with ms ns
+  utf8_with (id s z) ns = refl
+
+  items_utf8_with : (ds : Items) (ns : List ℤ) → items_utf8 (items_with_ids ds ns) ≡ items_utf8 ds
+  items_utf8_with no_items ns = refl
+  items_utf8_with (item d ds) ns = ap₂ (λ a b. a && b) (utf8_with d ns) (items_utf8_with ds (drop (id_count d) ns))
+
+  members_utf8_with : (ms : Members) (ns : List ℤ) → members_utf8 (members_with_ids ms ns) ≡ members_utf8 ms
+  members_utf8_with no_members ns = refl
+  members_utf8_with (member k d ms) ns = ap₂ (λ a b. is_utf8 k && (a && b)) (utf8_with d ns) (members_utf8_with ms (drop (id_count d) ns))
+
 -- ---- the ids
 
 mutual
@@ -65,6 +113,50 @@ mutual
   count_members_ids : (ms : Members) → length (members_ids ms) ≡ members_id_count ms
   count_members_ids no_members = refl
   count_members_ids (member k d ms) = length-append (ids d) (members_ids ms) ∙ ap₂ (λ a b. a + b) (count_ids d) (count_members_ids ms)
+
+mutual
+  pub ids-no_id : (d : Doc) → has_id d ≡ false → ids d ≡ []
+  ids-no_id null h = refl
+  ids-no_id (boolean b) h = refl
+  ids-no_id (whole z) h = refl
+  ids-no_id (text s) h = refl
+  ids-no_id (list ds) h = items_ids-no_id ds h
+  ids-no_id (object ms) h = members_ids-no_id ms h
+  ids-no_id (id s z) h = cc
+
+  items_ids-no_id : (ds : Items) → items_have_id ds ≡ false → items_ids ds ≡ []
+  items_ids-no_id no_items h = refl
+  items_ids-no_id (item d ds) h = ap₂ (λ a b. a ++ b) (ids-no_id d (or_left _ _ h)) (items_ids-no_id ds (or_right (has_id d) _ h))
+
+  members_ids-no_id : (ms : Members) → members_have_id ms ≡ false → members_ids ms ≡ []
+  members_ids-no_id no_members h = refl
+  members_ids-no_id (member k d ms) h = ap₂ (λ a b. a ++ b) (ids-no_id d (or_left _ _ h)) (members_ids-no_id ms (or_right (has_id d) _ h))
+
+empty_left : (is js : List (Sort × ℤ)) → is ++ js ≡ [] → is ≡ []
+empty_left [] js h = refl
+empty_left (i ∷ is) js h = absurd cc
+
+empty_right : (is js : List (Sort × ℤ)) → is ++ js ≡ [] → js ≡ []
+empty_right [] js h = h
+empty_right (i ∷ is) js h = absurd cc
+
+mutual
+  pub no_id-ids : (d : Doc) → ids d ≡ [] → has_id d ≡ false
+  no_id-ids null h = refl
+  no_id-ids (boolean b) h = refl
+  no_id-ids (whole z) h = refl
+  no_id-ids (text s) h = refl
+  no_id-ids (list ds) h = items_no_id-ids ds h
+  no_id-ids (object ms) h = members_no_id-ids ms h
+  no_id-ids (id s z) h = absurd cc
+
+  items_no_id-ids : (ds : Items) → items_ids ds ≡ [] → items_have_id ds ≡ false
+  items_no_id-ids no_items h = refl
+  items_no_id-ids (item d ds) h = or_both _ _ (no_id-ids d (empty_left (ids d) (items_ids ds) h)) (items_no_id-ids ds (empty_right (ids d) (items_ids ds) h))
+
+  members_no_id-ids : (ms : Members) → members_ids ms ≡ [] → members_have_id ms ≡ false
+  members_no_id-ids no_members h = refl
+  members_no_id-ids (member k d ms) h = or_both _ _ (no_id-ids d (empty_left (ids d) (members_ids ms) h)) (members_no_id-ids ms (empty_right (ids d) (members_ids ms) h))
 
 -- ids with other numbers
 abbrev pub renumbered : List (Sort × ℤ) → List ℤ → List (Sort × ℤ)
@@ -195,6 +287,12 @@ depth-skeleton d = ap depth (sym (skeleton_is d)) ∙ depth_with d (zeros (id_co
 
 pub sound-skeleton : (d : Doc) → is_sound (skeleton d) ≡ is_sound d
 sound-skeleton d = ap is_sound (sym (skeleton_is d)) ∙ sound_with d (zeros (id_count d))
+
+pub ordered-skeleton : (d : Doc) → is_ordered (skeleton d) ≡ is_ordered d
+ordered-skeleton d = ap is_ordered (sym (skeleton_is d)) ∙ ordered_with d (zeros (id_count d))
+
+pub utf8-skeleton : (d : Doc) → all_utf8 (skeleton d) ≡ all_utf8 d
+utf8-skeleton d = ap all_utf8 (sym (skeleton_is d)) ∙ utf8_with d (zeros (id_count d))
 
 sorts-skeleton : (d : Doc) → sorts_of (ids (skeleton d)) ≡ sorts_of (ids d)
 sorts-skeleton d = ap (λ e. sorts_of (ids e)) (sym (skeleton_is d)) ∙ sorts-with d (zeros (id_count d))

@@ -34,15 +34,15 @@ abbrev mutual
   members_kept (member k d ms) = all_kept d && members_kept ms
 
 -- what is there passes the test
-abbrev Passes : {A : Type 0} → (A → Bool) → Option A → Type 0
+abbrev pub Passes : {A : Type 0} → (A → Bool) → Option A → Type 0
 Passes p None = Unit {0}
 Passes p (Some a) = p a ≡ true
 
-Passes-map : {A B : Type 0} (p : A → Bool) (q : B → Bool) (f : A → B) → ((a : A) → p a ≡ true → q (f a) ≡ true) → (o : Option A) → Passes p o → Passes q (option_map f o)
+pub Passes-map : {A B : Type 0} (p : A → Bool) (q : B → Bool) (f : A → B) → ((a : A) → p a ≡ true → q (f a) ≡ true) → (o : Option A) → Passes p o → Passes q (option_map f o)
 Passes-map p q f keeps None h = tt
 Passes-map p q f keeps (Some a) h = keeps a h
 
-Passes-and_then : {A B : Type 0} (p : A → Bool) (q : B → Bool) (f : A → Option B) → ((a : A) → p a ≡ true → Passes q (f a)) → (o : Option A) → Passes p o → Passes q (option_and_then f o)
+pub Passes-and_then : {A B : Type 0} (p : A → Bool) (q : B → Bool) (f : A → Option B) → ((a : A) → p a ≡ true → Passes q (f a)) → (o : Option A) → Passes p o → Passes q (option_and_then f o)
 Passes-and_then p q f keeps None h = tt
 Passes-and_then p q f keeps (Some a) h = keeps a h
 

@@ -4,7 +4,7 @@ use Rattle.std.proofs.lemmas.Map.Text.{is_eq-slice_cmp}
 use Rattle.std.proofs.lemmas.Slice.Eq.{bytes_eq-Decides}
 use Rattle.std.specs.Cmp.Lexicographic.{slice_cmp}
 use Rattle.std.specs.Ordering.{match_ordering}
-use Rattle.dap_tree.specs.Doc.{Doc, null, boolean, whole, text, list, object, id, Items, no_items, item, Members, no_members, member, get, get_member, change_member, change_child, map_items}
+use Rattle.dap_tree.specs.Doc.{Doc, null, boolean, whole, text, list, object, id, Items, no_items, item, Members, no_members, member, get, get_member, change_member, change_child, map_items, change_items}
 use Rattle.dap_tree.specs.Path.{Step, name, place, step, at, get_item}
 
 here_at : (o : Ordering) (k l : List ℕ) (f : Doc → Doc) (e : Doc) (ms changed : Members) → slice_cmp nat_cmp k l ≡ o → get_member k changed ≡ option_map f (get_member k ms)
@@ -67,6 +67,24 @@ pub get_item-map : (f : Doc → Doc) (n : ℕ) (ds : Items) → get_item n (map_
 get_item-map f n no_items = refl
 get_item-map f zero (item d ds) = refl
 get_item-map f (suc n) (item d ds) = get_item-map f n ds
+
+pub item-change : (f : Doc → Doc) (d : Doc) (n : ℕ) → step (place n) (change_items f d) ≡ option_map f (step (place n) d)
+item-change f null n = refl
+item-change f (boolean b) n = refl
+item-change f (whole z) n = refl
+item-change f (text s) n = refl
+item-change f (list ds) n = get_item-map f n ds
+item-change f (object ms) n = refl
+item-change f (id s z) n = refl
+
+pub get-change_items : (f : Doc → Doc) (d : Doc) (k : List ℕ) → get k (change_items f d) ≡ get k d
+get-change_items f null k = refl
+get-change_items f (boolean b) k = refl
+get-change_items f (whole z) k = refl
+get-change_items f (text s) k = refl
+get-change_items f (list ds) k = refl
+get-change_items f (object ms) k = refl
+get-change_items f (id s z) k = refl
 
 mapped : (f : Doc → Doc) (g h : Doc → Option Doc) → ((d : Doc) → h (f d) ≡ g d) → (o : Option Doc) → option_and_then h (option_map f o) ≡ option_and_then g o
 mapped f g h step None = refl

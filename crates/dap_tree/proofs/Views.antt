@@ -1,18 +1,19 @@
 -- A tree, level by level, and a `BTreeMap` beside the members that it stands for.
-use Rattle.std.proofs.Common.{◌≡◌, ℕ, List, [], ◌∷◌, ◌++◌, Option, Some, None, option_map, String, Vec, BTreeMap, Global, Ordering, Less, Equal, Greater, string_bytes, string_cmp, nat_cmp, is_eq, cond, Bool, Bor, MutBor, refl, sym, ap, ◌∙◌, rules}
+use Rattle.std.proofs.Common.{◌≡◌, ℕ, List, [], ◌∷◌, ◌++◌, Option, Some, None, option_map, String, Vec, BTreeMap, Global, Ordering, Less, Equal, Greater, string_bytes, string_cmp, nat_cmp, is_eq, cond, Bool, true, Bor, MutBor, refl, sym, ap, ◌∙◌, rules}
 use Rattle.std.proofs.lemmas.Cmp.{nat_list_cmp_total}
 use Rattle.std.specs.Cmp.Lexicographic.{slice_cmp}
 use Rattle.std.specs.List.{AllByRecursion}
 use Rattle.std.specs.List.Sorted.{IsStrictlySortedBy}
 use Rattle.std.specs.Map.{keys_of, lookup, set_value}
-use Rattle.std.specs.Ordering.{match_ordering, ordering_reverse}
+use Rattle.std.specs.Ordering.{match_ordering, ordering_reverse, is_lt}
 use Rattle.std.specs.BTreeMap.{insert_entry, is_at}
 use Rattle.std.specs.Option.{option_copied_mut}
 use Rattle.std.specs.Prelude.{OnSome}
-use Rattle.dap_tree.specs.Doc.{Doc, null, boolean, whole, text, list, object, id, Members, no_members, member, put, get, get_member, change_member, change_child, as_object}
+use Rattle.dap_tree.specs.Doc.{Doc, null, boolean, whole, text, list, object, id, Members, no_members, member, put, get, get_member, change_member, change_child, as_object, is_below_all, is_ordered, members_ordered}
 use Rattle.dap_tree.specs.View.{view, items_view, members_view}
 use Rattle.dap_tree.specs.declared.tree.Tree.{Tree, the_lemmas}
 use Rattle.dap_tree.specs.declared.tree.Tree as tree
+use Rattle.dap_tree.proofs.Booleans.{and_both}
 
 abbrev pub Entry : Type 0
 Entry = String Global × Tree
@@ -46,6 +47,19 @@ put_last (first ∷ done) e more h =
     let above : slice_cmp nat_cmp (string_bytes e.0) (string_bytes first.0) ≡ Greater =
     nat_list_cmp_total.antisymm (string_bytes e.0) (string_bytes first.0) ∙ ap ordering_reverse (below_middle first done e more h.0) in
     rw above (ap (member (string_bytes first.0) (view first.1)) (put_last done e more h.1))
+
+is_below_all-sorted : (k : String Global) (es : List Entry) → AllByRecursion (λ l. string_cmp k l ≡ Less) (keys_of es) → is_below_all (string_bytes k) (members_view es) ≡ true
+is_below_all-sorted k [] h = refl
+is_below_all-sorted k (e ∷ es) h = and_both _ _ (ap is_lt h.0) (is_below_all-sorted k es h.1)
+
+-- the members of a map stand in order where their values do
+pub members_ordered-sorted : (e : Entry) (es : List Entry) → IsStrictlySortedBy string_cmp (keys_of (e ∷ es)) → is_ordered (view e.1) ≡ true → members_ordered (members_view (e ∷ es)) ≡ members_ordered (members_view es)
+unfolding IsStrictlySortedBy
+members_ordered-sorted e es sorted first = rw (is_below_all-sorted e.0 es sorted.0, first) refl
+
+pub sorted_rest : (e : Entry) (es : List Entry) → IsStrictlySortedBy string_cmp (keys_of (e ∷ es)) → IsStrictlySortedBy string_cmp (keys_of es)
+unfolding IsStrictlySortedBy
+sorted_rest e es sorted = sorted.1
 
 found_or : (o : Ordering) (t : Tree) (rest : Option Tree) (d : Option Doc) → option_map view rest ≡ d → option_map view (cond (is_eq o) (Some t) rest) ≡ match_ordering o d (Some (view t)) d
 found_or Less t rest d e = e

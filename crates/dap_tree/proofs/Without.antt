@@ -1,5 +1,5 @@
 -- A document beside the same with its ids as whole numbers.
-use Rattle.std.proofs.Common.{◌≡◌, suc, max, ◌&&◌, Bool, true, false, not, refl, sym, ap, ap₂, ◌∙◌, leb}
+use Rattle.std.proofs.Common.{◌≡◌, suc, max, Bool, true, false, not, refl, sym, ap, ap₂, ◌∙◌, leb}
 use Rattle.serde_json.specs.Data as json
 use Rattle.dap_tree.specs.Doc.{Doc, null, boolean, whole, text, list, object, id, Items, no_items, item, Members, no_members, member, depth, items_depth, members_depth, all_in_range, items_in_range, members_in_range, has_id, items_have_id, members_have_id, is_sound, is_plain, all_plain}
 use Rattle.dap_tree.specs.Ids.{without_ids, items_without_ids, members_without_ids, ids_in_range, items_ids_in_range, members_ids_in_range}

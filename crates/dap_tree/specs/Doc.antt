@@ -2,6 +2,7 @@
 use Rattle.std.specs.Prelude.{ℕ, suc, max, ◌^◌, ◌-◌, ℤ, pos, negsuc, List, Bool, true, false, ◌&&◌, ◌||◌, not, nat_le, nat_lt, Option, Some, None}
 use Rattle.std.specs.Ordering.{nat_cmp, match_ordering, is_lt}
 use Rattle.std.specs.Cmp.Lexicographic.{slice_cmp}
+use Rattle.std.specs.Str.{is_utf8}
 use Rattle.dap_tree.specs.declared.sort.Sort.{Sort}
 
 mutual
@@ -186,7 +187,7 @@ abbrev pub is_below_all : List ℕ → Members → Bool
 is_below_all k no_members = true
 is_below_all k (member l e ms) = is_lt (slice_cmp nat_cmp k l) && is_below_all k ms
 
--- The members of each object stand in the byte order of their names, each name once (own). A `BTreeMap` keeps them so, but no contract says it of every `Tree`.
+-- The members of each object stand in the byte order of their names, each name once (own): so they do in every `Tree`.
 abbrev mutual
   pub is_ordered : Doc → Bool
   is_ordered null = true
@@ -204,6 +205,25 @@ abbrev mutual
   pub members_ordered : Members → Bool
   members_ordered no_members = true
   members_ordered (member k d ms) = is_below_all k ms && (is_ordered d && members_ordered ms)
+
+-- Each text of the document, and each name, is UTF-8: so they are in every `Tree`.
+abbrev mutual
+  pub all_utf8 : Doc → Bool
+  all_utf8 null = true
+  all_utf8 (boolean b) = true
+  all_utf8 (whole z) = true
+  all_utf8 (text s) = is_utf8 s
+  all_utf8 (list ds) = items_utf8 ds
+  all_utf8 (object ms) = members_utf8 ms
+  all_utf8 (id s z) = true
+
+  pub items_utf8 : Items → Bool
+  items_utf8 no_items = true
+  items_utf8 (item d ds) = all_utf8 d && items_utf8 ds
+
+  pub members_utf8 : Members → Bool
+  members_utf8 no_members = true
+  members_utf8 (member k d ms) = is_utf8 k && (all_utf8 d && members_utf8 ms)
 
 -- ---- items
 

@@ -1,9 +1,9 @@
 -- The laws that the functions of `laws` state.
-use Rattle.std.specs.Prelude.{◌≡◌, ◌≢◌, ℕ, ℤ, List, ◌∷◌, length, true, option_map, option_and_then}
-use Rattle.dap_tree.specs.Doc.{Doc, get, change_child, depth, is_sound, is_plain, is_ordered}
+use Rattle.std.specs.Prelude.{◌≡◌, ◌≢◌, ◌↔◌, ℕ, ℤ, List, [], ◌∷◌, length, true, false, option_map, option_and_then}
+use Rattle.dap_tree.specs.Doc.{Doc, get, change_child, change_items, has_id, depth, is_sound, is_plain, is_ordered, all_utf8}
 use Rattle.dap_tree.specs.Ids.{ids, sorts_of, numbers_of, id_count, with_ids, without_ids, skeleton, ids_in_range}
 use Rattle.dap_tree.specs.Json.{text_of, IsRead, Outcome, HasOutcome}
-use Rattle.dap_tree.specs.Path.{Step, name, at, AreIdPaths}
+use Rattle.dap_tree.specs.Path.{Step, name, place, step, at, AreIdPaths}
 use Rattle.dap_tree.specs.declared.sort.Sort.{Sort}
 
 -- Every content has an outcome.
@@ -17,6 +17,10 @@ OneOutcome = (bytes : List ℕ) (o p : Outcome) → HasOutcome bytes o → HasOu
 -- What is read is plain.
 abbrev pub ReadIsPlain : Type 0
 ReadIsPlain = (bytes : List ℕ) (d : Doc) → IsRead bytes d → is_plain d ≡ true
+
+-- The members of what is read stand in order.
+abbrev pub ReadIsOrdered : Type 0
+ReadIsOrdered = (bytes : List ℕ) (d : Doc) → IsRead bytes d → is_ordered d ≡ true
 
 -- A change at a name puts f of the member there.
 abbrev pub ChangesMember : Type 0
@@ -34,7 +38,19 @@ ChangesPaths = (k : List ℕ) (f : Doc → Doc) (d : Doc) (rest : List Step) →
 abbrev pub KeepsPaths : Type 0
 KeepsPaths = (k : List ℕ) (f : Doc → Doc) (d : Doc) (first : Step) (rest : List Step) → first ≢ name k → at (first ∷ rest) (change_child k f d) ≡ at (first ∷ rest) d
 
+-- A change of items puts f of each item in its place.
+abbrev pub ChangesItems : Type 0
+ChangesItems = (f : Doc → Doc) (d : Doc) (n : ℕ) → step (place n) (change_items f d) ≡ option_map f (step (place n) d)
+
+-- A change of items leaves each member.
+abbrev pub LeavesMembers : Type 0
+LeavesMembers = (f : Doc → Doc) (d : Doc) (k : List ℕ) → get k (change_items f d) ≡ get k d
+
 -- ---- ids
+
+-- A document has no id exactly where there are none to be found.
+abbrev pub FindsNoIds : Type 0
+FindsNoIds = (d : Doc) → (has_id d ≡ false) ↔ (ids d ≡ [])
 
 -- There are as many ids as are counted.
 abbrev pub CountsIds : Type 0
@@ -60,7 +76,7 @@ KeepsSound = (d : Doc) (ns : List ℤ) → is_sound (with_ids d ns) ≡ is_sound
 abbrev pub KeepsSkeleton : Type 0
 KeepsSkeleton = (d : Doc) (ns : List ℤ) → skeleton (with_ids d ns) ≡ skeleton d
 
--- Of documents with one skeleton each is the other with its own numbers.
+-- Of two documents with one skeleton, one with the numbers of the other is the other.
 abbrev pub DiffersInNumbers : Type 0
 DiffersInNumbers = (d e : Doc) → skeleton d ≡ skeleton e → with_ids d (numbers_of (ids e)) ≡ e
 
@@ -72,27 +88,41 @@ SkeletonTells = (d e : Doc) → skeleton d ≡ skeleton e → ids d ≡ ids e �
 abbrev pub SkeletonHasSorts : Type 0
 SkeletonHasSorts = (d e : Doc) → skeleton d ≡ skeleton e → sorts_of (ids d) ≡ sorts_of (ids e)
 
+-- And as many.
 abbrev pub SkeletonHasCount : Type 0
 SkeletonHasCount = (d e : Doc) → skeleton d ≡ skeleton e → id_count d ≡ id_count e
 
--- A skeleton nests as its document does, and is as sound.
+-- A skeleton nests as its document does.
 abbrev pub SkeletonHasDepth : Type 0
 SkeletonHasDepth = (d : Doc) → depth (skeleton d) ≡ depth d
 
+-- A skeleton is sound where its document is.
 abbrev pub SkeletonIsAsSound : Type 0
 SkeletonIsAsSound = (d : Doc) → is_sound (skeleton d) ≡ is_sound d
+
+-- The members of a skeleton stand in order where those of its document do.
+abbrev pub SkeletonIsAsOrdered : Type 0
+SkeletonIsAsOrdered = (d : Doc) → is_ordered (skeleton d) ≡ is_ordered d
+
+-- The texts of a skeleton are those of its document.
+abbrev pub SkeletonIsAsUtf8 : Type 0
+SkeletonIsAsUtf8 = (d : Doc) → all_utf8 (skeleton d) ≡ all_utf8 d
 
 -- A sound document is plain with its ids as whole numbers.
 abbrev pub WithoutIdsIsPlain : Type 0
 WithoutIdsIsPlain = (d : Doc) → is_sound d ≡ true → ids_in_range d ≡ true → is_plain (without_ids d) ≡ true
 
--- A plain document has no ids to be made whole numbers.
-abbrev pub PlainHasNoIds : Type 0
-PlainHasNoIds = (d : Doc) → is_plain d ≡ true → without_ids d ≡ d
+-- Without an id there is nothing to be made a whole number.
+abbrev pub WithoutIdsIsSame : Type 0
+WithoutIdsIsSame = (d : Doc) → has_id d ≡ false → without_ids d ≡ d
 
 -- A document has the same text with its ids as whole numbers.
 abbrev pub HasSameText : Type 0
 HasSameText = (d : Doc) → text_of (without_ids d) ≡ text_of d
+
+-- The text of a sound document is read as the document with its ids as whole numbers.
+abbrev pub TextIsRead : Type 0
+TextIsRead = (d : Doc) → is_sound d ≡ true → ids_in_range d ≡ true → is_ordered d ≡ true → all_utf8 d ≡ true → IsRead (text_of d) (without_ids d)
 
 -- The order of the ids is the order of paths.
 abbrev pub IdsStandByPath : Type 0

@@ -1,5 +1,6 @@
 pub mod Doc
 pub mod View
+pub mod Side
 pub mod Ids
 pub mod Path
 pub mod Json

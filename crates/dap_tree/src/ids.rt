@@ -1,5 +1,5 @@
 ghost use Rattle.std.specs.Prelude.{◌≡◌, ◌++◌, ◌≤◌, true, length, drop, OnOk, OnErr};
-ghost use Rattle.dap_tree.specs.Doc.{depth, items_depth, members_depth, is_sound};
+ghost use Rattle.dap_tree.specs.Doc.{depth, items_depth, members_depth, is_sound, is_ordered, items_ordered, members_ordered};
 ghost use Rattle.dap_tree.specs.Ids.{ids, items_ids, members_ids, id_count, items_id_count, members_id_count, with_ids, items_with_ids, members_with_ids, numbers_of, skeleton, Extends};
 ghost use Rattle.dap_tree.specs.View.{view, items_view, members_view};
 
@@ -13,6 +13,9 @@ impl Tree {
     pub fn add_ids(&self, found: &mut Vec<(Sort, i64)>) -> Result<(), AllocError>
         ensures ok { OnOk result (found.new.items ≡ found.old.items ++ ids (view self.now)) }
         ensures err { OnErr result (found.new.items ≡ found.old.items) }
+
+        // So the order of the ids is that of their paths.
+        ensures ordered { OnOk result (is_ordered (view self.now) ≡ true) }
     {
         let before = found.len();
         let added = add(self, found);
@@ -43,6 +46,7 @@ impl Tree {
 fn add(tree: &Tree, found: &mut Vec<(Sort, i64)>) -> Result<(), AllocError>
     ensures ok { OnOk result (found.new.items ≡ found.old.items ++ ids (view tree.now)) }
     ensures err { OnErr result (Extends found.old.items found.new.items) }
+    ensures ordered { OnOk result (is_ordered (view tree.now) ≡ true) }
 {
     match tree {
         Tree::Id(sort, n) => {
@@ -59,6 +63,7 @@ fn add(tree: &Tree, found: &mut Vec<(Sort, i64)>) -> Result<(), AllocError>
 fn add_items(items: &Vec<Tree>, found: &mut Vec<(Sort, i64)>) -> Result<(), AllocError>
     ensures ok { OnOk result (found.new.items ≡ found.old.items ++ items_ids (items_view items.now.items)) }
     ensures err { OnErr result (Extends found.old.items found.new.items) }
+    ensures ordered { OnOk result (items_ordered (items_view items.now.items) ≡ true) }
 {
     for item in items {
         add(item, found)?;
@@ -73,6 +78,7 @@ fn add_members(
 ) -> Result<(), AllocError>
     ensures ok { OnOk result (found.new.items ≡ found.old.items ++ members_ids (members_view members.now.entries)) }
     ensures err { OnErr result (Extends found.old.items found.new.items) }
+    ensures ordered { OnOk result (members_ordered (members_view members.now.entries) ≡ true) }
 {
     for (_, member) in members.iter() {
         add(member, found)?;
@@ -81,6 +87,7 @@ fn add_members(
 }
 
 // What is left of the numbers after one for each id of the tree.
+// A walk of its own, since nothing is known of a closure's captures after `retain`.
 #[cycle(skip)]
 fn skip<'a>(tree: &Tree, numbers: &'a [i64]) -> &'a [i64]
     ensures { result.now ≡ drop (id_count (view tree.now)) numbers.now }

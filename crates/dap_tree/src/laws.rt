@@ -1,6 +1,6 @@
 //! Laws of the definitions that the contracts of this crate speak in. Each function does nothing.
-ghost use Rattle.dap_tree.specs.Laws.{SomeOutcome, OneOutcome, ReadIsPlain, ChangesMember, KeepsMembers, ChangesPaths, KeepsPaths};
-ghost use Rattle.dap_tree.specs.Laws.{CountsIds, NumbersIds, TakesIds, KeepsOwnIds, KeepsSound, KeepsSkeleton, DiffersInNumbers, SkeletonTells, SkeletonHasSorts, SkeletonHasCount, SkeletonHasDepth, SkeletonIsAsSound, WithoutIdsIsPlain, PlainHasNoIds, HasSameText, IdsStandByPath};
+ghost use Rattle.dap_tree.specs.Laws.{SomeOutcome, OneOutcome, ReadIsPlain, ReadIsOrdered, ChangesMember, KeepsMembers, ChangesPaths, KeepsPaths, ChangesItems, LeavesMembers};
+ghost use Rattle.dap_tree.specs.Laws.{FindsNoIds, CountsIds, NumbersIds, TakesIds, KeepsOwnIds, KeepsSound, KeepsSkeleton, DiffersInNumbers, SkeletonTells, SkeletonHasSorts, SkeletonHasCount, SkeletonHasDepth, SkeletonIsAsSound, SkeletonIsAsOrdered, SkeletonIsAsUtf8, WithoutIdsIsPlain, WithoutIdsIsSame, HasSameText, TextIsRead, IdsStandByPath};
 
 /// Every content is one of three, and one alone: the text of one tree, no JSON, or JSON with a fraction.
 pub fn one_outcome()
@@ -9,8 +9,11 @@ pub fn one_outcome()
 {}
 
 /// A content nests no deeper than a tree may, its whole numbers are in range, and it has no ids.
+///
+/// The members of its objects stand in the byte order of their names, each name once.
 pub fn read_is_plain()
-    ensures { ReadIsPlain }
+    ensures plain { ReadIsPlain }
+    ensures ordered { ReadIsOrdered }
 {}
 
 /// A change at one name changes the member of that name and nothing else.
@@ -21,8 +24,15 @@ pub fn changes_one_member()
     ensures paths { KeepsPaths }
 {}
 
+/// A change of the items of a list changes each of them and nothing else.
+pub fn changes_items()
+    ensures items { ChangesItems }
+    ensures members { LeavesMembers }
+{}
+
 /// The i-th number goes to the i-th id, and nothing else changes.
 pub fn numbers_ids()
+    ensures none { FindsNoIds }
     ensures count { CountsIds }
     ensures numbers { NumbersIds }
     ensures ids { TakesIds }
@@ -39,13 +49,16 @@ pub fn skeletons_are_all_but_numbers()
     ensures count { SkeletonHasCount }
     ensures depth { SkeletonHasDepth }
     ensures sound { SkeletonIsAsSound }
+    ensures ordered { SkeletonIsAsOrdered }
+    ensures utf8 { SkeletonIsAsUtf8 }
 {}
 
 /// The ids of a document may be whole numbers, and the text is the same.
 pub fn ids_are_written_as_numbers()
     ensures plain { WithoutIdsIsPlain }
-    ensures none { PlainHasNoIds }
+    ensures same { WithoutIdsIsSame }
     ensures text { HasSameText }
+    ensures read { TextIsRead }
 {}
 
 /// Ids in the order of the text are ids in the order of their paths.

@@ -268,8 +268,10 @@ fn law_functions_return(_rt: HostRuntime) -> Result<(), Fail> {
     laws::one_outcome();
     laws::read_is_plain();
     laws::changes_one_member();
+    laws::changes_items();
     laws::numbers_ids();
     laws::skeletons_are_all_but_numbers();
     laws::ids_are_written_as_numbers();
+    laws::ids_stand_by_path();
     Ok(())
 }

@@ -1,12 +1,11 @@
-use Rattle.std.proofs.Common.{rules, ◌≡◌, ℕ, ◌+◌, ◌-◌, ◌*◌, ◌<◌, ◌≤◌, length, drop, take, set, get_or, subst, sym, ◌∙◌, ap, ℤ, List, Bor, refl, true, arith, add-one}
-use Rattle.dap_tree.specs.Doc.{items_depth, depth, members_depth}
-use Rattle.dap_tree.specs.Ids.{items_with_ids, with_ids, members_with_ids, items_id_count, id_count, members_id_count}
+use Rattle.std.proofs.Common.{rules, ◌≡◌, ℕ, ◌<◌, ◌≤◌, length, subst, sym, ◌∙◌, ap, ℤ, List, Bor, refl, arith, add-one}
+use Rattle.dap_tree.specs.Doc.{depth, members_depth}
+use Rattle.dap_tree.specs.Ids.{items_with_ids}
 use Rattle.dap_tree.specs.View.{view, items_view, members_view}
-use Rattle.dap_tree.proofs.Joins.{items_join, put_step, put_done, shallow_step, member_shallow, folds_keep, retained_with_ids}
+use Rattle.dap_tree.proofs.Joins.{put_step, put_done, shallow_step, member_shallow, folds_keep, retained_with_ids}
 use Rattle.dap_tree.proofs.Views.{view-Object}
 use Rattle.dap_tree.specs.declared.tree.Tree.{the_lemmas}
 use Rattle.dap_tree.proofs.ids.+put.Goals as goal
-use Rattle.std.specs.BTreeMap.{BTreeMap}
 
 abbrev State : Type 0
 State = Bor (List ℤ) × ℕ

@@ -1,6 +1,6 @@
-use Rattle.std.proofs.Common.{◌≡◌, ℕ, ◌+◌, ◌*◌, ◌≤◌, drop, take}
+use Rattle.std.proofs.Common.{◌≡◌, ◌+◌, ◌*◌, ◌≤◌, drop, take}
 use Rattle.dap_tree.specs.Doc.{items_depth}
-use Rattle.dap_tree.specs.Ids.{items_with_ids, items_id_count}
+use Rattle.dap_tree.specs.Ids.{items_with_ids}
 use Rattle.dap_tree.specs.View.{items_view}
 use Rattle.dap_tree.proofs.Joins.{items_join}
 use Rattle.dap_tree.proofs.ids.+put.Given as goal

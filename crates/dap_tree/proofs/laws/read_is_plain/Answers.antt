@@ -1,5 +1,6 @@
 use Rattle.dap_tree.proofs.Outcomes.{read_is_plain}
+use Rattle.dap_tree.proofs.Ordered.{read_is_ordered}
 use Rattle.dap_tree.proofs.laws.read_is_plain.Goals as goal
 
 pub returns : goal.returns
-returns c = read_is_plain
+returns c = record { plain = read_is_plain; ordered = read_is_ordered }

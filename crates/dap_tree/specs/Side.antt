@@ -1,0 +1,9 @@
+-- The sides of a session.
+use Rattle.std.specs.Prelude.{ℕ, List, codes}
+use Rattle.dap_tree.specs.declared.side.Side.{Side}
+use Rattle.dap_tree.specs.declared.side.Side.TheVariants.{Client, Adapter}
+
+-- How a side is written (own).
+abbrev pub side_text : Side → List ℕ
+side_text Client = codes "client"
+side_text Adapter = codes "adapter"
