@@ -1,0 +1,14 @@
+pub mod Fronts
+pub mod FramerSteps
+pub mod RecordUnique
+pub mod RecordFaults
+pub mod RecordOutcomes
+pub mod RecordSteps
+pub mod RecordStreams
+pub mod TraceUnique
+pub mod TraceOutcomes
+pub mod TraceSteps
+pub mod RecorderSteps
+pub mod RecorderRuns
+pub mod RecordedUnique
+pub mod TraceRuns

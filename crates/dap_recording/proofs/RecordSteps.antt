@@ -1,0 +1,94 @@
+-- What a reader of records stands for once it has read on.
+use Rattle.std.proofs.Common.{◌≡◌, ◌≢◌, ℕ, suc, ◌+◌, ◌<◌, ⊎_elim, List, [], ◌∷◌, ◌++◌, length, take, drop, get_or, refl, sym, ap, ◌∙◌, subst}
+use Rattle.std.proofs.lemmas.List.{append_assoc, take_more}
+use Rattle.std.proofs.Math.Seq.{drop-cons}
+use Rattle.dap_frame.specs.declared.limits.FrameLimits.{FrameLimits}
+use Rattle.dap_frame.specs.declared.fault.FrameFault.{FrameFault}
+use Rattle.dap_frame.specs.declared.fault.FrameFault.TheVariants as frame_fault
+use Rattle.dap_frame.specs.Frame.{IsFrame}
+use Rattle.dap_frame.specs.Reading.{Reading, GivesFault, limits_of}
+use Rattle.dap_tree.specs.declared.side.Side.{Side}
+use Rattle.dap_recording.specs.declared.record_fault.RecordCause.{RecordCause}
+use Rattle.dap_recording.specs.declared.record_fault.RecordCause.TheVariants.{BadMarker, Frame, NoLineEnd, Memory}
+use Rattle.dap_recording.specs.declared.record_fault.RecordFault.{RecordFault}
+use Rattle.dap_recording.specs.declared.record_state.RecordState.{RecordState}
+use Rattle.dap_recording.specs.declared.record_state.RecordState.TheVariants as states
+use Rattle.dap_recording.specs.Marker.{marker, IsNoMarker}
+use Rattle.dap_recording.specs.Recording.{IsRecord, ShowsFault, at_marker, in_frame, at_line_end, IsOpenRecord, before_marker, before_frame_end, before_line_end}
+use Rattle.dap_recording.specs.RecordReading.{RecordReading, StandsFor, IsKeptOfRecord, HasFailedAt, GivesRecordFault, record_limits}
+use Rattle.dap_recording.proofs.Fronts.{first_is, split_at}
+use Rattle.dap_recording.proofs.FramerSteps.{is_memory}
+
+abbrev pub reader_at : Reading → RecordState → ℕ → RecordReading
+reader_at framer state number = record { framer = framer; state = state; number = number }
+
+pub line_end_no_memory : (cause : RecordCause) → cause ≡ NoLineEnd → cause ≡ Memory → ⊥
+line_end_no_memory cause e f = cc
+
+pub marker_no_memory : (cause : RecordCause) → cause ≡ BadMarker → cause ≡ Memory → ⊥
+marker_no_memory cause e f = cc
+
+frame_no_memory : (cause : RecordCause) (fault : FrameFault) → cause ≡ Frame fault → cause ≡ Memory → ⊥
+frame_no_memory cause fault e f = cc
+
+-- what the reader stands for, where its state is known
+pub at_state : (reader : RecordReading) (number : ℕ) (bytes : List ℕ) (state : RecordState) → reader.state ≡ state
+    → StandsFor reader number bytes → IsKeptOfRecord reader.framer state bytes
+at_state reader number bytes state e stands = subst (λ s. IsKeptOfRecord reader.framer s bytes) e stands.kept
+
+kept_open : (framer : Reading) (state : RecordState) (bytes : List ℕ) → IsKeptOfRecord framer state bytes
+    → IsOpenRecord (limits_of framer) bytes
+kept_open framer states.Marker bytes h = before_marker h.0
+kept_open framer (states.Frame side) bytes h = before_frame_end side h.0 h.1 h.2.is_open
+kept_open framer (states.LineEnd whole) bytes h = before_line_end whole.side h.0 whole.content h.1 h.2
+kept_open framer (states.Failed cause) bytes h = absurd h
+
+pub stands_open : (reader : RecordReading) (number : ℕ) (bytes : List ℕ) → StandsFor reader number bytes
+    → IsOpenRecord (record_limits reader) bytes
+stands_open reader number bytes stands = kept_open reader.framer reader.state bytes stands.kept
+
+pub bad_marker : (limits : FrameLimits) (bytes piece : List ℕ) → bytes ≡ [] → 0 < length piece
+    → IsNoMarker (get_or piece 0 0) → ShowsFault limits (bytes ++ piece) BadMarker 1
+bad_marker limits bytes piece none some other =
+    at_marker (get_or piece 0 0) (drop 1 piece) (ap (λ xs. xs ++ piece) none ∙ first_is piece some) other
+
+module _ (limits : FrameLimits) (bytes piece frame content : List ℕ) (side : Side) (from : ℕ) (inside : from < length piece)
+    (front : bytes ++ take from piece ≡ marker side ∷ frame) (is : IsFrame limits frame content) where
+  pub bad_line_end : (get_or piece from 0 ≡ 10 → ⊥) → (i : ℕ) × ShowsFault limits (bytes ++ piece) NoLineEnd i
+  bad_line_end apart = (
+    length frame + 2,
+    at_line_end side frame content (get_or piece from 0) (drop (suc from) piece)
+        (split_at bytes piece (marker side ∷ frame) from front ∙ ap (λ xs. (marker side ∷ frame) ++ xs) (drop-cons piece from 0 inside)) is apart refl,
+  )
+
+  pub good_line_end : get_or piece from 0 ≡ 10 → IsRecord limits (bytes ++ take (from + 1) piece) side content
+  good_line_end lf = record {
+    frame = frame;
+    is_frame = is;
+    bytes_are = ap (λ xs. bytes ++ xs) (take_more piece from 0 inside) ∙ sym (append_assoc bytes (take from piece) (get_or piece from 0 ∷ []))
+        ∙ ap (λ xs. xs ++ get_or piece from 0 ∷ []) front ∙ ap (λ b. (marker side ∷ frame) ++ b ∷ []) lf;
+  }
+
+module _ (limits : FrameLimits) (number : ℕ) (bytes piece rest : List ℕ) (side : Side) (from : ℕ) (fault : FrameFault) (told : RecordFault) (old new : RecordReading) (framer : Reading)
+    (front : bytes ++ take from piece ≡ marker side ∷ rest) (gives : GivesFault limits rest (drop from piece) fault framer) (number_is : told.number ≡ number)
+    (memory : fault ≡ frame_fault.Memory → (told.cause ≡ Memory) × (new ≡ old)) (stands : fault ≡ frame_fault.Memory → StandsFor old number bytes)
+    (other : fault ≢ frame_fault.Memory → (told.cause ≡ Frame fault) × HasFailedAt new told) where
+  pub frame_faults : GivesRecordFault limits number bytes piece told new
+  frame_faults = ⊎_elim
+      (λ (e : fault ≡ frame_fault.Memory). record {
+        number_is = number_is;
+        memory = λ _. subst (λ reader. StandsFor reader number bytes) (sym (memory e).1) (stands e);
+        shown = λ apart. absurd (apart (memory e).0);
+        failed = λ apart. absurd (apart (memory e).0);
+      })
+      (λ (d : fault ≢ frame_fault.Memory). record {
+        number_is = number_is;
+        memory = λ e. absurd (frame_no_memory told.cause fault (other d).0 e);
+        shown = λ _. (
+          (gives.shown d).0 + 1,
+          subst (λ cause. ShowsFault limits (bytes ++ piece) cause ((gives.shown d).0 + 1)) (sym (other d).0)
+              (in_frame side (rest ++ drop from piece) (split_at bytes piece (marker side ∷ rest) from front) (gives.shown d).1),
+        );
+        failed = λ _. (other d).1;
+      })
+      (is_memory fault)

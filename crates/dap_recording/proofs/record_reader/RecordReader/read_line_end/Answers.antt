@@ -1,0 +1,31 @@
+use Rattle.std.proofs.Common.{◌≡◌, ℕ, ◌+◌, ◌<◌, [], length, min, refl, sym, ap, ◌∙◌, subst, arith}
+use Rattle.dap_frame.specs.Reading.{Stands}
+use Rattle.dap_recording.specs.RecordReading.{RecordReading}
+use Rattle.dap_recording.specs.RecordReading.{record_limits}
+use Rattle.dap_recording.proofs.RecordSteps.{bad_line_end, good_line_end, line_end_no_memory}
+use Rattle.dap_recording.proofs.record_reader.RecordReader.read_line_end.Goals as goal
+
+pub returns-then-piece-from-ne10-clause-gives : goal.returns-then-piece-from-ne10-clause-gives
+returns-then-piece-from-ne10-clause-gives c = λ number bytes frame num stands front is.
+    let inside : c.args.from < length c.args.piece.now = omega arith in
+    record {
+      number_is = ap (λ (reader : RecordReading). reader.number) c.self.view_is ∙ num;
+      memory = λ e. absurd (line_end_no_memory _ refl e);
+      shown = λ _. bad_line_end (record_limits c.args.self.now) bytes c.args.piece.now frame c.args.whole.content c.args.whole.side c.args.from inside front is c.if-piece-from-ne10.true;
+      failed = λ _. record { state = refl; number = refl };
+    }
+
+pub returns-clause-gives : goal.returns-clause-gives
+returns-clause-gives c = λ number bytes frame num stands front is.
+    let inside : c.args.from < length c.args.piece.now = omega arith in
+    let same : c.self.inside.framer ≡ c.args.self.now.framer = ap (λ (reader : RecordReading). reader.framer) c.self.view_is in
+    let count : c.self.inside.number ≡ number = ap (λ (reader : RecordReading). reader.number) c.self.view_is ∙ num in (
+      omega arith,
+      (
+        good_line_end (record_limits c.args.self.now) bytes c.args.piece.now frame c.args.whole.content c.args.whole.side c.args.from inside front is c.if-piece-from-ne10.false,
+        record {
+          number_is = c.saturating_add-self-inside.ensures ∙ ap (λ n. min (n + 1) 18446744073709551615) count;
+          kept = (refl, subst (λ framer. Stands framer []) (sym same) stands);
+        },
+      ),
+    )

@@ -1,0 +1,13 @@
+pub mod Marker
+pub mod Recording
+pub mod RecordReading
+pub mod Trace
+pub mod Count
+pub mod TraceReading
+pub mod OneSide
+pub mod RecorderReading
+pub mod Recorder
+pub mod Recorded
+pub mod Feeding
+pub mod Runs
+pub mod Laws

@@ -1,0 +1,19 @@
+-- What callers see of a recorder's fields, and what always holds of the fields.
+use Rattle.std.specs.Prelude.{◌≡◌, List, ℕ, None}
+use Rattle.dap_frame.specs.Limits.{IsSound}
+use Rattle.dap_frame.specs.Reading.{Stands, limits_of}
+use Rattle.dap_recording.specs.declared.recorder.Recorder.TheInside.{Inside}
+use Rattle.dap_recording.specs.RecorderReading.{RecorderReading}
+
+-- what callers see: all of it
+abbrev pub reading : Inside → RecorderReading
+reading a = record { limits = a.limits; client = a.client; adapter = a.adapter; text = a.text.items; fault = a.fault }
+
+-- The fields fit each other: both framers have the recorder's limits, and stand for some rests where
+-- no fault was met.
+pub record IsConsistent (recorder : RecorderReading) : Type 0 where
+  pub sound : IsSound recorder.limits
+  pub client_limits : limits_of recorder.client ≡ recorder.limits
+  pub adapter_limits : limits_of recorder.adapter ≡ recorder.limits
+  pub going : recorder.fault ≡ None
+      → ((rest : List ℕ) × Stands recorder.client rest) × ((rest : List ℕ) × Stands recorder.adapter rest)

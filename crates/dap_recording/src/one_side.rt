@@ -1,0 +1,47 @@
+//! The frames of one side of a trace.
+
+ghost use Rattle.std.specs.Prelude.{◌≡◌, ℕ, ◌<◌, ◌≤◌, List, length, IfOk};
+ghost use Rattle.dap_frame.specs.Limits.{IsSound};
+ghost use Rattle.dap_frame.specs.Reading.{Stands, limits_of};
+ghost use Rattle.dap_recording.specs.OneSide.{Takes};
+
+use dap_tree::Side;
+use crate::write::write_record;
+use dap_frame::{FrameFault, FrameLimits, Framer};
+
+/// Reads to the end of one frame or of the piece, and appends the record of a frame that ended.
+/// Makes room for the record first, so that nothing is read where there is none.
+pub fn record_frame(
+    text: &mut Vec<u8>,
+    framer: &mut Framer,
+    limits: FrameLimits,
+    side: Side,
+    piece: &[u8],
+) -> Result<usize, FrameFault>
+    requires sound { IsSound limits }
+    requires same { limits_of framer.old ≡ limits }
+    ensures takes { (rest : List ℕ) → Stands framer.old rest
+        → Takes limits side rest piece.now text.old.items text.new.items framer.old framer.new result }
+    ensures used { IfOk result (λ used. used ≤ length piece.now) }
+    ensures progress { IfOk result (λ used. 0 < length piece.now → 0 < used) }
+    ensures limits { limits_of framer.new ≡ limits_of framer.old }
+{
+    let room = framer.held() + piece.len() + 32;
+    if text.reserve(room).is_err() {
+        return Err(FrameFault::Memory);
+    }
+    let fed = match framer.feed(piece) {
+        Ok(fed) => fed,
+        Err(fault) => return Err(fault),
+    };
+    let used = fed.used;
+    match fed.content {
+        None => Ok(used),
+        Some(content) => {
+            if write_record(text, side, content.as_slice(), limits).is_err() {
+                return Err(FrameFault::Memory);
+            }
+            Ok(used)
+        }
+    }
+}

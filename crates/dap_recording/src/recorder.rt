@@ -1,0 +1,135 @@
+ghost use Rattle.std.specs.Prelude.{◌≡◌, ◌≢◌, ℕ, ◌<◌, ◌≤◌, ◌↔◌, List, [], length, Err, IfOk, IsOk, IsErrOf, OnErr};
+ghost use Rattle.dap_frame.specs.Limits.{IsSound};
+ghost use Rattle.dap_recording.specs.RecorderReading.{StandsForRests, HasFailedWith, GivesPiece, text_of, recorder_limits};
+
+use crate::one_side::record_frame;
+use crate::recorder_fault::RecorderFault;
+use dap_tree::Side;
+use dap_frame::{FrameFault, FrameLimits, Framer};
+use std::alloc::Global;
+use std::marker::Model;
+
+/// Makes a recording of the frames in the pieces that two sides sent each other.
+///
+/// A frame belongs to the byte that ends it: its record is appended when that byte comes, whatever
+/// pieces of the other side came since the frame began. A recorder stands for the bytes of each
+/// side that came behind its last whole frame.
+///
+/// To record a trace, make one recorder with limits that are sound. Pass each piece to
+/// [`piece`](Recorder::piece), and then again what is left of it behind the answer, until nothing
+/// is left. [`text`](Recorder::text) is the recording so far. At the end of the trace ask
+/// [`finish`](Recorder::finish) whether each side ended between two frames.
+#[derive(Drop)]
+pub struct Recorder {
+    limits: FrameLimits,
+    client: Framer,
+    adapter: Framer,
+    text: Vec<u8>,
+    fault: Option<RecorderFault>,
+}
+
+impl Model for Recorder {
+    ghost use Rattle.dap_recording.specs.RecorderReading.{RecorderReading};
+
+    ghost Value = { RecorderReading };
+
+    ghost use Rattle.dap_recording.specs.Recorder.{reading, IsConsistent};
+
+    ghost view = { reading };
+
+    ghost invariant = { λ a. IsConsistent (reading a) };
+}
+
+impl Recorder {
+    /// A recorder at the start of a trace. Takes no memory.
+    pub fn new(alloc: Global, limits: FrameLimits) -> Recorder
+        requires { IsSound limits }
+        ensures stands { StandsForRests result (λ side. []) }
+        ensures text { text_of result ≡ [] }
+        ensures limits { recorder_limits result ≡ limits }
+    {
+        Recorder {
+            limits,
+            client: Framer::new(alloc, limits),
+            adapter: Framer::new(alloc, limits),
+            text: Vec::new(alloc),
+            fault: None,
+        }
+    }
+
+    /// The records of the frames that have ended. Takes no memory.
+    pub fn text(&self) -> &[u8]
+        ensures { result.now ≡ text_of self.now }
+    {
+        self.text.as_slice()
+    }
+
+    /// Reads to the end of one frame of this side or of the piece, whichever is first, and appends
+    /// the record of a frame that ended. Answers how many bytes of the piece were taken, from its
+    /// front.
+    ///
+    /// Answers every fault but a `Cut`. After `Memory` the recorder is unchanged and has used
+    /// nothing, so the call may be made again with the same piece. After another fault every call
+    /// of `piece`, for either side, and of [`finish`](Recorder::finish) answers that fault, and the
+    /// text keeps the records finished before.
+    pub fn piece(&mut self, side: Side, piece: &[u8]) -> Result<usize, RecorderFault>
+        ensures gives { (rests : Side → List ℕ) → StandsForRests self.old rests
+            → GivesPiece side rests piece.now self.old self.new result }
+        ensures used { IfOk result (λ used. used ≤ length piece.now) }
+        ensures progress { IfOk result (λ used. 0 < length piece.now → 0 < used) }
+
+        // What stands after a fault.
+        ensures memory { IsErrOf result RecorderFault.Memory → self.new ≡ self.old }
+        ensures kept { OnErr result (text_of self.new ≡ text_of self.old) }
+        ensures failed { (fault : _) → HasFailedWith self.old fault
+            → (result ≡ Err fault) × (self.new ≡ self.old) }
+
+        ensures limits { recorder_limits self.new ≡ recorder_limits self.old }
+    {
+        if let Some(fault) = self.fault {
+            return Err(fault);
+        }
+        let limits = self.limits;
+        let recorded = match side {
+            Side::Client => record_frame(&mut self.text, &mut self.client, limits, side, piece),
+            Side::Adapter => record_frame(&mut self.text, &mut self.adapter, limits, side, piece),
+        };
+        let cause = match recorded {
+            Ok(used) => return Ok(used),
+            Err(cause) => cause,
+        };
+        match cause {
+            FrameFault::Memory => Err(RecorderFault::Memory),
+            _ => {
+                let fault = RecorderFault::Frame(side, cause);
+                self.fault = Some(fault);
+                Err(fault)
+            }
+        }
+    }
+
+    /// Whether the trace may end here: the fault that was met, or a `Cut` inside a frame, first of
+    /// the client and then of the adapter. Changes nothing and takes no memory.
+    pub fn finish(&self) -> Result<(), RecorderFault>
+        ensures ok { (rests : Side → List ℕ) → StandsForRests self.now rests
+            → (IsOk result ↔ ((rests Side.Client ≡ []) × (rests Side.Adapter ≡ []))) }
+        ensures client { (rests : Side → List ℕ) → StandsForRests self.now rests
+            → rests Side.Client ≢ []
+            → result ≡ Err (RecorderFault.Frame Side.Client FrameFault.Cut) }
+        ensures adapter { (rests : Side → List ℕ) → StandsForRests self.now rests
+            → rests Side.Client ≡ [] → rests Side.Adapter ≢ []
+            → result ≡ Err (RecorderFault.Frame Side.Adapter FrameFault.Cut) }
+        ensures failed { (fault : _) → HasFailedWith self.now fault → result ≡ Err fault }
+    {
+        if let Some(fault) = self.fault {
+            return Err(fault);
+        }
+        if self.client.finish().is_err() {
+            return Err(RecorderFault::Frame(Side::Client, FrameFault::Cut));
+        }
+        if self.adapter.finish().is_err() {
+            return Err(RecorderFault::Frame(Side::Adapter, FrameFault::Cut));
+        }
+        Ok(())
+    }
+}

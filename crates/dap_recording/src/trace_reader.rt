@@ -1,0 +1,207 @@
+ghost use Rattle.std.specs.Prelude.{◌≡◌, ◌≢◌, ℕ, ◌+◌, ◌<◌, ◌≤◌, ◌↔◌, List, [], ◌∷◌, ◌++◌, length, take, Err, IfErr, IfOk, IsOk};
+ghost use Rattle.dap_frame.specs.Lines.{number_of};
+ghost use Rattle.dap_recording.specs.Marker.{marker};
+ghost use Rattle.dap_recording.specs.Trace.{IsCount};
+ghost use Rattle.dap_recording.specs.Count.{IsCountOf};
+ghost use Rattle.dap_recording.specs.TraceReading.{StandsForPiece, HasFailedAtPiece, GivesTrace, GivesFedTrace};
+
+use crate::count::{Count, CountEnd, count_end};
+use crate::fed_trace::{FedTrace, TracePart};
+use crate::marker::side_of;
+use dap_tree::Side;
+use crate::trace_fault::{TraceCause, TraceFault};
+use crate::trace_state::TraceState;
+use std::marker::Model;
+
+/// Reads pieces from a trace, which may come in inputs that are cut anywhere, and lends their raw
+/// bytes. No call takes memory.
+///
+/// A reader stands for the number of the piece that has not ended, for the bytes of it that came,
+/// and for those of them that are raw.
+///
+/// To read a trace, make one reader. Pass each input to [`feed`](TraceReader::feed), and then again
+/// what is left of it behind `used`, until nothing is left: the runs of one piece, joined, are its
+/// raw bytes. At the end of the trace ask [`finish`](TraceReader::finish) whether it ended between
+/// two pieces.
+#[derive(Drop)]
+pub struct TraceReader {
+    state: TraceState,
+    piece: u64,
+}
+
+impl Model for TraceReader {
+    ghost use Rattle.dap_recording.specs.TraceReading.{TraceReading, HasBytesToCome};
+
+    ghost Value = { TraceReading };
+
+    ghost view = { λ a. record { state = a.state; piece = a.piece } };
+
+    ghost invariant = { λ a. HasBytesToCome a.state };
+}
+
+impl TraceReader {
+    /// A reader at the start of a trace.
+    pub fn new() -> TraceReader
+        ensures { StandsForPiece result 1 [] [] }
+    {
+        TraceReader {
+            state: TraceState::Marker,
+            piece: 1,
+        }
+    }
+
+    /// Reads to the end of a run of one piece's raw bytes or of the input, whichever is first.
+    ///
+    /// A run ends with its piece or with the input. It is empty only where its piece is, and then
+    /// it is given once. Answers every fault but `Cut`, with the number of the piece that shows it;
+    /// from then on `feed` and [`finish`](TraceReader::finish) answer that fault.
+    pub fn feed<'a>(&mut self, input: &'a [u8]) -> Result<FedTrace<'a>, TraceFault>
+        ensures gives { (piece : ℕ) (bytes raw : List ℕ) → StandsForPiece self.old piece bytes raw
+            → GivesTrace piece bytes raw input.now result self.new }
+        ensures used { IfOk result (λ fed. fed.used ≤ length input.now) }
+        ensures progress { IfOk result (λ fed. 0 < length input.now → 0 < fed.used) }
+        ensures failed { (fault : _) → HasFailedAtPiece self.old fault
+            → (result ≡ Err fault) × (self.new ≡ self.old) }
+    {
+        match self.state {
+            TraceState::Failed(cause) => Err(TraceFault {
+                piece: self.piece,
+                cause,
+            }),
+            TraceState::Raw(side, left) => Ok(self.read_raw(side, left, input, 0)),
+            TraceState::Count(side, count) => self.read_count(side, count, input, 0),
+            TraceState::Marker => self.read_marker(input),
+        }
+    }
+
+    /// Reads on from the marker of a piece.
+    fn read_marker<'a>(&mut self, input: &'a [u8]) -> Result<FedTrace<'a>, TraceFault>
+        requires { self.old.state ≡ TraceState.Marker }
+        ensures gives { (piece : ℕ) (bytes raw : List ℕ) → StandsForPiece self.old piece bytes raw
+            → GivesTrace piece bytes raw input.now result self.new }
+        ensures used { IfOk result (λ fed. fed.used ≤ length input.now) }
+        ensures progress { IfOk result (λ fed. 0 < length input.now → 0 < fed.used) }
+    {
+        if input.is_empty() {
+            return Ok(FedTrace {
+                used: 0,
+                part: None,
+            });
+        }
+        match side_of(input[0]) {
+            Some(side) => {
+                let count = Count {
+                    digits: 0,
+                    number: 0,
+                    is_zero: false,
+                };
+                self.read_count(side, count, input, 1)
+            }
+            None => {
+                self.state = TraceState::Failed(TraceCause::BadMarker);
+                Err(TraceFault {
+                    piece: self.piece,
+                    cause: TraceCause::BadMarker,
+                })
+            }
+        }
+    }
+
+    /// Reads on from a piece's count. `from` bytes of the input stand before what is read.
+    fn read_count<'a>(
+        &mut self,
+        side: Side,
+        count: Count,
+        input: &'a [u8],
+        from: usize,
+    ) -> Result<FedTrace<'a>, TraceFault>
+        requires { from ≤ length input.now }
+        ensures gives { (piece : ℕ) (bytes text : List ℕ) → self.old.piece ≡ piece
+            → bytes ++ take from input.now ≡ marker side ∷ text → IsCountOf count text
+            → GivesTrace piece bytes [] input.now result self.new }
+        ensures used { IfOk result (λ fed. (from ≤ fed.used) × (fed.used ≤ length input.now)) }
+        ensures progress { IfOk result (λ fed. from < length input.now → from < fed.used) }
+    {
+        match count_end(count, &input[from..]) {
+            CountEnd::More(count) => {
+                self.state = TraceState::Count(side, count);
+                Ok(FedTrace {
+                    used: input.len(),
+                    part: None,
+                })
+            }
+            CountEnd::Bad => {
+                self.state = TraceState::Failed(TraceCause::BadCount);
+                Err(TraceFault {
+                    piece: self.piece,
+                    cause: TraceCause::BadCount,
+                })
+            }
+            CountEnd::Ended { used, number } => {
+                Ok(self.read_raw(side, number, input, from + used))
+            }
+        }
+    }
+
+    /// Reads on from a piece's raw bytes, of which `left` are to come. `from` bytes of the input
+    /// stand before them.
+    fn read_raw<'a>(&mut self, side: Side, left: u64, input: &'a [u8], from: usize) -> FedTrace<'a>
+        requires { from ≤ length input.now }
+        ensures gives { (piece : ℕ) (bytes raw text : List ℕ) → self.old.piece ≡ piece → IsCount text
+            → bytes ++ take from input.now ≡ (marker side ∷ text) ++ (10 ∷ raw)
+            → number_of text ≡ length raw + left → (left ≡ 0 → raw ≡ [])
+            → GivesFedTrace piece bytes raw input.now result self.new }
+        ensures used { (from ≤ result.used) × (result.used ≤ length input.now) }
+        ensures progress { 0 < left → from < length input.now → from < result.used }
+    {
+        let run = &input[from..];
+        if (run.len() as u64) < left {
+            self.state = TraceState::Raw(side, left - run.len() as u64);
+            if run.is_empty() {
+                return FedTrace {
+                    used: input.len(),
+                    part: None,
+                };
+            }
+            return FedTrace {
+                used: input.len(),
+                part: Some(TracePart {
+                    piece: self.piece,
+                    side,
+                    bytes: run,
+                }),
+            };
+        }
+        let piece = self.piece;
+        self.state = TraceState::Marker;
+        self.piece = piece.saturating_add(1);
+        FedTrace {
+            used: from + left as usize,
+            part: Some(TracePart {
+                piece,
+                side,
+                bytes: &run[..left as usize],
+            }),
+        }
+    }
+
+    /// Whether the trace may end here: `Cut` inside a piece, or the fault that was met. Changes
+    /// nothing.
+    pub fn finish(&self) -> Result<(), TraceFault>
+        ensures ok { (piece : ℕ) (bytes raw : List ℕ) → StandsForPiece self.now piece bytes raw
+            → (IsOk result ↔ (bytes ≡ [])) }
+        ensures cut { (piece : ℕ) (bytes raw : List ℕ) → StandsForPiece self.now piece bytes raw
+            → IfErr result (λ fault. (fault.piece ≡ piece) × (fault.cause ≡ TraceCause.Cut)) }
+        ensures failed { (fault : _) → HasFailedAtPiece self.now fault → result ≡ Err fault }
+    {
+        let cause = match self.state {
+            TraceState::Marker => return Ok(()),
+            TraceState::Failed(cause) => cause,
+            _ => TraceCause::Cut,
+        };
+        Err(TraceFault {
+            piece: self.piece,
+            cause,
+        })
+    }
+}

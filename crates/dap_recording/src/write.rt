@@ -1,0 +1,67 @@
+ghost use Rattle.std.specs.Prelude.{◌≡◌, ◌+◌, ◌<◌, ◌≤◌, ◌⊎◌, ◌↔◌, ◌++◌, length, vec_len, vec_capacity, Err, IsOk, OnOk, OnErr, IfErr};
+ghost use Rattle.std.specs.Io.{StartsWith};
+ghost use Rattle.dap_frame.specs.Limits.{IsSound};
+ghost use Rattle.dap_recording.specs.Recording.{record_text};
+
+use crate::marker::marker_of;
+use dap_tree::Side;
+use dap_frame::{FrameFault, FrameLimits, write_frame};
+
+/// Appends the three parts of a record. On a failure some of them may stand.
+fn append_parts(
+    out: &mut Vec<u8>,
+    side: Side,
+    content: &[u8],
+    limits: FrameLimits,
+) -> Result<(), FrameFault>
+    requires sound { IsSound limits }
+    requires short { length content.now ≤ limits.content }
+    ensures ok { OnOk result (out.new.items ≡ out.old.items ++ record_text side content.now) }
+    ensures err { OnErr result (StartsWith out.new.items out.old.items) }
+    ensures only { IfErr result (λ fault. fault ≡ FrameFault.Memory) }
+    ensures room { vec_len out.old + length content.now + 32 ≤ vec_capacity out.old → IsOk result }
+{
+    if out.push(marker_of(side)).is_err() {
+        return Err(FrameFault::Memory);
+    }
+    write_frame(out, content, limits)?;
+    if out.push(b'\n').is_err() {
+        return Err(FrameFault::Memory);
+    }
+    Ok(())
+}
+
+/// Appends the record of a content: the side's marker, the frame that
+/// [`write_frame`](dap_frame::write_frame) writes, and LF.
+///
+/// Answers `ContentTooLong` exactly where the content is above its limit, and else `Memory` where a
+/// growth of `out` was refused. On both `out` holds the bytes that it held; its capacity may have
+/// grown. No memory is taken where the capacity leaves room for the content and 32 bytes.
+pub fn write_record(
+    out: &mut Vec<u8>,
+    side: Side,
+    content: &[u8],
+    limits: FrameLimits,
+) -> Result<(), FrameFault>
+    requires { IsSound limits }
+    ensures ok { OnOk result (out.new.items ≡ out.old.items ++ record_text side content.now) }
+    ensures err { OnErr result (out.new.items ≡ out.old.items) }
+
+    // ContentTooLong comes exactly there, and the only other error is Memory.
+    ensures too_long { result ≡ Err FrameFault.ContentTooLong ↔ (limits.content < length content.now) }
+    ensures only { IfErr result (λ fault.
+        (fault ≡ FrameFault.ContentTooLong) ⊎ (fault ≡ FrameFault.Memory)) }
+
+    ensures room { length content.now ≤ limits.content
+        → vec_len out.old + length content.now + 32 ≤ vec_capacity out.old → IsOk result }
+{
+    if limits.content < content.len() {
+        return Err(FrameFault::ContentTooLong);
+    }
+    let len = out.len();
+    if append_parts(out, side, content, limits).is_err() {
+        out.truncate(len);
+        return Err(FrameFault::Memory);
+    }
+    Ok(())
+}
