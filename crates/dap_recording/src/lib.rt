@@ -32,6 +32,7 @@ mod trace_reader;
 mod trace_state;
 mod write;
 
+pub use dap_tree::Side;
 pub use fed_record::FedRecord;
 pub use fed_trace::{FedTrace, TracePart};
 pub use record::Record;
@@ -39,7 +40,6 @@ pub use record_fault::{RecordCause, RecordFault};
 pub use record_reader::RecordReader;
 pub use recorder::Recorder;
 pub use recorder_fault::RecorderFault;
-pub use dap_tree::Side;
 pub use trace_fault::{TraceCause, TraceFault};
 pub use trace_reader::TraceReader;
 pub use write::write_record;

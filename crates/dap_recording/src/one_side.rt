@@ -5,9 +5,9 @@ ghost use Rattle.dap_frame.specs.Limits.{IsSound};
 ghost use Rattle.dap_frame.specs.Reading.{Stands, limits_of};
 ghost use Rattle.dap_recording.specs.OneSide.{Takes};
 
-use dap_tree::Side;
 use crate::write::write_record;
 use dap_frame::{FrameFault, FrameLimits, Framer};
+use dap_tree::Side;
 
 /// Reads to the end of one frame or of the piece, and appends the record of a frame that ended.
 /// Makes room for the record first, so that nothing is read where there is none.

@@ -1,5 +1,5 @@
-use dap_tree::Side;
 use dap_frame::Content;
+use dap_tree::Side;
 
 /// One message of a recording, as its bytes.
 #[derive(Debug, Drop)]

@@ -4,8 +4,8 @@ ghost use Rattle.dap_recording.specs.RecorderReading.{StandsForRests, HasFailedW
 
 use crate::one_side::record_frame;
 use crate::recorder_fault::RecorderFault;
-use dap_tree::Side;
 use dap_frame::{FrameFault, FrameLimits, Framer};
+use dap_tree::Side;
 use std::alloc::Global;
 use std::marker::Model;
 

@@ -1,5 +1,5 @@
-use dap_tree::Side;
 use dap_frame::FrameFault;
+use dap_tree::Side;
 use thiserror::Error;
 
 /// Why a recorder goes no further.

@@ -8,9 +8,9 @@ ghost use Rattle.dap_recording.specs.TraceReading.{StandsForPiece, HasFailedAtPi
 use crate::count::{Count, CountEnd, count_end};
 use crate::fed_trace::{FedTrace, TracePart};
 use crate::marker::side_of;
-use dap_tree::Side;
 use crate::trace_fault::{TraceCause, TraceFault};
 use crate::trace_state::TraceState;
+use dap_tree::Side;
 use std::marker::Model;
 
 /// Reads pieces from a trace, which may come in inputs that are cut anywhere, and lends their raw

@@ -1,6 +1,6 @@
 use crate::count::Count;
-use dap_tree::Side;
 use crate::trace_fault::TraceCause;
+use dap_tree::Side;
 
 /// What a reader of traces is at.
 #[derive(Clone, Copy)]

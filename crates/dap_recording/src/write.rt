@@ -4,8 +4,8 @@ ghost use Rattle.dap_frame.specs.Limits.{IsSound};
 ghost use Rattle.dap_recording.specs.Recording.{record_text};
 
 use crate::marker::marker_of;
-use dap_tree::Side;
 use dap_frame::{FrameFault, FrameLimits, write_frame};
+use dap_tree::Side;
 
 /// Appends the three parts of a record. On a failure some of them may stand.
 fn append_parts(
