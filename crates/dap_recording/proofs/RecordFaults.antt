@@ -1,7 +1,7 @@
 -- Where a fault of a record is shown: within the bytes, also when more bytes come, and by no byte
 -- behind it; and never before bytes that were open.
-use Rattle.std.proofs.Common.{◌≡◌, ◌≢◌, ℕ, suc, ◌+◌, ◌<◌, ◌≤◌, inl, inr, List, [], ◌∷◌, ◌++◌, length, take, drop, refl, sym, ap, ◌∙◌, subst, arith}
-use Rattle.std.proofs.lemmas.List.{append_assoc, take_at, take-append-le, take-append-drop, length-append}
+use Rattle.std.proofs.Common.{◌≢◌, ℕ, ◌+◌, ◌<◌, ◌≤◌, inl, inr, List, [], ◌∷◌, ◌++◌, length, drop, sym, ap, ◌∙◌, subst, arith}
+use Rattle.std.proofs.lemmas.List.{append_assoc, length-append}
 use Rattle.std.proofs.lemmas.Bool.{cases_lt}
 use Rattle.dap_frame.specs.declared.limits.FrameLimits.{FrameLimits}
 use Rattle.dap_frame.specs.declared.fault.FrameFault.{FrameFault}
@@ -10,7 +10,7 @@ use Rattle.dap_frame.specs.Frame.{Shows}
 use Rattle.dap_frame.proofs.Faults as frames
 use Rattle.dap_recording.specs.declared.record_fault.RecordCause.{RecordCause}
 use Rattle.dap_recording.specs.declared.record_fault.RecordCause.TheVariants.{Frame}
-use Rattle.dap_recording.specs.Marker.{marker, IsNoMarker}
+use Rattle.dap_recording.specs.Marker.{marker}
 use Rattle.dap_recording.specs.Recording.{ShowsFault, at_marker, in_frame, at_line_end, IsOpenRecord}
 use Rattle.dap_recording.proofs.Fronts.{heads, begins_so}
 use Rattle.dap_recording.proofs.RecordUnique.{open_not_faulty}

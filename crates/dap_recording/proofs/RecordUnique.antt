@@ -8,7 +8,7 @@ use Rattle.dap_frame.proofs.Unique as frames
 use Rattle.dap_tree.specs.declared.side.Side.{Side}
 use Rattle.dap_tree.specs.declared.side.Side.TheVariants.{Client, Adapter}
 use Rattle.dap_recording.specs.declared.record_fault.RecordCause.{RecordCause}
-use Rattle.dap_recording.specs.declared.record_fault.RecordCause.TheVariants.{BadMarker, Frame, NoLineEnd}
+use Rattle.dap_recording.specs.declared.record_fault.RecordCause.TheVariants.{Frame}
 use Rattle.dap_recording.proofs.Fronts.{heads, not_empty}
 use Rattle.dap_recording.specs.Marker.{marker, IsNoMarker}
 use Rattle.dap_recording.specs.Recording.{IsRecord, ShowsFault, at_marker, in_frame, at_line_end, IsOpenRecord, before_marker, before_frame_end, before_line_end}

@@ -1,6 +1,6 @@
 -- Calls of a recorder over the pieces of a trace record its frames in the order of the bytes that end
 -- them.
-use Rattle.std.proofs.Common.{◌≡◌, ℕ, ◌+◌, ◌≤◌, ◌⊎◌, inl, inr, Bool, true, false, List, [], ◌∷◌, ◌++◌, length, take, drop, map, Result, Ok, Err, refl, sym, ap, ◌∙◌, subst, arith}
+use Rattle.std.proofs.Common.{◌≡◌, ℕ, ◌≤◌, ◌⊎◌, inl, inr, false, List, [], ◌∷◌, ◌++◌, length, take, drop, map, refl, sym, ap, ◌∙◌, subst, arith}
 use Rattle.std.specs.List.{filter}
 use Rattle.std.proofs.lemmas.List.{append_assoc, append-nil, map-append, take_all, take-append-drop, length-append}
 use Rattle.std.proofs.lemmas.List.Elements.{filter-append}
@@ -8,7 +8,7 @@ use Rattle.std.proofs.lemmas.List.Concat.{flat_map-append}
 use Rattle.dap_frame.specs.declared.limits.FrameLimits.{FrameLimits}
 use Rattle.dap_frame.specs.declared.fault.FrameFault.{FrameFault}
 use Rattle.dap_frame.specs.Frame.{IsFrame, HasFrame, Stream, IsOpen}
-use Rattle.dap_frame.specs.Reading.{Stands, limits_of}
+use Rattle.dap_frame.specs.Reading.{limits_of}
 use Rattle.dap_frame.proofs.Unique.{one_frame, no_empty_frame}
 use Rattle.dap_frame.proofs.Streams.{frames_push, open_has_no_frame}
 use Rattle.dap_tree.specs.declared.side.Side.{Side}
@@ -17,7 +17,7 @@ use Rattle.dap_recording.specs.declared.recorder_fault.RecorderFault.TheVariants
 use Rattle.dap_recording.specs.Recording.{record_text, recording_text}
 use Rattle.dap_recording.specs.RecorderReading.{RecorderReading, StandsForRests, GoesOn, HasRecorded, framer_of, with_rest, text_of, recorder_limits}
 use Rattle.dap_recording.specs.Recorded.{is_side, of_side, bytes_of, HaveEnded, AreRecorded, RecordedSoFar}
-use Rattle.dap_recording.specs.Feeding.{IsPieceCall, Records, begun, next_piece, took, refused}
+use Rattle.dap_recording.specs.Feeding.{Records, begun, next_piece, took, refused}
 
 -- bytes of one side
 abbrev sent_by : Side → List ℕ → List (Side × ℕ)

@@ -1,5 +1,5 @@
 -- What a recorder stands for once it has taken a piece.
-use Rattle.std.proofs.Common.{◌≡◌, ◌≢◌, ℕ, ◌+◌, ◌<◌, ◌≤◌, ◌⊎◌, inl, inr, true, false, List, [], ◌++◌, length, take, Option, Some, None, Result, Ok, Err, refl, sym, ap, ◌∙◌, subst, arith}
+use Rattle.std.proofs.Common.{◌≡◌, ◌≢◌, ℕ, ◌+◌, ◌≤◌, inl, inr, true, false, List, [], ◌++◌, length, take, Option, Some, None, Result, Ok, Err, refl, sym, ap, ◌∙◌, subst, arith}
 use Rattle.std.specs.Result.{is_err, IsOk, IfOk, OnOk}
 use Rattle.std.proofs.lemmas.List.{length-append, length-drop, length-take-le}
 use Rattle.dap_frame.specs.declared.limits.FrameLimits.{FrameLimits}
@@ -13,9 +13,8 @@ use Rattle.dap_tree.specs.declared.side.Side.{Side}
 use Rattle.dap_tree.specs.declared.side.Side.TheVariants.{Client, Adapter}
 use Rattle.dap_recording.specs.declared.recorder_fault.RecorderFault.{RecorderFault}
 use Rattle.dap_recording.specs.declared.recorder_fault.RecorderFault.TheVariants.{Frame}
-use Rattle.dap_recording.specs.Recording.{record_text}
-use Rattle.dap_recording.specs.OneSide.{Takes, TakesAll, TakesFrame, TakesFault}
-use Rattle.dap_recording.specs.RecorderReading.{RecorderReading, StandsForRests, GoesOn, HasRecorded, HasNotRecorded, GivesPiece, framer_of, with_rest, text_of}
+use Rattle.dap_recording.specs.OneSide.{Takes, TakesAll, TakesFault}
+use Rattle.dap_recording.specs.RecorderReading.{RecorderReading, StandsForRests, HasNotRecorded, GivesPiece, framer_of, with_rest, text_of}
 use Rattle.dap_recording.specs.Recorder.{IsConsistent}
 use Rattle.dap_recording.proofs.FramerSteps.{fed_all}
 

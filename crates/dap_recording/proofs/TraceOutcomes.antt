@@ -1,5 +1,5 @@
 -- Where a fault of a trace is shown; and bytes begin with a piece, or show a fault, or are open.
-use Rattle.std.proofs.Common.{◌≡◌, ◌≢◌, ℕ, suc, ◌+◌, ◌<◌, ◌≤◌, ◌⊎◌, inl, inr, Bool, true, false, List, [], ◌∷◌, ◌++◌, length, take, drop, get_or, refl, sym, ap, ◌∙◌, subst, arith}
+use Rattle.std.proofs.Common.{◌≡◌, ◌≢◌, ℕ, ◌+◌, ◌<◌, ◌≤◌, ◌⊎◌, inl, inr, Bool, true, false, List, [], ◌∷◌, ◌++◌, length, take, drop, get_or, refl, sym, ap, ◌∙◌, subst, arith}
 use Rattle.std.proofs.lemmas.List.{append-nil, append_assoc, take-append-drop, length-append, length-take-le}
 use Rattle.std.proofs.lemmas.Bool.{cases_lt, false≢true}
 use Rattle.std.proofs.lemmas.Bool.Decides.{eqb_tells}
@@ -9,8 +9,8 @@ use Rattle.dap_frame.specs.Lines.{number_of}
 use Rattle.dap_tree.specs.declared.side.Side.{Side}
 use Rattle.dap_recording.specs.declared.trace_fault.TraceCause.{TraceCause}
 use Rattle.dap_recording.specs.declared.trace_fault.TraceCause.TheVariants.{BadMarker, BadCount}
-use Rattle.dap_recording.specs.Marker.{marker, IsNoMarker}
-use Rattle.dap_recording.specs.Trace.{IsCount, IsPiece, HasPiece, ShowsTraceFault, at_marker, at_count, IsOpenPiece, before_marker, in_count, in_raw}
+use Rattle.dap_recording.specs.Marker.{marker}
+use Rattle.dap_recording.specs.Trace.{IsCount, HasPiece, ShowsTraceFault, at_marker, at_count, IsOpenPiece, before_marker, in_count, in_raw}
 use Rattle.dap_recording.proofs.Fronts.{heads, begins_so}
 use Rattle.dap_recording.proofs.RecordOutcomes.{some_marker}
 use Rattle.dap_recording.proofs.TraceUnique.{open_not_faulty}

@@ -1,5 +1,5 @@
 -- Bytes begin with one piece, or show one fault, or are open.
-use Rattle.std.proofs.Common.{◌≡◌, ◌≢◌, ℕ, ◌+◌, ◌⊎◌, inl, inr, Bool, true, false, ◌&&◌, List, [], ◌∷◌, ◌++◌, length, take, get_or, refl, sym, ap, ◌∙◌, subst, arith}
+use Rattle.std.proofs.Common.{◌≡◌, ℕ, ◌+◌, ◌⊎◌, inl, inr, Bool, true, false, ◌&&◌, List, [], ◌∷◌, ◌++◌, length, take, get_or, refl, sym, ap, ◌∙◌, subst, arith}
 use Rattle.std.proofs.lemmas.List.{append_assoc, length-append, take_at}
 use Rattle.std.proofs.lemmas.List.Folds.{list_all-append}
 use Rattle.std.specs.List.{list_all}
@@ -7,8 +7,7 @@ use Rattle.std.specs.Char.{is_ascii_digit}
 use Rattle.dap_frame.specs.Lines.{number_of}
 use Rattle.dap_tree.specs.declared.side.Side.{Side}
 use Rattle.dap_recording.specs.declared.trace_fault.TraceCause.{TraceCause}
-use Rattle.dap_recording.specs.declared.trace_fault.TraceCause.TheVariants.{BadMarker, BadCount}
-use Rattle.dap_recording.specs.Marker.{marker, IsNoMarker}
+use Rattle.dap_recording.specs.Marker.{marker}
 use Rattle.dap_recording.specs.Trace.{IsCount, IsPiece, ShowsTraceFault, at_marker, at_count, IsOpenPiece, before_marker, in_count, in_raw}
 use Rattle.dap_recording.proofs.Fronts.{heads, not_empty}
 use Rattle.dap_recording.proofs.RecordUnique.{fault_at_marker, marker_one}

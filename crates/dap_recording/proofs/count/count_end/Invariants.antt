@@ -1,4 +1,4 @@
-use Rattle.std.proofs.Common.{◌≡◌, ◌-◌, ◌≤◌, List, ℕ, ◌++◌, take, length}
+use Rattle.std.proofs.Common.{◌-◌, ◌≤◌, List, ℕ, ◌++◌, take, length}
 use Rattle.dap_recording.specs.Count.{IsCountOf}
 use Rattle.dap_recording.proofs.count.count_end.Given as goal
 

@@ -1,5 +1,4 @@
-use Rattle.std.proofs.Common.{◌≡◌, ◌≢◌, ℕ, ◌+◌, ◌-◌, ◌<◌, ◌≤◌, inl, inr, true, false, List, ◌++◌, length, take, Ok, Err, vec_len, vec_capacity, refl, sym, ap, ◌∙◌, subst, arith}
-use Rattle.std.specs.Result.{is_err}
+use Rattle.std.proofs.Common.{◌≡◌, ◌+◌, ◌≤◌, inl, inr, ◌++◌, length, take, Err, vec_len, vec_capacity, sym, ap, ◌∙◌, subst, arith}
 use Rattle.dap_frame.specs.declared.fault.FrameFault.{FrameFault}
 use Rattle.dap_frame.specs.Frame.{IsFrame}
 use Rattle.dap_frame.specs.Reading.{limits_of}

@@ -1,10 +1,10 @@
-use Rattle.std.proofs.Common.{◌≡◌, ℕ, [], ◌++◌, ◌∷◌, take, refl, sym, ap, ◌∙◌, subst, arith}
+use Rattle.std.proofs.Common.{◌≡◌, [], sym, ap, ◌∙◌, subst}
 use Rattle.std.proofs.lemmas.List.{append-nil}
 use Rattle.dap_frame.specs.Frame.{IsFrame}
 use Rattle.dap_frame.specs.Reading.{Stands, limits_of}
 use Rattle.dap_recording.specs.declared.record_state.RecordState.TheVariants.{LineEnd, Frame}
 use Rattle.dap_recording.specs.RecordReading.{RecordReading}
-use Rattle.dap_recording.specs.RecordReading.{GivesRecord, record_limits}
+use Rattle.dap_recording.specs.RecordReading.{GivesRecord}
 use Rattle.dap_recording.proofs.RecordSteps.{at_state}
 use Rattle.dap_recording.proofs.record_reader.RecordReader.feed.Goals as goal
 

@@ -1,7 +1,7 @@
-use Rattle.std.proofs.Common.{◌≡◌, ℕ, ◌+◌, [], ◌∷◌, ◌++◌, Err, take, drop, refl, sym, ap, ◌∙◌, subst, arith}
+use Rattle.std.proofs.Common.{◌≡◌, ◌∷◌, ◌++◌, Err, take, drop, refl, sym, ap, ◌∙◌, subst, arith}
 use Rattle.std.proofs.lemmas.List.{take_rest}
 use Rattle.dap_frame.specs.Frame.{IsFrame}
-use Rattle.dap_frame.specs.Reading.{Stands, GivesFed, GivesFault, limits_of}
+use Rattle.dap_frame.specs.Reading.{Stands, GivesFault, limits_of}
 use Rattle.dap_recording.specs.Marker.{marker}
 use Rattle.dap_recording.specs.RecordReading.{RecordReading}
 use Rattle.dap_recording.specs.RecordReading.{StandsFor, GivesRecord, record_limits}

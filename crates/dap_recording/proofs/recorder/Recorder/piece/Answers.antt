@@ -1,9 +1,9 @@
-use Rattle.std.proofs.Common.{◌≡◌, ◌≢◌, ℕ, ◌⊎◌, inl, inr, List, Ok, Err, refl, sym, ap, ◌∙◌, subst}
+use Rattle.std.proofs.Common.{◌≡◌, inl, inr, Ok, refl, sym, ap, ◌∙◌, subst}
 use Rattle.dap_tree.specs.declared.side.Side.TheVariants.{Client, Adapter}
 use Rattle.dap_recording.specs.declared.recorder_fault.RecorderFault.TheVariants.{Frame}
-use Rattle.dap_recording.specs.RecorderReading.{RecorderReading, StandsForRests, GivesPiece, HasNotRecorded, text_of}
+use Rattle.dap_recording.specs.RecorderReading.{StandsForRests, GivesPiece, HasNotRecorded, text_of}
 use Rattle.dap_recording.specs.Recorder.{reading, IsConsistent}
-use Rattle.dap_recording.proofs.RecorderSteps.{Took, took_by, failed_with, gives_used, gives_fault, used_consistent, failed_consistent, text_kept, unchanged}
+use Rattle.dap_recording.proofs.RecorderSteps.{Took, took_by, failed_with, gives_used, gives_fault, used_consistent, text_kept, unchanged}
 use Rattle.dap_recording.proofs.recorder.Recorder.piece.Goals.{in-Client, in-Adapter}
 use Rattle.dap_recording.proofs.recorder.Recorder.piece.Goals as goal
 

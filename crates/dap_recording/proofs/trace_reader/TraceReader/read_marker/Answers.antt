@@ -1,4 +1,4 @@
-use Rattle.std.proofs.Common.{◌≡◌, ℕ, ◌<◌, length, refl, sym, ap, ◌∙◌, subst, arith}
+use Rattle.std.proofs.Common.{◌≡◌, ◌<◌, length, refl, ap, ◌∙◌, arith}
 use Rattle.dap_recording.specs.declared.trace_state.TraceState.TheVariants.{Marker}
 use Rattle.dap_recording.specs.TraceReading.{TraceReading}
 use Rattle.dap_recording.proofs.TraceSteps.{at_trace_state, bad_piece_marker}
