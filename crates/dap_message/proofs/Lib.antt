@@ -1,0 +1,16 @@
+pub mod Elements
+pub mod Edits
+pub mod Marking
+pub mod Keeps
+pub mod Envelopes
+pub mod Renumbered
+pub mod Refilled
+pub mod BodyRows
+pub mod FilledFits
+pub mod Pending
+pub mod Apart
+pub mod Shapes
+pub mod TypedAgain
+pub mod Names
+pub mod Unique
+pub mod Contents

@@ -1,0 +1,9 @@
+use Rattle.dap_message.proofs.Marking.{mark_is_marked}
+use Rattle.dap_message.proofs.Unique.{one_marked}
+use Rattle.dap_message.proofs.laws.one_marking.Goals as goal
+
+pub returns-clause-marked : goal.returns-clause-marked
+returns-clause-marked c = mark_is_marked
+
+pub returns-clause-one : goal.returns-clause-one
+returns-clause-one c = one_marked

@@ -1,0 +1,27 @@
+use Rattle.dap_tree.specs.View.{view}
+use Rattle.std.proofs.Common.{rules, ◌∙◌, ap, sym, subst}
+use Rattle.dap_message.specs.Capabilities.{filled}
+use Rattle.dap_message.specs.Faults.{Fits}
+use Rattle.dap_message.specs.Marks.{mark, IsMarked}
+use Rattle.dap_message.specs.Profile.{profile}
+use Rattle.dap_message.proofs.Keeps.{sound-message, proper-message}
+use Rattle.dap_message.proofs.Envelopes.{enveloped-message}
+use Rattle.dap_message.proofs.Marking.{mark_is_marked}
+use Rattle.dap_message.proofs.typing.typed.Goals as goal
+
+pub new-requires-clause-sound : goal.new-requires-clause-sound
+new-requires-clause-sound c = rw (c.mark.ensures, c.in_ok-fill.ensures) (sound-message c.args.side (view c.args.tree) c.requires)
+
+pub new-requires-clause-proper : goal.new-requires-clause-proper
+new-requires-clause-proper c = rw (c.mark.ensures, c.in_ok-fill.ensures) (proper-message c.args.side (view c.args.tree) c.requires)
+
+pub new-requires-clause-enveloped : goal.new-requires-clause-enveloped
+new-requires-clause-enveloped c =
+    let fits : Fits (view c.args.tree) = search rules in
+    rw (c.mark.ensures, c.in_ok-fill.ensures) (enveloped-message c.args.side (view c.args.tree) fits)
+
+pub returns-clause-ids : goal.returns-clause-ids
+returns-clause-ids c =
+    let side = c.args.side in
+    let d = view c.args.tree in
+    subst (IsMarked profile side (filled side d)) (sym (c.new.ensures.doc ∙ c.mark.ensures ∙ ap (mark side) c.in_ok-fill.ensures)) (mark_is_marked side (filled side d))

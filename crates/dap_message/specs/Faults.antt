@@ -1,0 +1,25 @@
+-- What is wrong with a message, and the messages with which nothing is.
+use Rattle.dap_tree.specs.Doc.{Doc}
+use Rattle.std.specs.Prelude.{◌≡◌, Bool, cond, ◌||◌, Option, Some, None}
+use Rattle.dap_message.specs.Places.{is_object}
+use Rattle.dap_message.specs.Profile.{profile}
+use Rattle.dap_message.specs.Rows.{is_of_kind, first_fault}
+use Rattle.dap_message.specs.declared.fault.MessageFault.{MessageFault}
+use Rattle.dap_message.specs.declared.fault.MessageFault.TheVariants.{NotObject, UnknownType}
+use Rattle.dap_message.specs.declared.profile.Kind.TheVariants.{Request, Response, Event}
+
+-- A message is a request, a response or an event (DAP specification, ProtocolMessage).
+abbrev pub has_kind : Doc → Bool
+has_kind d = is_of_kind Request d || is_of_kind Response d || is_of_kind Event d
+
+-- The fault of the least broken row of the profile.
+unfoldable pub row_broken : Doc → Option MessageFault
+row_broken d = first_fault profile d
+
+-- The first fault (own order): no object, an unknown type, the least broken row.
+abbrev pub fault : Doc → Option MessageFault
+fault d = cond (is_object d) (cond (has_kind d) (row_broken d) (Some UnknownType)) (Some NotObject)
+
+-- The document is that of a message which breaks no row.
+abbrev pub Fits : Doc → Type 0
+Fits d = fault d ≡ None

@@ -1,0 +1,100 @@
+-- The laws that the functions of `laws` state.
+use Rattle.dap_tree.specs.Doc.{Doc, is_plain, is_sound, is_ordered, all_utf8}
+use Rattle.dap_tree.specs.Ids.{ids, with_ids, skeleton, without_ids}
+use Rattle.dap_tree.specs.Json.{text_of}
+use Rattle.dap_tree.specs.declared.side.Side.{Side}
+use Rattle.dap_tree.specs.declared.sort.Sort.TheVariants.{Reference}
+use Rattle.std.specs.Prelude.{◌≡◌, ◌⊎◌, ℕ, ℤ, pos, List, Contains, true, length}
+use Rattle.dap_message.specs.Capabilities.{filled}
+use Rattle.dap_message.specs.Envelope.{kind_of, name_of, success_of, has_envelope}
+use Rattle.dap_message.specs.Faults.{Fits}
+use Rattle.dap_message.specs.Marks.{IsMarked, mark}
+use Rattle.dap_message.specs.Message.{IsTyped, IsTypedAs, IsTypedContent, Refusal, HasRefusal, side_of}
+use Rattle.dap_message.specs.Numbers.{has_small_ids, renumbered}
+use Rattle.dap_message.specs.Profile.{profile}
+use Rattle.dap_message.specs.declared.message.Message.{Message}
+
+-- ---- one outcome of a content
+
+-- A content is one message at most.
+abbrev pub OneMessage : Type 0
+OneMessage = (side : Side) (bytes : List ℕ) (m n : Doc) → IsTypedContent side bytes m → IsTypedContent side bytes n → m ≡ n
+
+-- A content is refused for one reason at most.
+abbrev pub OneRefusal : Type 0
+OneRefusal = (bytes : List ℕ) (e f : Refusal) → HasRefusal bytes e → HasRefusal bytes f → e ≡ f
+
+-- No message is refused.
+abbrev pub TypedNotRefused : Type 0
+TypedNotRefused = (side : Side) (bytes : List ℕ) (m : Doc) (e : Refusal) → IsTypedContent side bytes m → HasRefusal bytes e → ⊥
+
+-- Every content is a message or is refused.
+abbrev pub SomeMessage : Type 0
+SomeMessage = (side : Side) (bytes : List ℕ) → ((m : Doc) × IsTypedContent side bytes m) ⊎ ((e : Refusal) × HasRefusal bytes e)
+
+-- ---- what every message keeps
+
+-- A message is of the side that it was typed on.
+abbrev pub TypedSide : Type 0
+TypedSide = (side : Side) (d : Doc) (m : Message) → IsTypedAs side d m → side_of m ≡ side
+
+-- No id is a variables reference of 0.
+abbrev pub TypedProper : Type 0
+TypedProper = (side : Side) (d m : Doc) → is_plain d ≡ true → IsTyped side d m → Contains (ids m) (Reference, pos 0) → ⊥
+
+-- The document of a message is sound, and has the members of its kind.
+abbrev pub TypedSound : Type 0
+TypedSound = (side : Side) (d m : Doc) → is_plain d ≡ true → IsTyped side d m → is_sound m ≡ true
+
+abbrev pub TypedEnveloped : Type 0
+TypedEnveloped = (side : Side) (d m : Doc) → IsTyped side d m → has_envelope m ≡ true
+
+-- Its members stand in order, and its texts are UTF-8, where those of the document do and are.
+abbrev pub TypedOrdered : Type 0
+TypedOrdered = (side : Side) (d m : Doc) → is_ordered d ≡ true → IsTyped side d m → is_ordered m ≡ true
+
+abbrev pub TypedUtf8 : Type 0
+TypedUtf8 = (side : Side) (d m : Doc) → all_utf8 d ≡ true → IsTyped side d m → all_utf8 m ≡ true
+
+-- ---- typed again
+
+-- A document that differs from a message at the numbers of its ids alone, each from 1 to 2,147,483,647, is typed as itself with its ids as numbers.
+abbrev pub TypedAgain : Type 0
+TypedAgain = (side : Side) (d m n : Doc) → is_plain d ≡ true → IsTyped side d m → skeleton n ≡ skeleton m → has_small_ids n ≡ true → IsTyped side (without_ids n) n
+
+-- Its text is the content of that very message.
+abbrev pub ContentTypedAgain : Type 0
+ContentTypedAgain = (side : Side) (d m n : Doc) → is_plain d ≡ true → is_ordered d ≡ true → all_utf8 d ≡ true → IsTyped side d m → skeleton n ≡ skeleton m → has_small_ids n ≡ true
+    → IsTypedContent side (text_of n) n
+
+-- A message with its own ids, whatever their numbers, is typed as itself too.
+abbrev pub OwnContentTypedAgain : Type 0
+OwnContentTypedAgain = (side : Side) (d m : Doc) → is_plain d ≡ true → IsTyped side d m → IsTyped side (without_ids m) m
+
+-- ---- what other numbers keep
+
+-- The skeleton tells a message's kind, its name and its success.
+abbrev pub SkeletonTells : Type 0
+SkeletonTells = (m n : Doc) → skeleton n ≡ skeleton m → (kind_of n ≡ kind_of m) × (name_of n ≡ name_of m) × (success_of n ≡ success_of m)
+
+-- The i-th id gets the i-th number.
+abbrev pub Renumbers : Type 0
+Renumbers = (d : Doc) (ns : List ℤ) → length ns ≡ length (ids d) → ids (with_ids d ns) ≡ renumbered d ns
+
+-- ---- marks and capabilities
+
+-- The ids are those that the rows tell, path by path.
+abbrev pub MarkedByPath : Type 0
+MarkedByPath = (side : Side) (d : Doc) → IsMarked profile side d (mark side d)
+
+-- No other document has just those ids.
+abbrev pub OneMarked : Type 0
+OneMarked = (side : Side) (d e : Doc) → is_ordered d ≡ true → IsMarked profile side d e → e ≡ mark side d
+
+-- Capabilities that are filled in break no row.
+abbrev pub FilledFits : Type 0
+FilledFits = (side : Side) (d : Doc) → Fits d → Fits (filled side d)
+
+-- They are filled in once.
+abbrev pub FilledOnce : Type 0
+FilledOnce = (side : Side) (d : Doc) → filled side (filled side d) ≡ filled side d

@@ -1,0 +1,11 @@
+pub mod Places
+pub mod Rows
+pub mod Profile
+pub mod Faults
+pub mod Steps
+pub mod Marks
+pub mod Capabilities
+pub mod Envelope
+pub mod Numbers
+pub mod Message
+pub mod Laws

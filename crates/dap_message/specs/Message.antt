@@ -1,0 +1,85 @@
+-- What contracts see of a message: its side and its document, and what it is that a document is typed as one.
+use Rattle.dap_tree.specs.Doc.{Doc, is_plain}
+use Rattle.dap_tree.specs.Ids.{skeleton}
+use Rattle.dap_tree.specs.Json.{IsRead, HasNoReading, HasFraction}
+use Rattle.dap_tree.specs.View.{view}
+use Rattle.dap_tree.specs.declared.side.Side.{Side}
+use Rattle.dap_tree.specs.declared.sort.Sort.{Sort}
+use Rattle.std.specs.Prelude.{◌≡◌, ℕ, ℤ, List, Some, true}
+use Rattle.dap_message.specs.Capabilities.{filled}
+use Rattle.dap_message.specs.Faults.{fault, Fits}
+use Rattle.dap_message.specs.Marks.{IsMarked, mark}
+use Rattle.dap_message.specs.Numbers.{has_small_ids}
+use Rattle.dap_message.specs.Profile.{profile}
+use Rattle.dap_message.specs.declared.fault.MessageFault.{MessageFault}
+use Rattle.dap_message.specs.declared.fault.MessageFault.TheVariants.{NotObject, UnknownType, Missing, WrongType, Memory}
+use Rattle.dap_message.specs.declared.ids.IdList.{IdList}
+use Rattle.dap_message.specs.declared.message.Message.{Message}
+
+-- The side that sent a message.
+abbrev pub side_of : Message → Side
+side_of m = m.side
+
+-- The document that its tree stands for.
+abbrev pub doc_of : Message → Doc
+doc_of m = view m.tree
+
+-- A message as the crates above speak of it: the side that sent it, and its document.
+pub record Sent : Type 0 where
+  pub side : Side
+  pub doc : Doc
+
+abbrev pub sent : Message → Sent
+sent m = record { side = side_of m; doc = doc_of m }
+
+-- The ids that a list holds.
+abbrev pub list_of_ids : IdList → List (Sort × ℤ)
+list_of_ids l = l.ids.items
+
+-- The document of the message that d is on this side: d with its capabilities, and with its ids.
+abbrev pub message_of : Side → Doc → Doc
+message_of side d = mark side (filled side d)
+
+-- The document d is typed on this side as the document m.
+abbrev pub IsTyped : Side → Doc → Doc → Type 0
+IsTyped side d m = Fits d × (m ≡ message_of side d)
+
+-- The content is that of a message of this side with the document m.
+abbrev pub IsTypedContent : Side → List ℕ → Doc → Type 0
+IsTypedContent side bytes m = (d : Doc) × IsRead bytes d × IsTyped side d m
+
+-- The content is that of the message m, if m is typed from some document.
+abbrev pub IsTypedBack : Side → Doc → List ℕ → Type 0
+IsTypedBack side m bytes = (d : Doc) → is_plain d ≡ true → IsTyped side d m → IsTypedContent side bytes m
+
+-- The content is that of the message n, if n differs from a typed one at the numbers of its ids alone, each from 1 to 2,147,483,647.
+abbrev pub IsRenumberedBack : Side → Doc → List ℕ → Type 0
+IsRenumberedBack side n bytes = (d m : Doc) → is_plain d ≡ true → IsTyped side d m → skeleton n ≡ skeleton m → has_small_ids n ≡ true → IsTypedContent side bytes n
+
+-- Why a content is no message (own): it is no JSON, a number in it is not whole, or its document has a fault.
+pub data Refusal : Type 0 where
+  no_reading : Refusal
+  fraction : Refusal
+  faulty : MessageFault → Refusal
+
+-- The content is refused for that reason.
+abbrev pub HasRefusal : List ℕ → Refusal → Type 0
+HasRefusal bytes no_reading = HasNoReading bytes
+HasRefusal bytes fraction = HasFraction bytes
+HasRefusal bytes (faulty f) = (d : Doc) × IsRead bytes d × (fault d ≡ Some f)
+
+-- m is the message that d is on this side.
+abbrev pub IsTypedAs : Side → Doc → Message → Type 0
+IsTypedAs side d m = (side_of m ≡ side) × Fits d × (doc_of m ≡ message_of side d)
+
+-- m has d's tree with its capabilities, and the ids that the rows tell, path by path.
+abbrev pub HasIdsByPath : Side → Doc → Message → Type 0
+HasIdsByPath side d m = IsMarked profile side (filled side d) (doc_of m)
+
+-- The fault is d's first. Memory that was refused tells nothing.
+abbrev pub Refuses : Doc → MessageFault → Type 0
+Refuses d NotObject = fault d ≡ Some NotObject
+Refuses d UnknownType = fault d ≡ Some UnknownType
+Refuses d (Missing n) = fault d ≡ Some (Missing n)
+Refuses d (WrongType n) = fault d ≡ Some (WrongType n)
+Refuses d Memory = Unit {0}

@@ -1,0 +1,26 @@
+ghost use Rattle.std.specs.Prelude.{◌≡◌};
+
+use dap_tree::Sort;
+
+/// The ids of a message in the order of its canonical text, which is that of the members' names in bytes.
+#[derive(Drop)]
+pub struct IdList {
+    ids: Vec<(Sort, i64)>,
+}
+
+impl IdList {
+    ghost use Rattle.dap_message.specs.Message.{list_of_ids};
+
+    pub(crate) fn new(ids: Vec<(Sort, i64)>) -> IdList
+        ensures { list_of_ids result ≡ ids.items }
+    {
+        IdList { ids }
+    }
+
+    /// The sort and the number of each id. Takes no memory.
+    pub fn as_slice(&self) -> &[(Sort, i64)]
+        ensures { result.now ≡ list_of_ids self.now }
+    {
+        self.ids.as_slice()
+    }
+}

@@ -1,0 +1,49 @@
+//! Theorems on typed messages, which hold of all documents and contents. Each function does nothing: a call of it gives its clauses to a proof.
+ghost use Rattle.dap_message.specs.Laws.{OneMessage, OneRefusal, TypedNotRefused, SomeMessage, TypedSide, TypedProper, TypedSound, TypedEnveloped, TypedOrdered, TypedUtf8, TypedAgain, ContentTypedAgain, OwnContentTypedAgain, SkeletonTells, Renumbers, MarkedByPath, OneMarked, FilledFits, FilledOnce};
+
+/// A content is one message, or is refused for one reason.
+pub fn one_outcome()
+    ensures one_message { OneMessage }
+    ensures one_refusal { OneRefusal }
+    ensures not_both { TypedNotRefused }
+{}
+
+/// Every content is a message of a side, or no JSON, or JSON with a fraction, or has a fault of the profile.
+pub fn some_outcome()
+    ensures { SomeMessage }
+{}
+
+/// What every message keeps.
+pub fn typed_keeps()
+    ensures side { TypedSide }
+    ensures proper { TypedProper }
+    ensures sound { TypedSound }
+    ensures enveloped { TypedEnveloped }
+    ensures ordered { TypedOrdered }
+    ensures utf8 { TypedUtf8 }
+{}
+
+/// A message is read and typed again from its own content, also with other small numbers at its ids.
+pub fn typed_again()
+    ensures document { TypedAgain }
+    ensures content { ContentTypedAgain }
+    ensures own_numbers { OwnContentTypedAgain }
+{}
+
+/// What a message with other numbers at its ids shares with it, and which ids it has.
+pub fn renumbered_message()
+    ensures skeleton_tells { SkeletonTells }
+    ensures ids { Renumbers }
+{}
+
+/// There is just one document whose ids are those that the rows tell.
+pub fn one_marking()
+    ensures marked { MarkedByPath }
+    ensures one { OneMarked }
+{}
+
+/// Capabilities that are filled in break no row, and are filled in once.
+pub fn filled_once()
+    ensures fits { FilledFits }
+    ensures once { FilledOnce }
+{}

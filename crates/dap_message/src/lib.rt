@@ -1,0 +1,27 @@
+//! Typed messages of the Debug Adapter Protocol.
+//!
+//! [`typed`] turns a JSON tree into a [`Message`], or tells the first row of the [`PROFILE`] that the tree breaks. In a
+//! message the numbers that the protocol hands out (sequence numbers, frame ids, variables references) are marked as ids,
+//! and the capabilities that an adapter left out are false. `specs/` says what that means, and [`laws`] has the theorems.
+#![tactic(auto)]
+
+mod asked;
+mod broken;
+mod capabilities;
+mod fault;
+mod first_fault;
+mod ids;
+pub mod laws;
+mod marks;
+mod message;
+mod profile;
+#[cfg(test)]
+mod tests;
+mod typing;
+
+pub use dap_tree::Side;
+pub use fault::MessageFault;
+pub use ids::IdList;
+pub use message::Message;
+pub use profile::{Kind, PROFILE, Place, Row, Want};
+pub use typing::typed;

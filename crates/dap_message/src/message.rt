@@ -1,0 +1,212 @@
+ghost use Rattle.std.specs.Prelude.{◌≡◌, length, true, Some, is_some, option_map, IfOk, IfErr, string_bytes};
+ghost use Rattle.dap_tree.specs.Doc.{is_sound, get};
+ghost use Rattle.dap_tree.specs.Ids.{ids, with_ids, without_ids, skeleton};
+ghost use Rattle.dap_tree.specs.Json.{text_of, IsRead};
+ghost use Rattle.dap_tree.specs.View.{view};
+ghost use Rattle.dap_message.specs.Rows.{is_of_kind};
+ghost use Rattle.dap_message.specs.Envelope.{has_envelope, id_number, boolean_value, text_value, kind_of, seq_of, request_seq_of, success_of, name_of};
+ghost use Rattle.dap_message.specs.Numbers.{is_proper, are_proper, renumbered};
+ghost use Rattle.dap_message.specs.declared.fault.MessageFault.{MessageFault};
+ghost use Rattle.dap_message.specs.declared.profile.Kind.{Kind};
+
+use crate::asked::is_of_kind;
+use crate::fault::MessageFault;
+use crate::ids::IdList;
+use crate::profile::Kind;
+use dap_tree::{Side, Tree, write_tree};
+use std::alloc::Global;
+
+/// A message of the protocol: the side that sent it, and its tree with the ids marked.
+///
+/// Its tree is sound, none of its ids is a variables reference of 0, and it has the members that every message of its kind
+/// has. The laws in [`crate::laws`] say that it is typed again as itself, also with other small numbers at its ids.
+#[derive(Drop)]
+pub struct Message {
+    side: Side,
+    tree: Tree,
+    ghost sound: { is_sound (view tree) ≡ true },
+    ghost proper: { is_proper (view tree) ≡ true },
+    ghost enveloped: { has_envelope (view tree) ≡ true },
+}
+
+impl Message {
+    ghost use Rattle.dap_message.specs.Message.{side_of, doc_of, list_of_ids, IsTypedBack, IsRenumberedBack};
+
+    pub(crate) fn new(side: Side, tree: Tree) -> Message
+        requires sound { is_sound (view tree) ≡ true }
+        requires proper { is_proper (view tree) ≡ true }
+        requires enveloped { has_envelope (view tree) ≡ true }
+        ensures side { side_of result ≡ side }
+        ensures doc { doc_of result ≡ view tree }
+    {
+        Message { side, tree }
+    }
+
+    /// The side that sent it.
+    pub fn side(&self) -> Side
+        ensures { result ≡ side_of self.now }
+    {
+        self.side
+    }
+
+    /// What sort of message it is.
+    pub fn kind(&self) -> Kind
+        ensures same { result ≡ kind_of (doc_of self.now) }
+        ensures told { is_of_kind result (doc_of self.now) ≡ true }
+    {
+        if is_of_kind(&self.tree, Kind::Request) {
+            Kind::Request
+        } else if is_of_kind(&self.tree, Kind::Response) {
+            Kind::Response
+        } else {
+            Kind::Event
+        }
+    }
+
+    /// The command of a request or response, the name of an event.
+    pub fn name(&self) -> &str
+        ensures { name_of (doc_of self.now) ≡ Some result.now }
+    {
+        let name = match self.kind() {
+            Kind::Request | Kind::Response => text_at(&self.tree, "command"),
+            Kind::Event => text_at(&self.tree, "event"),
+        };
+        match name {
+            Some(name) => name,
+            None => unreachable!(),
+        }
+    }
+
+    /// The sequence number of the message itself.
+    pub fn seq(&self) -> i64
+        ensures { seq_of (doc_of self.now) ≡ Some result }
+    {
+        match number_at(&self.tree, "seq") {
+            Some(number) => number,
+            None => unreachable!(),
+        }
+    }
+
+    /// The sequence number of the request that a response answers; `None` if the message is no response.
+    pub fn request_seq(&self) -> Option<i64>
+        ensures same { result ≡ request_seq_of (doc_of self.now) }
+        ensures of_responses { is_some result ≡ is_of_kind Kind.Response (doc_of self.now) }
+    {
+        if is_of_kind(&self.tree, Kind::Response) {
+            number_at(&self.tree, "request_seq")
+        } else {
+            None
+        }
+    }
+
+    /// Whether a response tells success; `None` if the message is no response.
+    pub fn success(&self) -> Option<bool>
+        ensures same { result ≡ success_of (doc_of self.now) }
+        ensures of_responses { is_some result ≡ is_of_kind Kind.Response (doc_of self.now) }
+    {
+        if is_of_kind(&self.tree, Kind::Response) {
+            boolean_at(&self.tree, "success")
+        } else {
+            None
+        }
+    }
+
+    /// The whole message, with its ids marked.
+    pub fn tree(&self) -> &Tree
+        ensures { view result.now ≡ doc_of self.now }
+    {
+        let Message { tree, .. } = self;
+        tree
+    }
+
+    /// The canonical content: JSON without spaces, the members in the byte order of their names, an id as its number.
+    ///
+    /// The only fault is `Memory`, here and in `copy` and `ids`.
+    pub fn content(&self, alloc: Global) -> Result<String, MessageFault>
+        ensures text { IfOk result (λ s. string_bytes s ≡ text_of (doc_of self.now)) }
+        ensures reads_back { IfOk result
+            (λ s. IsRead (string_bytes s) (without_ids (doc_of self.now))) }
+
+        // The text, read and typed again, is this very message: as it was typed, or with other small numbers at its ids.
+        ensures typed_again { IfOk result
+            (λ s. IsTypedBack (side_of self.now) (doc_of self.now) (string_bytes s)) }
+        ensures renumbered_again { IfOk result
+            (λ s. IsRenumberedBack (side_of self.now) (doc_of self.now) (string_bytes s)) }
+        ensures memory { IfErr result (λ f. f ≡ MessageFault.Memory) }
+    {
+        match write_tree(alloc, &self.tree) {
+            Ok(text) => Ok(text),
+            Err(_) => Err(MessageFault::Memory),
+        }
+    }
+
+    /// An equal message.
+    pub fn copy(&self, alloc: Global) -> Result<Message, MessageFault>
+        ensures side { IfOk result (λ m. side_of m ≡ side_of self.now) }
+        ensures doc { IfOk result (λ m. doc_of m ≡ doc_of self.now) }
+        ensures memory { IfErr result (λ f. f ≡ MessageFault.Memory) }
+    {
+        let Message { side, tree } = self;
+        match tree.copy(alloc) {
+            Ok(tree) => Ok(Message::new(*side, tree)),
+            Err(_) => Err(MessageFault::Memory),
+        }
+    }
+
+    /// The ids in the order of the canonical content.
+    pub fn ids(&self, alloc: Global) -> Result<IdList, MessageFault>
+        ensures ok { IfOk result (λ l. list_of_ids l ≡ ids (doc_of self.now)) }
+        ensures memory { IfErr result (λ f. f ≡ MessageFault.Memory) }
+    {
+        let mut found = Vec::new(alloc);
+        match self.tree.add_ids(&mut found) {
+            Ok(()) => Ok(IdList::new(found)),
+            Err(_) => Err(MessageFault::Memory),
+        }
+    }
+
+    /// The message with the i-th number at the i-th id, in the order of `ids`. Takes no memory.
+    pub fn replace_ids(self, numbers: &[i64]) -> Message
+        requires count { length numbers.now ≡ length (ids (doc_of self)) }
+
+        // No variables reference becomes 0.
+        requires proper { are_proper (renumbered (doc_of self) numbers.now) ≡ true }
+        ensures side { side_of result ≡ side_of self }
+        ensures ids { ids (doc_of result) ≡ renumbered (doc_of self) numbers.now }
+
+        // All but the numbers is as it was.
+        ensures skeleton { skeleton (doc_of result) ≡ skeleton (doc_of self) }
+        ensures doc { doc_of result ≡ with_ids (doc_of self) numbers.now }
+    {
+        let Message { side, mut tree } = self;
+        tree.replace_ids(numbers);
+        Message::new(side, tree)
+    }
+}
+
+fn number_at(tree: &Tree, name: &str) -> Option<i64>
+    ensures { result ≡ id_number (get name.now (view tree.now)) }
+{
+    match tree.child(name) {
+        Some(Tree::Id(_, number)) => Some(*number),
+        _ => None,
+    }
+}
+
+fn boolean_at(tree: &Tree, name: &str) -> Option<bool>
+    ensures { result ≡ boolean_value (get name.now (view tree.now)) }
+{
+    match tree.child(name) {
+        Some(Tree::Bool(value)) => Some(*value),
+        _ => None,
+    }
+}
+
+fn text_at<'a>(tree: &'a Tree, name: &str) -> Option<&'a str>
+    ensures { option_map (λ s. s.now) result ≡ text_value (get name.now (view tree.now)) }
+{
+    match tree.child(name) {
+        Some(Tree::Text(text)) => Some(text.as_str()),
+        _ => None,
+    }
+}
