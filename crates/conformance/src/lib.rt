@@ -17,3 +17,5 @@ mod fault_lines;
 mod refused_growths;
 #[cfg(test)]
 mod refused_growths_of_messages;
+#[cfg(test)]
+mod typed_recordings;
