@@ -48,7 +48,10 @@ fn typing_is_refused_in_turn(rt: HostRuntime) -> Result<(), Fail> {
         ("[]", Err(MessageFault::NotObject)),
     ] {
         let wanted = message(alloc, text).and_then(|message| message.content(alloc));
-        assert_eq!(rt; wanted.as_ref().map(|content| content.len()).map_err(|fault| *fault), length);
+        match &wanted {
+            Ok(content) => assert_eq!(rt; Ok(content.len()), length),
+            Err(fault) => assert_eq!(rt; Err(*fault), length),
+        }
         for turn in 1..1000u16 {
             let Ok(tree) = read_tree(alloc, text.as_bytes()) else {
                 assert!(rt; false, "no tree");
@@ -58,7 +61,10 @@ fn typing_is_refused_in_turn(rt: HostRuntime) -> Result<(), Fail> {
             let answer = typed(alloc, Side::Adapter, tree);
             let is_refused = was_refused(alloc);
             match answer.and_then(|message| message.content(alloc)) {
-                Err(MessageFault::Memory) => assert!(rt; is_refused, "memory was there at turn {turn}"),
+                Err(MessageFault::Memory) => assert!(rt;
+                    is_refused,
+                    "memory was there at turn {turn}"
+                ),
                 answer => assert_eq!(rt; answer, wanted),
             }
             if !is_refused {

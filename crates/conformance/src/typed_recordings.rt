@@ -10,13 +10,17 @@ use std::alloc::Global;
 use std::fs;
 use std::test::Fail;
 
-/// The names of a recording and of the refusals that are wanted of it, where there are files.
+/// The file of a recording.
 const RECORDING: &str = "recording.rec";
+
+/// The file of the refusals that are wanted of it.
 const REFUSALS: &str = "refusals.txt";
 
 /// A request, a response with another type at a row, an event without a number, and a number that is not whole.
-const OWN_RECORDING: &[u8] = b">Content-Length: 46\r\n\r\n{\"command\":\"threads\",\"seq\":2,\"type\":\"request\"}\n<Content-Length: 99\r\n\r\n{\"body\":{\"threads\":7},\"command\":\"threads\",\"request_seq\":2,\"seq\":3,\"success\":true,\"type\":\"response\"}\n<Content-Length: 38\r\n\r\n{\"event\":\"initialized\",\"type\":\"event\"}\n<Content-Length: 3\r\n\r\n0.5\n";
+const OWN_RECORDING: &[u8] =
+    b">Content-Length: 46\r\n\r\n{\"command\":\"threads\",\"seq\":2,\"type\":\"request\"}\n<Content-Length: 99\r\n\r\n{\"body\":{\"threads\":7},\"command\":\"threads\",\"request_seq\":2,\"seq\":3,\"success\":true,\"type\":\"response\"}\n<Content-Length: 38\r\n\r\n{\"event\":\"initialized\",\"type\":\"event\"}\n<Content-Length: 3\r\n\r\n0.5\n";
 
+/// The refusals of its last three records.
 const OWN_REFUSALS: &str = "2: WrongType row 56\n3: Missing row 1\n4: Fraction\n";
 
 /// Why the record is no message.
