@@ -15,3 +15,7 @@ mod failing_devices;
 mod fault_lines;
 #[cfg(test)]
 mod refused_growths;
+#[cfg(test)]
+mod refused_growths_of_messages;
+#[cfg(test)]
+mod typed_recordings;

@@ -1,4 +1,5 @@
 pub mod Elements
+pub mod Choices
 pub mod Edits
 pub mod Marking
 pub mod Keeps

@@ -17,6 +17,7 @@ use Rattle.dap_message.specs.Profile.{profile}
 use Rattle.dap_message.specs.Rows.{ProfileRow, is_asked, is_text, is_true}
 use Rattle.dap_message.specs.Capabilities.{filled, with_capabilities, default_to, default_member, is_given, false_members, false_at, capabilities, tells_capabilities}
 use Rattle.dap_message.specs.Marks.{marked, is_id_of, mark_rows, mark_row, edit, sort_of, mark}
+use Rattle.dap_message.proofs.Choices.{itself, equal_at}
 use Rattle.dap_message.proofs.Edits.{by_bool}
 use Rattle.dap_message.proofs.Envelopes.{get-filled, given_other, apart}
 use Rattle.dap_message.proofs.Keeps.{q_change, q_default, q_false}
@@ -124,22 +125,14 @@ numbers-again side d h = without-mark profile side (filled side d) ∙ without_p
 
 -- ---- capabilities once filled in are given
 
-itself : (k : List ℕ) → is_eq (slice_cmp nat_cmp k k) ≡ true
-itself k = is_eq-slice_cmp k k ∙ (bytes_eq-Decides k k).1 refl
-
-picked : {X : Type 0} (o : Ordering) (a b : X) → is_eq o ≡ true → match_ordering o a b a ≡ b
-picked Less a b h = cc
-picked Equal a b h = refl
-picked Greater a b h = cc
-
 put_same : (o : Ordering) (k l : List ℕ) (d e : Doc) (ms rest : Members) → slice_cmp nat_cmp k l ≡ o → get_member k rest ≡ Some d
     → get_member k (match_ordering o (member k d (member l e ms)) (member l d ms) (member l e rest)) ≡ Some d
-put_same Less k l d e ms rest is later = picked (slice_cmp nat_cmp k k) (get_member k (member l e ms)) (Some d) (itself k)
+put_same Less k l d e ms rest is later = equal_at (slice_cmp nat_cmp k k) (get_member k (member l e ms)) (Some d) (itself k)
 put_same Equal k l d e ms rest is later = rw is refl
 put_same Greater k l d e ms rest is later = rw is later
 
 pub get_member-put : (k : List ℕ) (d : Doc) (ms : Members) → get_member k (put k d ms) ≡ Some d
-get_member-put k d no_members = picked (slice_cmp nat_cmp k k) None (Some d) (itself k)
+get_member-put k d no_members = equal_at (slice_cmp nat_cmp k k) None (Some d) (itself k)
 get_member-put k d (member l e ms) = put_same _ k l d e ms (put k d ms) refl (get_member-put k d ms)
 
 given-default : (k : List ℕ) (d : Doc) (ms : Members) → is_given (Some d) ≡ true → is_given (get_member k (default_member k d ms)) ≡ true

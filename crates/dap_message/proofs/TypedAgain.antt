@@ -34,7 +34,7 @@ use Rattle.dap_message.proofs.Edits.{by_bool}
 use Rattle.dap_message.proofs.Envelopes.{fault_free, fault_parts, rows_free, free_at}
 use Rattle.dap_message.proofs.Keeps.{sound-message}
 use Rattle.dap_message.proofs.Names.{ordered-message, utf8-message}
-use Rattle.dap_message.proofs.Pending.{edits, edits-again, SmallIds, small_left, small_right}
+use Rattle.dap_message.proofs.Pending.{edits, edits-again, small_number, SmallIds, small_left, small_right}
 use Rattle.dap_message.proofs.FilledFits.{fault-filled, rows_broken, faultless, body-filled}
 use Rattle.dap_message.proofs.Shapes.{KeepsShape, without_keeps, skeleton_keeps, found-shape, asked-shape, asked_without, SmallAt, AllSmall, small_found}
 
@@ -43,10 +43,6 @@ abbrev zeroed : Doc → Doc
 zeroed d = without_ids (skeleton d)
 
 -- ---- what the rows judge
-
-small_is_id : (z : ℤ) → is_small z ≡ true → is_id_number z ≡ true
-small_is_id (pos n) h = grind (arith, nat_tests)
-small_is_id (negsuc n) h = cc
 
 abbrev Well : Want → Bool → Option Doc → Type 0
 Well w b o = judged w b o ≡ None
@@ -105,7 +101,7 @@ well_small w b (Some (whole z)) small h = h
 well_small w b (Some (text s)) small h = h
 well_small w b (Some (list ds)) small h = list_alike w b _ _ ∙ h
 well_small w b (Some (object ms)) small h = object_alike w b _ _ ∙ h
-well_small w b (Some (id s z)) small h = numbers_alike w b z (pos 0) (small_is_id z (and_left (is_small z) true small)) h
+well_small w b (Some (id s z)) small h = numbers_alike w b z (pos 0) (small_number z (and_left (is_small z) true small)) h
 
 no_cause : (a b : Option Cause) → option_or a b ≡ None → (a ≡ None) × (b ≡ None)
 no_cause None b h = (refl, h)
