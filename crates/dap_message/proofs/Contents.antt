@@ -11,8 +11,6 @@ use Rattle.dap_tree.specs.declared.sort.Sort.TheVariants.{Reference}
 use Rattle.dap_tree.proofs.Outcomes.{read_once, one_outcome, some_outcome}
 use Rattle.dap_message.specs.Capabilities.{tells_capabilities}
 use Rattle.dap_message.specs.Message.{IsTypedBack, IsRenumberedBack}
-use Rattle.dap_message.proofs.Keeps.{fits-if}
-use Rattle.dap_message.proofs.Refilled.{plain-if}
 use Rattle.std.proofs.Common.{not}
 use Rattle.std.proofs.Common.{◌≡◌, ◌⊎◌, inl, inr, ℕ, zero, suc, ◌<◌, ℤ, pos, true, cond, List, [], ◌∷◌, length, get_or, Contains, Option, Some, None, option_map, codes, refl, sym, ◌∙◌, ap, ap₂, arith}
 use Rattle.std.specs.List.{list_all}
