@@ -13,8 +13,6 @@ use Rattle.dap_tree.proofs.Ordered.{read_is_ordered}
 use Rattle.dap_tree.proofs.Utf8.{read_is_utf8}
 use Rattle.dap_message.specs.Capabilities.{tells_capabilities}
 use Rattle.dap_message.specs.Message.{IsTypedBack, IsRenumberedBack}
-use Rattle.dap_message.proofs.Keeps.{fits-if}
-use Rattle.dap_message.proofs.Refilled.{plain-if}
 use Rattle.std.proofs.Common.{not}
 use Rattle.std.proofs.Common.{◌≡◌, ◌⊎◌, inl, inr, ℕ, zero, suc, ◌<◌, ℤ, pos, true, cond, List, [], ◌∷◌, length, get_or, Contains, Option, Some, None, option_map, codes, refl, sym, ◌∙◌, ap, ap₂, arith}
 use Rattle.std.specs.List.{list_all}

@@ -103,28 +103,20 @@ well_small w b (Some (list ds)) small h = list_alike w b _ _ ∙ h
 well_small w b (Some (object ms)) small h = object_alike w b _ _ ∙ h
 well_small w b (Some (id s z)) small h = numbers_alike w b z (pos 0) (small_number z (and_left (is_small z) true small)) h
 
-no_cause : (a b : Option Cause) → option_or a b ≡ None → (a ≡ None) × (b ≡ None)
-no_cause None b h = (refl, h)
-no_cause (Some c) b h = cc
-
-no_causes : (a b : Option Cause) → a ≡ None → b ≡ None → option_or a b ≡ None
-no_causes None b h g = g
-no_causes (Some c) b h g = cc
-
 abbrev Free : Want → Bool → List (Option Doc) → Type 0
 Free w b os = first_cause (map (judged w b) os) ≡ None
 
 free_zeroed : (w : Want) (b : Bool) (os : List (Option Doc)) → Free w b (map (option_map without_ids) os) → Free w b (map (option_map without_ids) (map (option_map skeleton) os))
 free_zeroed w b [] h = refl
 free_zeroed w b (o ∷ os) h =
-    let p = no_cause (judged w b (option_map without_ids o)) (first_cause (map (judged w b) (map (option_map without_ids) os))) h in
-    no_causes (judged w b (option_map without_ids (option_map skeleton o))) _ (well_zeroed w b o p.0) (free_zeroed w b os p.1)
+    let p = fault_free (judged w b (option_map without_ids o)) (first_cause (map (judged w b) (map (option_map without_ids) os))) h in
+    both_free (judged w b (option_map without_ids (option_map skeleton o))) _ (well_zeroed w b o p.0) (free_zeroed w b os p.1)
 
 free_small : (w : Want) (b : Bool) (os : List (Option Doc)) → AllSmall os → Free w b (map (option_map without_ids) (map (option_map skeleton) os)) → Free w b (map (option_map without_ids) os)
 free_small w b [] small h = refl
 free_small w b (o ∷ os) small h =
-    let p = no_cause (judged w b (option_map without_ids (option_map skeleton o))) (first_cause (map (judged w b) (map (option_map without_ids) (map (option_map skeleton) os)))) h in
-    no_causes (judged w b (option_map without_ids o)) _ (well_small w b o small.0 p.0) (free_small w b os small.1 p.1)
+    let p = fault_free (judged w b (option_map without_ids (option_map skeleton o))) (first_cause (map (judged w b) (map (option_map without_ids) (map (option_map skeleton) os)))) h in
+    both_free (judged w b (option_map without_ids o)) _ (well_small w b o small.0 p.0) (free_small w b os small.1 p.1)
 
 found_without : (ps : List PlaceStep) (d : Doc) → found ps (without_ids d) ≡ map (option_map without_ids) (found ps d)
 found_without ps d = found-shape without_ids without_keeps ps d
