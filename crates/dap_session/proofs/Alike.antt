@@ -3,7 +3,7 @@ use Rattle.dap_tree.specs.Doc.{Doc, null, boolean, whole, text, list, object, id
 use Rattle.dap_tree.specs.Ids.{skeleton}
 use Rattle.dap_tree.specs.declared.side.Side.{Side}
 use Rattle.dap_tree.specs.declared.sort.Sort.{Sort}
-use Rattle.std.proofs.Common.{◌≡◌, ℤ, pos, Bool, true, false, cond, List, [], ◌∷◌, Option, Some, None, option_map, codes, refl, sym, ap, ◌∙◌, subst, arith}
+use Rattle.std.proofs.Common.{◌≡◌, ℕ, ℤ, pos, Bool, true, false, cond, List, [], ◌∷◌, Option, Some, None, option_map, codes, refl, sym, ap, ◌∙◌, subst, arith}
 use Rattle.std.specs.List.{All, AllZip}
 use Rattle.std.specs.Option.{unwrap_or}
 use Rattle.std.proofs.lemmas.List.Elements.{All-head, All-tail}

@@ -1,5 +1,5 @@
 -- What a message that breaks no rule may do.
-use Rattle.std.proofs.Common.{◌≡◌, ℕ, ℤ, Bool, true, false, cond, not, ◌&&◌, List, [], ◌∷◌, Option, Some, None, ap, sym, ◌∙◌, subst, refl}
+use Rattle.std.proofs.Common.{◌≡◌, ℕ, ◌<◌, ℤ, length, drop, get_or, Bool, true, false, cond, not, ◌&&◌, List, [], ◌∷◌, Option, Some, None, ap, sym, ◌∙◌, subst, refl}
 use Rattle.std.specs.Str.{bytes_eq}
 use Rattle.std.specs.Option.{is_some}
 use Rattle.std.proofs.lemmas.Slice.Eq.{bytes_eq-Decides}
@@ -13,6 +13,7 @@ use Rattle.dap_session.specs.Rules.{first_of, rules}
 use Rattle.dap_session.specs.Kept.{Kept, Noted, found, requests_of}
 use Rattle.dap_session.specs.Judged.{judged, tells, asked_for, found_at, has_answer, has_other_command}
 use Rattle.dap_session.specs.Noting.{MayFollow}
+use Rattle.dap_session.proofs.Firsts.{first_hit}
 use Rattle.dap_session.proofs.Sides.{event_alone, left, right, same_sides}
 
 none_step : (test : Rule → Bool) (r : Rule) (rs : List Rule) (b : Bool) → cond b (Some r) (first_of test rs) ≡ None → (b ≡ false) × (first_of test rs ≡ None)
@@ -33,6 +34,12 @@ none_each test h =
     let k = none_step test AnsweredTwice (OtherCommand ∷ []) (test AnsweredTwice) j.1 in
     let l = none_step test OtherCommand [] (test OtherCommand) k.1 in
     λ r. elim r as (λ x. test x ≡ false) [ EventFromClient ↦ a.0 | NotInitialized ↦ b.0 | StillInitializing ↦ c.0 | InitializeTwice ↦ d.0 | AfterDisconnect ↦ e.0 | SeqUsed ↦ f.0 | ConfiguredEarly ↦ g.0 | ConfiguredTwice ↦ i.0 | NoRequest ↦ j.0 | AnsweredTwice ↦ k.0 | OtherCommand ↦ l.0 ]
+
+-- the first rule that is told after none of those before it
+pub judged_hit : (k : Kept) (m : Sent) (i : ℕ) (d : Rule) → is_output m ≡ false → first_of (λ r. tells r k m) rules ≡ first_of (λ r. tells r k m) (drop i rules) → i < length rules → tells (get_or rules i d) k m ≡ true
+    → Some (get_or rules i d) ≡ judged k m
+unfolding judged
+judged_hit k m i d quiet later low hit = sym (ap (λ b. cond b None (first_of (λ r. tells r k m) rules)) quiet ∙ later ∙ first_hit (λ r. tells r k m) rules i d low hit)
 
 not_false : (b : Bool) → not b ≡ false → b ≡ true
 not_false true h = refl

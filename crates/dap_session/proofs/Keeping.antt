@@ -40,14 +40,15 @@ keeps_one_more ms m = (λ keeps. (keeps_front ms (m ∷ []) keeps, keeps ms [] m
 abbrev Breaks : List Sent → Type 0
 Breaks ms = (before : List Sent) × (after : List Sent) × (m : Sent) × (rule : Rule) × (ms ≡ before ++ m ∷ after) × KeepsRules before × (first_broken before m ≡ Some rule)
 
-mutual
-  from : (before rest : List Sent) → KeepsRules before → KeepsRules (before ++ rest) ⊎ Breaks (before ++ rest)
-  from before [] keeps = inl (subst KeepsRules (sym (append-nil before)) keeps)
-  from before (m ∷ rest) keeps = at before m rest (first_broken before m) refl keeps
+-- one message further
+further : (before : List Sent) (m : Sent) (rest : List Sent) (o : Option Rule) → first_broken before m ≡ o → KeepsRules before
+    → (KeepsRules (before ++ m ∷ []) → KeepsRules ((before ++ m ∷ []) ++ rest) ⊎ Breaks ((before ++ m ∷ []) ++ rest)) → KeepsRules (before ++ m ∷ rest) ⊎ Breaks (before ++ m ∷ rest)
+further before m rest None e keeps later = subst (λ t. KeepsRules t ⊎ Breaks t) (append_assoc before (m ∷ []) rest) (later (keeps_push before m keeps e))
+further before m rest (Some rule) e keeps later = inr (before, rest, m, rule, refl, keeps, e)
 
-  at : (before : List Sent) (m : Sent) (rest : List Sent) (o : Option Rule) → first_broken before m ≡ o → KeepsRules before → KeepsRules (before ++ m ∷ rest) ⊎ Breaks (before ++ m ∷ rest)
-  at before m rest None e keeps = subst (λ t. KeepsRules t ⊎ Breaks t) (append_assoc before (m ∷ []) rest) (from (before ++ m ∷ []) rest (keeps_push before m keeps e))
-  at before m rest (Some rule) e keeps = inr (before, rest, m, rule, refl, keeps, e)
+from : (before rest : List Sent) → KeepsRules before → KeepsRules (before ++ rest) ⊎ Breaks (before ++ rest)
+from before [] keeps = inl (subst KeepsRules (sym (append-nil before)) keeps)
+from before (m ∷ rest) keeps = further before m rest (first_broken before m) refl keeps (from (before ++ m ∷ []) rest)
 
 -- every list keeps the rules, or has a first message that breaks one
 pub keeps_or_breaks : (ms : List Sent) → KeepsRules ms ⊎ Breaks ms

@@ -96,10 +96,10 @@ module _ (R : Sort → ℤ → ℤ → Type 0) where
   ids_paired s (Some (list ds)) b h e = absurd cc
   ids_paired s (Some (object ms)) b h e = absurd cc
   ids_paired s (Some (id t x)) None h e = absurd h
-  ids_paired s (Some (id t x)) (Some d) h e = other_id s t x d h.0 h.1.2 cc
+  ids_paired s (Some (id t x)) (Some d) h e = other_id s t x d h.1.0 h.1.1 h.0 h.1.2 cc
     where
-      other_id : (s t : Sort) (x : ℤ) (d : Doc) {xs ys : Ids} → skeleton (id t x) ≡ skeleton d → Tied (id t x) d xs ys → t ≡ s → (u : ℤ) × (y : ℤ) × (Some (id t x) ≡ Some (id s u)) × (Some d ≡ Some (id s y)) × R s u y
-      other_id s t x (id r y) one tied same =
+      other_id : (s t : Sort) (x : ℤ) (d : Doc) (xs ys : Ids) → skeleton (id t x) ≡ skeleton d → Tied (id t x) d xs ys → t ≡ s → (u : ℤ) × (y : ℤ) × (Some (id t x) ≡ Some (id s u)) × (Some d ≡ Some (id s y)) × R s u y
+      other_id s t x (id r y) xs ys one tied same =
           let sort : t ≡ r = cc in
           (x, y, cc, cc, subst (λ q. R q x y) same tied.0)
-      other_id s t x d one tied same = absurd cc
+      other_id s t x d xs ys one tied same = absurd cc

@@ -1,4 +1,4 @@
--- The rules as a session tells them, by what it keeps.
+-- For private clauses: the rules as a session tells them, by what it keeps.
 use Rattle.std.specs.Prelude.{ℕ, ℤ, Bool, true, false, cond, not, ◌&&◌, List, Option, Some, None, is_some}
 use Rattle.std.specs.Str.{bytes_eq}
 use Rattle.dap_tree.specs.declared.side.Side.TheVariants.{Client, Adapter}
@@ -11,32 +11,38 @@ use Rattle.dap_session.specs.Messages.{side_of, name_of, seq_of, request_seq_of,
 use Rattle.dap_session.specs.Rules.{rules, first_of}
 use Rattle.dap_session.specs.Kept.{Kept, Requests, Noted, found, requests_of}
 
+-- No `initialize` request of the client has come.
 abbrev pub is_waiting : Phase → Bool
 is_waiting Waiting = true
 is_waiting (Asked n) = false
 is_waiting Answered = false
 
+-- One has come, and no response to it.
 abbrev pub is_asked : Phase → Bool
 is_asked Waiting = false
 is_asked (Asked n) = true
 is_asked Answered = false
 
+-- The request with the number, where there is a number.
 abbrev pub found_at : Option ℤ → Requests → Option Noted
 found_at None es = None
 found_at (Some n) es = found n es
 
--- the request that a response answers
+-- The request that a response answers.
 abbrev pub asked_for : Kept → Sent → Option Noted
 asked_for k m = found_at (request_seq_of m) (requests_of (other (side_of m)) k)
 
+-- There is a request, and it is answered.
 abbrev pub has_answer : Option Noted → Bool
 has_answer None = false
 has_answer (Some a) = a.1
 
+-- There is a request, and its command is another.
 abbrev pub has_other_command : List ℕ → Option Noted → Bool
 has_other_command name None = false
 has_other_command name (Some a) = not (bytes_eq a.0 name)
 
+-- The message breaks the rule, by what is kept.
 unfoldable pub tells : Rule → Kept → Sent → Bool
 tells EventFromClient k m = is_from Client m && is_event m
 tells NotInitialized k m = not (is_client_initialize m) && is_waiting k.phase
@@ -50,6 +56,6 @@ tells NoRequest k m = is_response m && not (is_some (asked_for k m))
 tells AnsweredTwice k m = is_response m && has_answer (asked_for k m)
 tells OtherCommand k m = is_response m && has_other_command (name_of m) (asked_for k m)
 
--- the first rule that m breaks
+-- The first rule that the message breaks, by what is kept.
 unfoldable pub judged : Kept → Sent → Option Rule
 judged k m = cond (is_output m) None (first_of (λ r. tells r k m) rules)

@@ -1,11 +1,11 @@
--- What a message may do to the requests of a side.
+-- For private clauses: what a message may do to the requests of a side.
 use Rattle.std.specs.Prelude.{◌≡◌, ℤ, Bool, true, false, ◌&&◌, Some, None}
 use Rattle.dap_tree.specs.declared.side.Side.{Side}
 use Rattle.dap_message.specs.Message.{Sent}
 use Rattle.dap_session.specs.Messages.{name_of, seq_of, request_seq_of, other, is_request, is_response, is_from}
 use Rattle.dap_session.specs.Kept.{Requests, found}
 
--- a request of this side
+-- It is a request of this side.
 abbrev pub adds_to : Side → Sent → Bool
 adds_to side m = is_request m && is_from side m
 

@@ -5,7 +5,8 @@ use Rattle.dap_tree.specs.declared.side.Side.{Side}
 use Rattle.dap_tree.specs.declared.side.Side.TheVariants.{Client, Adapter}
 use Rattle.dap_tree.specs.declared.sort.Sort.{Sort}
 use Rattle.dap_tree.specs.declared.sort.Sort.TheVariants.{ClientSeq, AdapterSeq}
-use Rattle.std.specs.Prelude.{◌≡◌, ◌↔◌, ℤ, true, List, AllZip, Contains, Option, Some, None, codes}
+use Rattle.std.specs.Prelude.{◌≡◌, ◌↔◌, ℤ, true, List, Option, Some, None, codes}
+use Rattle.std.specs.List.{AllZip}
 use Rattle.dap_message.specs.Message.{Sent}
 use Rattle.dap_message.specs.Rows.{is_of_kind}
 use Rattle.dap_message.specs.declared.profile.Kind.TheVariants.{Response}
