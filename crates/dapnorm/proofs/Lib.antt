@@ -1,8 +1,12 @@
+pub mod AcceptingFacts
+pub mod CheckingLoop
 pub mod CompactingFacts
 pub mod CompactingLoop
 pub mod Deciding
 pub mod Filled
 pub mod FrameFacts
 pub mod Going
+pub mod KeptRules
 pub mod Outcomes
+pub mod RecordingFacts
 pub mod Runs
