@@ -1,8 +1,7 @@
 -- Records of messages, judged by `check`: what its runs owe, and that they are what it accepts.
 use Rattle.std.proofs.Common.{◌≡◌, ◌⊎◌, inl, inr, ℕ, ◌+◌, ◌≤◌, List, [], ◌∷◌, ◌++◌, length, Option, Some, None, refl, sym, ◌∙◌, ap, ap₂, subst, arith, append_assoc, append-nil, length-append}
-use Rattle.dap_message.specs.Message.{Sent, IsTypedContent, Refusal, HasRefusal}
+use Rattle.dap_message.specs.Message.{Sent}
 use Rattle.dap_message.proofs.Contents.{one_message, one_refusal, typed_not_refused, some_message}
-use Rattle.dap_tree.specs.Doc.{Doc}
 use Rattle.dap_recording.specs.Recording.{IsRecording}
 use Rattle.dap_session.specs.declared.rule.Rule.{Rule}
 use Rattle.dap_session.specs.Rules.{KeepsRules, first_broken}

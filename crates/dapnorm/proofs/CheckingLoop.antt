@@ -17,11 +17,10 @@ use Rattle.dap_session.specs.Standing.{Stands}
 use Rattle.dapnorm.specs.declared.checked.Checked.{Checked}
 use Rattle.dapnorm.specs.declared.limits.Limits.{Limits}
 use Rattle.dapnorm.specs.declared.reading.Stop.{Stop}
-use Rattle.dapnorm.specs.declared.reading.Stop.TheVariants.{End}
 use Rattle.dapnorm.specs.declared.refused.Refused.{Refused}
 use Rattle.dapnorm.specs.declared.refused.Refused.TheVariants.{InputTooLong, Record, Json, Fraction, Message, Rule, Grew, Incomplete, ReadFault, WriteFault, Memory}
 use Rattle.dapnorm.specs.Judging.{IsFirstRefusal, faulty, cut, input_too_long, objected}
-use Rattle.dapnorm.specs.Accepting.{Held, IsAccepted, IsRefused, Objection, Objects, accepting, no_message, broken}
+use Rattle.dapnorm.specs.Accepting.{IsAccepted, IsRefused, Objection, Objects, accepting, no_message, broken}
 use Rattle.dapnorm.specs.Checking.{AreCounted}
 use Rattle.dapnorm.specs.CheckingSteps.{HasGoneOn, JudgesInput, RefusesRecord, held_of}
 use Rattle.dapnorm.proofs.Going.{Going, going_start, going_fed, going_record, going_accepted, going_shown, going_objected, going_cut, going_too_long}
