@@ -7,7 +7,7 @@ use Rattle.dap_session.specs.declared.rule.Rule.{Rule}
 use Rattle.dap_session.specs.Rules.{KeepsRules, first_broken}
 use Rattle.dapnorm.specs.declared.limits.Limits.{Limits}
 use Rattle.dapnorm.specs.Accepting.{Held, IsMessage, AreMessages, Objection, no_message, broken, Objects, accepting}
-use Rattle.dapnorm.proofs.KeptRules.{keeps_none, keeps_push}
+use Rattle.dap_session.proofs.Keeping.{none_keep, keeps_push}
 use Rattle.dapnorm.proofs.Runs.{Run, run_within, ValueLaws, ValueFacts, AcceptedFacts}
 
 -- ---- what a record holds
@@ -109,6 +109,6 @@ module _ (limits : Limits) where
           records = records.0;
           recording = records.1;
           typed = records.2;
-          rules = run_keeps [] messages 0 bytes run keeps_none;
+          rules = run_keeps [] messages 0 bytes run none_keep;
         };
   }

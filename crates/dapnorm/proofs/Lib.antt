@@ -6,7 +6,6 @@ pub mod Deciding
 pub mod Filled
 pub mod FrameFacts
 pub mod Going
-pub mod KeptRules
 pub mod Outcomes
 pub mod RecordingFacts
 pub mod Runs
