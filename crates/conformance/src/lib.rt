@@ -26,4 +26,6 @@ mod recordings;
 #[cfg(test)]
 mod refused_growths;
 #[cfg(test)]
-mod session_rules;
+mod refused_growths_of_messages;
+#[cfg(test)]
+mod typed_recordings;
