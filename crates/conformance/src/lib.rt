@@ -2,6 +2,12 @@
 #![tactic(auto)]
 
 #[cfg(test)]
+mod check_lines;
+#[cfg(test)]
+mod check_refused_growths;
+#[cfg(test)]
+mod checking;
+#[cfg(test)]
 mod command_lines;
 #[cfg(test)]
 mod compacting;
@@ -10,9 +16,13 @@ mod devices;
 #[cfg(test)]
 mod examples;
 #[cfg(test)]
+mod failing_check;
+#[cfg(test)]
 mod failing_devices;
 #[cfg(test)]
 mod fault_lines;
+#[cfg(test)]
+mod recordings;
 #[cfg(test)]
 mod refused_growths;
 #[cfg(test)]

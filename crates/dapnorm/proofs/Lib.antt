@@ -1,3 +1,5 @@
+pub mod AcceptingFacts
+pub mod CheckingLoop
 pub mod CompactingFacts
 pub mod CompactingLoop
 pub mod Deciding
@@ -5,4 +7,5 @@ pub mod Filled
 pub mod FrameFacts
 pub mod Going
 pub mod Outcomes
+pub mod RecordingFacts
 pub mod Runs

@@ -1,3 +1,6 @@
+pub mod Accepting
+pub mod Checking
+pub mod CheckingSteps
 pub mod Counts
 pub mod CompactingSteps
 pub mod CommandLine

@@ -5,6 +5,8 @@
 pub enum Job {
     /// Make the contents of frames canonical.
     Compact,
+    /// Judge a recording; with `complete` each request must have a response.
+    Check { complete: bool },
 }
 
 /// Why the words name no job.

@@ -1,4 +1,5 @@
 //! Theorems on inputs, which hold of all bytes. Each function does nothing: a call of it gives its clauses to a proof.
+ghost use Rattle.dapnorm.specs.Accepting.{CheckHasOneOutcome, CheckRefusalStays};
 ghost use Rattle.dapnorm.specs.Compacting.{CompactHasOneOutcome, CompactRefusalStays};
 
 /// `compact` accepts an input as one list of values, or has one first refusal of it, and not both. A refusal stays when
@@ -6,4 +7,11 @@ ghost use Rattle.dapnorm.specs.Compacting.{CompactHasOneOutcome, CompactRefusalS
 pub fn compact_has_one_outcome()
     ensures outcome { CompactHasOneOutcome }
     ensures refusal_stays { CompactRefusalStays }
+{}
+
+/// `check` accepts a recording as one list of messages, or has one first refusal of it, and not both. A refusal stays when
+/// more bytes come, unless the input only ended too early. Whether requests are open is asked of what is accepted.
+pub fn check_has_one_outcome()
+    ensures outcome { CheckHasOneOutcome }
+    ensures refusal_stays { CheckRefusalStays }
 {}
