@@ -8,7 +8,9 @@ use Rattle.dap_tree.specs.Ids.{ids, skeleton, without_ids}
 use Rattle.dap_tree.specs.declared.side.Side.{Side}
 use Rattle.dap_tree.specs.declared.sort.Sort.{Sort}
 use Rattle.dap_tree.specs.declared.sort.Sort.TheVariants.{Reference}
-use Rattle.dap_tree.proofs.Outcomes.{read_once, one_outcome, some_outcome}
+use Rattle.dap_tree.proofs.Outcomes.{read_once, one_outcome, some_outcome, read_is_plain}
+use Rattle.dap_tree.proofs.Ordered.{read_is_ordered}
+use Rattle.dap_tree.proofs.Utf8.{read_is_utf8}
 use Rattle.dap_message.specs.Capabilities.{tells_capabilities}
 use Rattle.dap_message.specs.Message.{IsTypedBack, IsRenumberedBack}
 use Rattle.dap_message.proofs.Keeps.{fits-if}
@@ -20,6 +22,7 @@ use Rattle.dap_tree.specs.Json as contents
 use Rattle.dap_message.specs.Capabilities.{filled}
 use Rattle.dap_message.specs.Envelope.{kind_of, name_of, success_of, text_value, boolean_value, has_envelope}
 use Rattle.dap_message.specs.Faults.{fault}
+use Rattle.dap_message.specs.Laws.{IsWellFormed}
 use Rattle.dap_message.specs.Marks.{mark}
 use Rattle.dap_message.specs.Message.{IsTyped, IsTypedContent, message_of, Refusal, no_reading, fraction, faulty, HasRefusal}
 use Rattle.dap_message.specs.Numbers.{is_proper_number, is_proper, has_small_ids}
@@ -106,15 +109,26 @@ typed_ordered side d m ordered h = ap is_ordered h.1 ∙ ordered-message side d 
 pub typed_utf8 : (side : Side) (d m : Doc) → all_utf8 d ≡ true → IsTyped side d m → all_utf8 m ≡ true
 typed_utf8 side d m utf8 h = ap all_utf8 h.1 ∙ utf8-message side d utf8
 
+pub content_well_formed : (side : Side) (bytes : List ℕ) (m : Doc) → IsTypedContent side bytes m → IsWellFormed m
+content_well_formed side bytes m (d, reads, h) =
+    let plain = read_is_plain bytes d reads in
+    record {
+      proper = ap is_proper h.1 ∙ proper-message side d plain;
+      sound = typed_sound side d m plain h;
+      enveloped = typed_enveloped side d m h;
+      ordered = typed_ordered side d m (read_is_ordered bytes d reads) h;
+      utf8 = typed_utf8 side d m (read_is_utf8 bytes d reads) h;
+    }
+
 -- ---- typed again
 
 pub document_again : (side : Side) (d m n : Doc) → is_plain d ≡ true → IsTyped side d m → skeleton n ≡ skeleton m → has_small_ids n ≡ true → IsTyped side (without_ids n) n
 document_again side d m n plain h same small = (typed_again side d n plain h.0 (same ∙ ap skeleton h.1) small).1
 
-pub content_again : (side : Side) (d m n : Doc) → is_plain d ≡ true → is_ordered d ≡ true → all_utf8 d ≡ true → IsTyped side d m → skeleton n ≡ skeleton m → has_small_ids n ≡ true
-    → IsTypedContent side (text_of n) n
-content_again side d m n plain ordered utf8 h same small =
-    (without_ids n, text_again side d n plain ordered utf8 (same ∙ ap skeleton h.1) small, document_again side d m n plain h same small)
+pub content_again : (side : Side) (bytes : List ℕ) (m n : Doc) → IsTypedContent side bytes m → skeleton n ≡ skeleton m → has_small_ids n ≡ true → IsTypedContent side (text_of n) n
+content_again side bytes m n (d, reads, h) same small =
+    let plain = read_is_plain bytes d reads in
+    (without_ids n, text_again side d n plain (read_is_ordered bytes d reads) (read_is_utf8 bytes d reads) (same ∙ ap skeleton h.1) small, document_again side d m n plain h same small)
 
 pub own_again : (side : Side) (d m : Doc) → is_plain d ≡ true → IsTyped side d m → IsTyped side (without_ids m) m
 own_again side d m plain h =

@@ -7,6 +7,7 @@ pub mod Filled
 pub mod FrameFacts
 pub mod Going
 pub mod KeptRules
+pub mod NormalTexts
 pub mod Outcomes
 pub mod RecordingFacts
 pub mod Runs

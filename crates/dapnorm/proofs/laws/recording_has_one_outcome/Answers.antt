@@ -2,7 +2,7 @@ use Rattle.dapnorm.specs.Accepting.{accepting}
 use Rattle.dapnorm.proofs.AcceptingFacts.{value_facts, accepted_facts}
 use Rattle.dapnorm.proofs.RecordingFacts.{record_facts}
 use Rattle.dapnorm.proofs.Outcomes.{has_one_outcome, refusal_stays}
-use Rattle.dapnorm.proofs.laws.check_has_one_outcome.Goals as goal
+use Rattle.dapnorm.proofs.laws.recording_has_one_outcome.Goals as goal
 
 pub returns : goal.returns
 returns c = record {
