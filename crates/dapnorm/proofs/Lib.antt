@@ -11,3 +11,4 @@ pub mod NormalTexts
 pub mod Outcomes
 pub mod RecordingFacts
 pub mod Runs
+pub mod Standing

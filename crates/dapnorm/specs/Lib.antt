@@ -10,5 +10,6 @@ pub mod Engine
 pub mod Judging
 pub mod Limits
 pub mod Memory
+pub mod Normalising
 pub mod Reading
 pub mod Run

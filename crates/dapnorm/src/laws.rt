@@ -1,5 +1,6 @@
 //! Theorems on inputs, which hold of all bytes. Each function does nothing: a call of it gives its clauses to a proof.
 ghost use Rattle.dapnorm.specs.Accepting.{RecordingHasOneOutcome, RecordingRefusalStays};
+ghost use Rattle.dapnorm.specs.Normalising.{HasOneNormalForm, NormalIsAccepted, AcceptedIsNormalised, OneNormalText, NormalStandsStill, EqualTextsTell};
 ghost use Rattle.dapnorm.specs.Compacting.{CompactHasOneOutcome, CompactRefusalStays};
 
 /// `compact` accepts an input as one list of values, or has one first refusal of it, and not both. A refusal stays when
@@ -14,4 +15,20 @@ pub fn compact_has_one_outcome()
 pub fn recording_has_one_outcome()
     ensures outcome { RecordingHasOneOutcome }
     ensures refusal_stays { RecordingRefusalStays }
+{}
+
+/// An accepted recording has one normal form, and with it one text that it is normalised to. The text is accepted under the
+/// same limits, holds a renaming of the recording's messages, and is normalised to itself.
+pub fn normal_form_stands()
+    ensures form { HasOneNormalForm }
+    ensures accepted { NormalIsAccepted }
+    ensures some_text { AcceptedIsNormalised }
+    ensures one_text { OneNormalText }
+    ensures still { NormalStandsStill }
+{}
+
+/// Two accepted recordings are normalised to equal texts exactly where one-to-one renamings of each side's sequence numbers,
+/// of frame ids and of variables references other than 0 turn the messages of the one, in order, into those of the other.
+pub fn equal_texts_tell()
+    ensures { EqualTextsTell }
 {}
