@@ -14,4 +14,8 @@ mod failing_devices;
 #[cfg(test)]
 mod fault_lines;
 #[cfg(test)]
+mod normalising;
+#[cfg(test)]
+mod recordings;
+#[cfg(test)]
 mod refused_growths;

@@ -1,11 +1,12 @@
 pub mod AcceptingFacts
-pub mod CheckingLoop
 pub mod CompactingFacts
 pub mod CompactingLoop
 pub mod Deciding
 pub mod Filled
 pub mod FrameFacts
 pub mod Going
+pub mod JudgedRecords
+pub mod JudgingLoop
 pub mod KeptRules
 pub mod NormalTexts
 pub mod Outcomes

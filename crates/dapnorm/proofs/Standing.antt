@@ -74,16 +74,16 @@ renamed r (m ∷ ms) (n ∷ ns) same h =
 
 numbered : (records : List Held) (ms : List Sent) → AreMessages records ms → All IsNumbered ms
 numbered [] [] typed k d small = absurd (omega (arith, small))
-numbered [] (m ∷ ms) typed = absurd typed
-numbered (held ∷ records) [] typed = absurd typed
+numbered [] (m ∷ ms) typed k d small = absurd typed
+numbered (held ∷ records) [] typed k d small = absurd typed
 numbered (held ∷ records) (m ∷ ms) typed zero d small =
     subst (λ side. IsNumbered (record { side = side; doc = m.doc })) (sym typed.0.0) (typed_numbered held.0 typed.0.1.0 m.doc typed.0.1.2)
 numbered (held ∷ records) (m ∷ ms) typed (suc k) d small = numbered records ms typed.1 k d (omega (arith, small))
 
 rules_kept : (records : List Held) (ms n : List Sent) → AreMessages records ms → AreSame in_whole ms n → KeepsRules ms → KeepsRules n
 unfolding AreSame
-rules_kept records ms n typed (r, is, skeletons, related) =
-    (keeps_renamed (Puts r) (one_to_one r is) ms n (numbered records ms typed) (renamed r ms n skeletons related)).0
+rules_kept records ms n typed (r, is, carries) =
+    (keeps_renamed (Puts r) (one_to_one r is) ms n (numbered records ms typed) (renamed r ms n carries.0 carries.1)).0
 
 -- ---- the records of a text
 

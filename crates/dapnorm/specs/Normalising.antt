@@ -3,8 +3,10 @@ use Rattle.std.specs.Prelude.{◌≡◌, ◌↔◌, ℕ, List}
 use Rattle.dap_message.specs.Message.{Sent}
 use Rattle.dap_rename.specs.Messages.{AreSame, IsNormal, in_whole}
 use Rattle.dapnorm.specs.declared.limits.Limits.{Limits}
+use Rattle.dapnorm.specs.declared.refused.Refused.{Refused}
+use Rattle.dapnorm.specs.declared.refused.Refused.TheVariants.{Memory}
 use Rattle.dapnorm.specs.Limits.{AreSound}
-use Rattle.dapnorm.specs.Accepting.{IsAccepted, text}
+use Rattle.dapnorm.specs.Accepting.{IsAccepted, IsRefused, text}
 
 -- The recording is accepted, and this is the text of the normal form of its messages.
 pub record Normalises (limits : Limits) (bytes written : List ℕ) : Type 0 where
@@ -13,6 +15,11 @@ pub record Normalises (limits : Limits) (bytes written : List ℕ) : Type 0 wher
   pub normal : List Sent
   pub is_normal : IsNormal in_whole messages normal
   pub text_is : written ≡ text normal
+
+-- The bytes are refused for this, or memory was. Readers and writers do not come into it.
+abbrev pub RefusesBytes : Limits → List ℕ → Refused → Type 0
+RefusesBytes limits bytes Memory = Unit {0}
+RefusesBytes limits bytes refused = IsRefused limits bytes refused
 
 -- An accepted recording has one normal form.
 abbrev pub HasOneNormalForm : Type 0
