@@ -53,13 +53,13 @@ impl Judge {
         &mut self,
         alloc: Global,
         number: u64,
-        record: &Record,
+        whole: &Record,
         out: &mut Vec<u8>,
     ) -> Result<(), Refused>
-        ensures judges { (messages normal : List Sent) → StandsFor self.old messages normal → JudgesRecord messages normal (held_of record.now) number self.old self.new out.old.items out.new.items result }
+        ensures judges { (messages normal : List Sent) → StandsFor self.old messages normal → JudgesRecord messages normal (held_of whole.now) number self.old self.new out.old.items out.new.items result }
         ensures limits { judge_limits self.new ≡ judge_limits self.old }
     {
-        let message = read_message(alloc, number, record.side, record.content.as_slice())?;
+        let message = read_message(alloc, number, whole.side, whole.content.as_slice())?;
         match self.session.accept(&message) {
             Ok(()) => {}
             Err(SessionFault::Broken(rule)) => return Err(Refused::Rule(number, rule)),
