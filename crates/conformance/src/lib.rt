@@ -2,6 +2,12 @@
 #![tactic(auto)]
 
 #[cfg(test)]
+mod check_lines;
+#[cfg(test)]
+mod check_refused_growths;
+#[cfg(test)]
+mod checking;
+#[cfg(test)]
 mod command_lines;
 #[cfg(test)]
 mod compacting;
@@ -9,6 +15,8 @@ mod compacting;
 mod devices;
 #[cfg(test)]
 mod examples;
+#[cfg(test)]
+mod failing_check;
 #[cfg(test)]
 mod failing_devices;
 #[cfg(test)]
@@ -19,3 +27,7 @@ mod normalising;
 mod recordings;
 #[cfg(test)]
 mod refused_growths;
+#[cfg(test)]
+mod refused_growths_of_messages;
+#[cfg(test)]
+mod typed_recordings;

@@ -13,8 +13,6 @@ use Rattle.dap_tree.proofs.Ordered.{read_is_ordered}
 use Rattle.dap_tree.proofs.Utf8.{read_is_utf8}
 use Rattle.dap_message.specs.Capabilities.{tells_capabilities}
 use Rattle.dap_message.specs.Message.{IsTypedBack, IsRenumberedBack}
-use Rattle.dap_message.proofs.Keeps.{fits-if}
-use Rattle.dap_message.proofs.Refilled.{plain-if}
 use Rattle.std.proofs.Common.{not}
 use Rattle.std.proofs.Common.{◌≡◌, ◌⊎◌, inl, inr, ℕ, zero, suc, ◌<◌, ℤ, pos, true, cond, List, [], ◌∷◌, length, get_or, Contains, Option, Some, None, option_map, codes, refl, sym, ◌∙◌, ap, ap₂, arith}
 use Rattle.std.specs.List.{list_all}
@@ -31,7 +29,7 @@ use Rattle.dap_message.specs.declared.fault.MessageFault.{MessageFault}
 use Rattle.dap_message.specs.declared.profile.Kind.{Kind}
 use Rattle.dap_message.specs.declared.profile.Kind.TheVariants.{Request, Response, Event}
 use Rattle.dap_message.proofs.Refilled.{numbers-again, filled-again}
-use Rattle.dap_message.proofs.Envelopes.{enveloped-message}
+use Rattle.dap_message.proofs.Envelopes.{enveloped-message, some_is}
 use Rattle.dap_message.proofs.Keeps.{sound-message, proper-message}
 use Rattle.dap_message.proofs.Names.{ordered-message, utf8-message}
 use Rattle.dap_message.proofs.FilledFits.{fault-filled}
@@ -42,9 +40,6 @@ use Rattle.dap_message.proofs.TypedAgain.{typed_again, text_again}
 
 pub one_message : (side : Side) (bytes : List ℕ) (m n : Doc) → IsTypedContent side bytes m → IsTypedContent side bytes n → m ≡ n
 one_message side bytes m n h k = h.2.1 ∙ ap (message_of side) (read_once bytes h.0 k.0 h.1 k.1) ∙ sym k.2.1
-
-some_same : {X : Type 0} (a b : X) → Some a ≡ Some b → a ≡ b
-some_same a b h = cc
 
 -- what a refusal tells of the content's outcome
 two_outcomes : (bytes : List ℕ) (o p : Outcome) → HasOutcome bytes o → HasOutcome bytes p → (o ≡ p → ⊥) → ⊥
@@ -59,7 +54,7 @@ one_refusal bytes fraction fraction h k = refl
 one_refusal bytes fraction (faulty f) h k = absurd (two_outcomes bytes contents.fraction (contents.document k.0) h k.1 (λ e. cc))
 one_refusal bytes (faulty e) no_reading h k = absurd (two_outcomes bytes (contents.document h.0) contents.no_reading h.1 k (λ x. cc))
 one_refusal bytes (faulty e) fraction h k = absurd (two_outcomes bytes (contents.document h.0) contents.fraction h.1 k (λ x. cc))
-one_refusal bytes (faulty e) (faulty f) h k = ap faulty (some_same e f (sym h.2 ∙ ap fault (read_once bytes h.0 k.0 h.1 k.1) ∙ k.2))
+one_refusal bytes (faulty e) (faulty f) h k = ap faulty (some_is e f (sym h.2 ∙ ap fault (read_once bytes h.0 k.0 h.1 k.1) ∙ k.2))
 
 no_fault : (f : MessageFault) (o : Option MessageFault) → o ≡ None → o ≡ Some f → ⊥
 no_fault f o h k = let never : None ≡ Some f = sym h ∙ k in cc
@@ -179,13 +174,6 @@ skeleton_tells m n h = (
 )
 
 -- ---- the content of a message
-
-plain-filled : (side : Side) (d : Doc) → is_plain d ≡ true → is_plain (filled side d) ≡ true
-plain-filled side d h =
-    let t = filled side d in
-    let b = tells_capabilities side d in
-    let sound : is_sound t ≡ true = sym (fits_is 127 t) ∙ fits-if b d (fits_is 127 d ∙ and_left (is_sound d) (not (has_id d)) h) in
-    and_both (is_sound t) (not (has_id t)) sound (and_right (all_in_range t) (not (has_id t)) (sym (plain_is t) ∙ plain-if b d (plain_parts d h)))
 
 pub typed_back : (side : Side) (m : Doc) (bytes : List ℕ) → IsRead bytes (without_ids m) → IsTypedBack side m bytes
 typed_back side m bytes reads d plain h =

@@ -144,8 +144,8 @@ module _ (R : Sort → ℤ → ℤ → Type 0) (one : IsOneToOne R) where
       and_if (is_response a && is_from (other side) a) (is_response b && is_from (other side) b) (is_number (request_seq_of a) x) (is_number (request_seq_of b) y)
       (and_same _ _ _ _ (response_same a b t) (from_same (other side) a b t))
       (λ e.
-        let there : other (side_of a) ≡ side = ap other (sym (same_sides (other side) (side_of a) (right (is_response a) (is_from (other side) a) e))) ∙ other_other side in
-        number_is_same side (request_seq_of a) (request_seq_of b) x y (subst (λ s. NumbersTied R (seq_sort s) (request_seq_of a) (request_seq_of b)) there t.request_seq) h)
+      let there : other (side_of a) ≡ side = ap other (sym (same_sides (other side) (side_of a) (right (is_response a) (is_from (other side) a) e))) ∙ other_other side in
+      number_is_same side (request_seq_of a) (request_seq_of b) x y (subst (λ s. NumbersTied R (seq_sort s) (request_seq_of a) (request_seq_of b)) there t.request_seq) h)
 
   -- the side too may be told by another message
   request_of_both : (side across : Side) (x y : ℤ) (a b : Sent) → side ≡ across → R (seq_sort side) x y → Alike R a b → is_request_of side x a ≡ is_request_of across y b
@@ -167,8 +167,8 @@ module _ (R : Sort → ℤ → ℤ → Type 0) (one : IsOneToOne R) where
       or_same _ _ _ _
       (and_if (is_client_initialize m) (is_client_initialize n) (not (is_answered Client (seq_of m) ms)) (not (is_answered Client (seq_of n) ns)) (client_initialize_same m n h.0)
       (λ e.
-        let client : Client ≡ side_of m = same_sides Client (side_of m) (left (is_from Client m) (is_initialize m) e) in
-        ap not (answered_same Client Client (seq_of m) (seq_of n) ms ns refl (subst (λ s. R (seq_sort s) (seq_of m) (seq_of n)) (sym client) h.0.seq) h.1)))
+      let client : Client ≡ side_of m = same_sides Client (side_of m) (left (is_from Client m) (is_initialize m) e) in
+      ap not (answered_same Client Client (seq_of m) (seq_of n) ms ns refl (subst (λ s. R (seq_sort s) (seq_of m) (seq_of n)) (sym client) h.0.seq) h.1)))
       (initializing_same ms ns h.1)
 
   broken_same : (rule : Rule) (ms ns : List Sent) (m n : Sent) → AllZip (Alike R) ms ns → Alike R m n → is_broken rule ms m ≡ is_broken rule ns n
@@ -218,11 +218,11 @@ module _ (R : Sort → ℤ → ℤ → Type 0) (one : IsOneToOne R) where
       let s = all_alike R ms ns is h in
       count_alike (λ q. is_request q && is_from side q && not (is_answered side (seq_of q) ms)) (λ q. is_request q && is_from side q && not (is_answered side (seq_of q) ns))
       (λ a b t.
-        and_if (is_request a && is_from side a) (is_request b && is_from side b) (not (is_answered side (seq_of a) ms)) (not (is_answered side (seq_of b) ns))
-        (and_same _ _ _ _ (request_same a b t) (from_same side a b t))
-        (λ e.
-          let there : side ≡ side_of a = same_sides side (side_of a) (right (is_request a) (is_from side a) e) in
-          ap not (answered_same side side (seq_of a) (seq_of b) ms ns refl (subst (λ x. R (seq_sort x) (seq_of a) (seq_of b)) (sym there) t.seq) s)))
+      and_if (is_request a && is_from side a) (is_request b && is_from side b) (not (is_answered side (seq_of a) ms)) (not (is_answered side (seq_of b) ns))
+      (and_same _ _ _ _ (request_same a b t) (from_same side a b t))
+      (λ e.
+      let there : side ≡ side_of a = same_sides side (side_of a) (right (is_request a) (is_from side a) e) in
+      ap not (answered_same side side (seq_of a) (seq_of b) ms ns refl (subst (λ x. R (seq_sort x) (seq_of a) (seq_of b)) (sym there) t.seq) s)))
       ms ns s
 
   keeps_there : (ms ns : List Sent) → AllZip (Alike R) ms ns → KeepsRules ms → KeepsRules ns

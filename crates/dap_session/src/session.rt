@@ -6,12 +6,13 @@ ghost use Rattle.dap_session.specs.Kept.{requests_of, kept_after};
 ghost use Rattle.dap_session.specs.Judged.{judged, tells, asked_for};
 ghost use Rattle.dap_session.specs.Standing.{Stands, Says};
 
+use crate::message::{
+    is_client_initialize, is_configuration_done, is_event, is_farewell, is_from, is_initialize,
+    is_initialized, is_output, is_request, is_response, name_of, request_seq_of, seq_of, side_of,
+};
 use crate::phase::Phase;
 use crate::requests::Requests;
 use crate::rule::{Rule, SessionFault};
-use crate::message::{
-    is_client_initialize, is_configuration_done, is_event, is_farewell, is_from, is_initialize, is_initialized, is_output, is_request, is_response, name_of, request_seq_of, seq_of, side_of,
-};
 use dap_message::{Message, Side};
 use std::alloc::{AllocError, Global};
 use std::marker::Model;
@@ -109,8 +110,7 @@ impl Session {
             Rule::EventFromClient => is_from(message, Side::Client) && is_event(message),
             Rule::NotInitialized => !is_client_initialize(message) && self.phase.is_waiting(),
             Rule::StillInitializing => {
-                self.phase.is_asked()
-                    && !(is_from(message, Side::Adapter) && is_response(message))
+                self.phase.is_asked() && !(is_from(message, Side::Adapter) && is_response(message))
             }
             Rule::InitializeTwice => is_initialize(message) && !self.phase.is_waiting(),
             Rule::AfterDisconnect => {

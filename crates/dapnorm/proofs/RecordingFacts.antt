@@ -1,6 +1,5 @@
 -- Records of a recording as the records that `check` judges.
 use Rattle.std.proofs.Common.{◌≡◌, ◌⊎◌, inl, inr, ◌++◌, ℕ, List, ap₂}
-use Rattle.dap_tree.specs.declared.side.Side.{Side}
 use Rattle.dap_recording.specs.declared.record_fault.RecordCause.{RecordCause}
 use Rattle.dap_recording.specs.Recording.{HasRecord, IsRecord, IsOpenRecord, ShowsFault}
 use Rattle.dap_recording.proofs.RecordUnique.{one_record, no_empty_record, one_cause, record_not_faulty, record_not_open, open_not_faulty}

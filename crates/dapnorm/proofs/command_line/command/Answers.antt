@@ -1,6 +1,6 @@
-use Rattle.std.proofs.Common.{ap, ap₂, codes, ◌≡◌, ◌∙◌}
+use Rattle.std.proofs.Common.{ap, ap₂, codes, ◌∙◌}
 use Rattle.std.proofs.lemmas.Result.{IfOk-weaker}
-use Rattle.clap.specs.Words.{App, app_of, with_subcommand}
+use Rattle.clap.specs.Words.{App, with_subcommand}
 use Rattle.dapnorm.specs.CommandLine.{plain}
 use Rattle.dapnorm.proofs.command_line.command.Goals as goal
 
