@@ -1,0 +1,4 @@
+pub mod Additions
+pub mod Naming
+pub mod Related
+pub mod Pairing
