@@ -90,7 +90,7 @@ module _ {K : Type 0} (same : K → K → Bool) (decides : (a b : K) → Decides
   fresh_from os f before after c x q = fresh_at [] os before after (c, x) f q
 
   -- the second list's tables count the first's
-  pub Counts : List (K × ℤ) → List (K × ℤ) → Type 0
+  unfoldable pub Counts : List (K × ℤ) → List (K × ℤ) → Type 0
   Counts e d = (c : K) → table same c d ≡ up_to (length (table same c e))
 
   pub names-next : (e d : List (K × ℤ)) (o : K × ℤ) → Counts e d → NextIsFresh d (o.0, name same e o)

@@ -53,6 +53,10 @@ AreProper ms = AllByRecursion (λ m. is_proper m.doc ≡ true) ms
 abbrev pub message_skeleton : Sent → Sent
 message_skeleton m = record { side = m.side; doc = skeleton m.doc }
 
+-- The names of the ids of a message behind these occurrences and so many stops.
+abbrev pub names_of : List (Class × ℤ) → ℕ → Sent → List ℤ
+names_of before stops m = map (λ o. o.1) (named same_class before (map (occurrence stops) (ids m.doc)))
+
 module _ (stop : Sent → ℕ) where
   -- How many stops there are behind the messages, if there were so many before them.
   abbrev pub stops_after : ℕ → List Sent → ℕ
@@ -101,10 +105,6 @@ module _ (stop : Sent → ℕ) where
   pub record IsRenamed (ms : List Sent) (m new : Sent) : Type 0 where
     pub skeleton : message_skeleton new ≡ message_skeleton m
     pub names : map (occurrence (stops_after 0 ms)) (ids new.doc) ≡ named same_class (occurrences 0 ms) (map (occurrence (stops_after 0 ms)) (ids m.doc))
-
-  -- The names of the ids of a message behind these occurrences and so many stops.
-  abbrev pub names_of : List (Class × ℤ) → ℕ → Sent → List ℤ
-  names_of before stops m = map (λ o. o.1) (named same_class before (map (occurrence stops) (ids m.doc)))
 
   -- The messages with the names of their ids, behind these occurrences and so many stops.
   abbrev pub normal_from : List (Class × ℤ) → ℕ → List Sent → List Sent
