@@ -2,7 +2,7 @@
 use Rattle.std.proofs.Common.{◌≡◌, ◌≢◌, ℕ, zero, suc, ◌+◌, ◌<◌, ◌≤◌, ℤ, pos, Bool, true, false, cond, ◌&&◌, eqb, List, [], ◌∷◌, ◌++◌, length, map, zip, refl, sym, ◌∙◌, ap, subst, arith, append_assoc, append-nil}
 use Rattle.std.specs.List.{list_any, position_or_len}
 use Rattle.std.specs.Ordering.{int_eq}
-use Rattle.std.proofs.lemmas.Bool.{and_right}
+use Rattle.std.proofs.lemmas.Bool.{and_right, ne_eqb}
 use Rattle.dap_tree.specs.Ids.{ids, sorts_of, skeleton}
 use Rattle.dap_tree.specs.Doc.{Doc}
 use Rattle.dap_tree.specs.declared.side.Side.{Side}
@@ -68,10 +68,10 @@ no_stops [] = refl
 no_stops (m ∷ ms) = no_stops ms
 
 pub no_class : (s r : Sort) (k : ℕ) → same_class (s, suc k) (class_after 0 r) ≡ false
-no_class s ClientSeq k = and_right (eqb (sort_number s) 0) false refl
-no_class s AdapterSeq k = and_right (eqb (sort_number s) 1) false refl
-no_class s Frame k = and_right (eqb (sort_number s) 2) false refl
-no_class s Reference k = and_right (eqb (sort_number s) 3) false refl
+no_class s ClientSeq k = and_right (eqb (sort_number s) 0) (eqb (suc k) 0) (ne_eqb (suc k) 0 (λ e. omega (arith, e)))
+no_class s AdapterSeq k = and_right (eqb (sort_number s) 1) (eqb (suc k) 0) (ne_eqb (suc k) 0 (λ e. omega (arith, e)))
+no_class s Frame k = and_right (eqb (sort_number s) 2) (eqb (suc k) 0) (ne_eqb (suc k) 0 (λ e. omega (arith, e)))
+no_class s Reference k = and_right (eqb (sort_number s) 3) (eqb (suc k) 0) (ne_eqb (suc k) 0 (λ e. omega (arith, e)))
 
 -- there is no id of a later class
 pub none_of : (s : Sort) (k : ℕ) (is : List (Sort × ℤ)) (os : List (Class × ℤ)) → numbers same_class (s, suc k) (map (occurrence 0) is ++ os) ≡ numbers same_class (s, suc k) os

@@ -9,7 +9,7 @@ use Rattle.dap_rename.specs.declared.tables.Tables.{Tables}
 
 -- All tables are empty.
 abbrev pub AreEmpty : {T : Type 0} → (T → List ℤ) → Tables T → Type 0
-AreEmpty numbers t = (s : Sort) → numbers (table_of t s) ≡ []
+AreEmpty numbers t = (numbers t.client_seq ≡ []) × (numbers t.adapter_seq ≡ []) × (numbers t.frame ≡ []) × (numbers t.reference ≡ [])
 
 -- The numbers of a sort that have names, the i-th the one with the name i.
 abbrev pub numbers_in : {T : Type 0} → (T → List ℤ) → Names T → Sort → List ℤ

@@ -10,6 +10,8 @@ mod name_table;
 mod names;
 mod plain_names;
 mod tables;
+#[cfg(test)]
+mod tests;
 
 pub use name_table::{NameFault, NameTable};
 pub use names::Names;
