@@ -44,8 +44,11 @@ impl<T: NameTable> Names<T> {
         ensures refused { OnErr result (AreUnchanged T.numbers self.old self.new) }
         ensures limits { (s : Sort) → limit_in T.limit self.new s ≡ limit_in T.limit self.old s }
     {
-        let _ = message;
-        Err(NameFault::Memory)
+        let Ok(ids) = message.ids(self.alloc) else {
+            return Err(NameFault::Memory);
+        };
+        let names = self.tables.name_ids(self.alloc, ids.as_slice())?;
+        Ok(message.replace_ids(names.as_slice()))
     }
 
     /// How many ids of this sort have names. Takes no memory.
