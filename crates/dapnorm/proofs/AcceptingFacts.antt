@@ -9,9 +9,9 @@ use Rattle.dap_rename.specs.Numbering.{table}
 use Rattle.dap_rename.proofs.Normals.{front_has_few_ids}
 use Rattle.dap_session.specs.declared.rule.Rule.{Rule}
 use Rattle.dap_session.specs.Rules.{KeepsRules, first_broken}
+use Rattle.dap_session.proofs.Keeping.{none_keep, keeps_push}
 use Rattle.dapnorm.specs.declared.limits.Limits.{Limits}
 use Rattle.dapnorm.specs.Accepting.{Held, IsMessage, AreMessages, Objection, no_message, broken, too_many_ids, grew, Objects, IsNext, accepting, NormalFits, HasGrown, id_limit}
-use Rattle.dapnorm.proofs.KeptRules.{keeps_none, keeps_push}
 use Rattle.dapnorm.proofs.NormalTexts.{few_or_many, few_not_many, fits_or_grew, fits_not_grown, normal, normal_fits, normal_fits_front, proper_push}
 use Rattle.dapnorm.proofs.Runs.{Run, run_within, ValueLaws, ValueFacts, AcceptedFacts}
 
@@ -177,7 +177,7 @@ module _ (limits : Limits) where
 
   pub none_keeps : Keeps []
   unfolding table
-  none_keeps = record { rules = keeps_none; few = λ c. omega arith; fits = normal_fits limits [] [] tt (normal [] tt) (record { each = tt; whole = omega arith }) }
+  none_keeps = record { rules = none_keep; few = λ c. omega arith; fits = normal_fits limits [] [] tt (normal [] tt) (record { each = tt; whole = omega arith }) }
 
   pub accepted_facts : AcceptedFacts (accepting limits)
   accepted_facts = record {

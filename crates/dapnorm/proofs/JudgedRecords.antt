@@ -1,5 +1,5 @@
 -- A record that is judged behind others: the judge goes on to stand for its message too, or it is refused.
-use Rattle.std.proofs.Common.{◌≡◌, ◌⊎◌, inl, inr, ℕ, ◌+◌, ◌<◌, ◌≤◌, List, [], ◌∷◌, ◌++◌, length, Some, None, refl, sym, ◌∙◌, ap, subst, arith, append-nil, length-append}
+use Rattle.std.proofs.Common.{◌≡◌, ◌⊎◌, inl, inr, ℕ, ◌+◌, ◌<◌, ◌≤◌, List, [], ◌∷◌, ◌++◌, length, Some, None, Err, refl, sym, ◌∙◌, ap, subst, arith, append-nil, length-append}
 use Rattle.std.specs.List.{AllByRecursion}
 use Rattle.dap_tree.specs.Json.{text_of}
 use Rattle.dap_tree.specs.declared.sort.Sort.{Sort}
@@ -13,8 +13,10 @@ use Rattle.dap_session.specs.Rules.{first_broken}
 use Rattle.dap_session.specs.Standing.{Stands}
 use Rattle.dapnorm.specs.declared.judging.Judge.{Judge}
 use Rattle.dapnorm.specs.declared.limits.Limits.{Limits}
+use Rattle.dapnorm.specs.declared.refused.Refused.{Refused}
+use Rattle.dapnorm.specs.declared.refused.Refused.TheVariants.{InputTooLong, Record, Json, Fraction, Message, Rule, TooManyIds, Grew, Incomplete, ReadFault, WriteFault, Memory}
 use Rattle.dapnorm.specs.Accepting.{Held, Fits, HasGrown, IsMessage, IsNext, Objects, grew, id_limit, text, too_many_ids}
-use Rattle.dapnorm.specs.JudgingSteps.{IsTaken, StandsFor, record_of}
+use Rattle.dapnorm.specs.JudgingSteps.{IsTaken, RefusesRecord, StandsFor, Writes, record_of}
 use Rattle.dapnorm.proofs.AcceptingFacts.{message_proper}
 use Rattle.dapnorm.proofs.NormalTexts.{normal, normal_fits, proper_push, text-append}
 
@@ -63,6 +65,21 @@ module _ (old : Judge) (messages names : List Sent) (was : StandsFor old message
         passes : (old.limits.frame.content < length (text_of named.doc)) ⊎ (old.limits.input < old.written + length (record_of named)) → Fits old.limits (names ++ named ∷ []) → ⊥
         passes (inl content) fits = let short = last names fits.each in omega (arith, content, short)
         passes (inr whole) fits = let short = fits.whole in omega (arith, whole, short, next_length)
+
+    -- the record of the renamed message is not written
+    pub refused_to_write : (because : Refused) (n : ℕ) (before after : List ℕ) → Writes old.limits named n old.written before after (Err because) → RefusesRecord old.limits messages held n because
+    refused_to_write (Grew k) n before after told = (told.0, objects_to_length told.1)
+    refused_to_write (InputTooLong k) n before after told = absurd told
+    refused_to_write (Record k why) n before after told = absurd told
+    refused_to_write (Json k) n before after told = absurd told
+    refused_to_write (Fraction k) n before after told = absurd told
+    refused_to_write (Message k fault) n before after told = absurd told
+    refused_to_write (Rule k rule) n before after told = absurd told
+    refused_to_write (TooManyIds k) n before after told = absurd told
+    refused_to_write (Incomplete client adapter) n before after told = absurd told
+    refused_to_write ReadFault n before after told = absurd told
+    refused_to_write WriteFault n before after told = absurd told
+    refused_to_write Memory n before after told = tt
 
     -- the record is taken
     pub taken : (new : Judge) (before after : List ℕ) → length (text_of named.doc) ≤ old.limits.frame.content → after ≡ before ++ record_of named

@@ -5,9 +5,9 @@ pub mod Deciding
 pub mod Filled
 pub mod FrameFacts
 pub mod Going
+pub mod InputAnswers
 pub mod JudgedRecords
 pub mod JudgingLoop
-pub mod KeptRules
 pub mod NormalTexts
 pub mod Outcomes
 pub mod RecordingFacts
