@@ -22,6 +22,8 @@ mod failing_devices;
 #[cfg(test)]
 mod fault_lines;
 #[cfg(test)]
+mod normalise_refused_growths;
+#[cfg(test)]
 mod normalising;
 #[cfg(test)]
 mod recordings;
@@ -29,5 +31,7 @@ mod recordings;
 mod refused_growths;
 #[cfg(test)]
 mod refused_growths_of_messages;
+#[cfg(test)]
+mod session_rules;
 #[cfg(test)]
 mod typed_recordings;

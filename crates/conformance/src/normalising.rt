@@ -6,8 +6,8 @@ use crate::recordings::{
 };
 use dap_frame::{FrameFault, FrameLimits};
 use dapnorm::{
-    Limits, MemorySink, MemorySource, MessageFault, RecordCause, Refused, Rule, check,
-    normalise, normalise_bytes,
+    Job, Limits, MemorySink, MemorySource, MessageFault, RecordCause, Refused, Rule, check, job,
+    normalise, normalise_bytes, run_stream,
 };
 use std::alloc::Global;
 use std::test::Fail;
@@ -26,7 +26,7 @@ const NORMAL_FORMS: [(&[Line], &[Line]); 14] = [
         // An adapter that numbers nothing.
         (&[(">", "{\"arguments\":{\"adapterID\":\"mock\"},\"command\":\"initialize\",\"seq\":7,\"type\":\"request\"}"), ("<", "{\"command\":\"initialize\",\"request_seq\":7,\"seq\":0,\"success\":true,\"type\":\"response\"}"), ("<", "{\"event\":\"initialized\",\"seq\":0,\"type\":\"event\"}"), (">", "{\"command\":\"configurationDone\",\"seq\":9,\"type\":\"request\"}"), ("<", "{\"command\":\"configurationDone\",\"request_seq\":9,\"seq\":0,\"success\":true,\"type\":\"response\"}")], &[INITIALIZE, FILLED_RESPONSE, ("<", "{\"event\":\"initialized\",\"seq\":1,\"type\":\"event\"}"), CONFIGURATION_DONE, ("<", "{\"command\":\"configurationDone\",\"request_seq\":2,\"seq\":1,\"success\":true,\"type\":\"response\"}")]),
         // Frame ids.
-        (&[INITIALIZE, INITIALIZE_RESPONSE, STACK_TRACE, ("<", "{\"body\":{\"stackFrames\":[{\"column\":1,\"id\":1000,\"line\":3,\"name\":\"f\"},{\"column\":1,\"id\":1001,\"line\":9,\"name\":\"g\"}]},\"command\":\"stackTrace\",\"request_seq\":2,\"seq\":2,\"success\":true,\"type\":\"response\"}")], &[INITIALIZE, FILLED_RESPONSE, STACK_TRACE, ("<", "{\"body\":{\"stackFrames\":[{\"column\":1,\"id\":1,\"line\":3,\"name\":\"f\"},{\"column\":1,\"id\":2,\"line\":9,\"name\":\"g\"}]},\"command\":\"stackTrace\",\"request_seq\":2,\"seq\":2,\"success\":true,\"type\":\"response\"}")]),
+        (&[INITIALIZE, INITIALIZE_RESPONSE, STACK_TRACE, FRAMES], &[INITIALIZE, FILLED_RESPONSE, STACK_TRACE, ("<", "{\"body\":{\"stackFrames\":[{\"column\":1,\"id\":1,\"line\":3,\"name\":\"f\"},{\"column\":1,\"id\":2,\"line\":9,\"name\":\"g\"}]},\"command\":\"stackTrace\",\"request_seq\":2,\"seq\":2,\"success\":true,\"type\":\"response\"}")]),
         // Frame ids exchanged.
         (&[INITIALIZE, INITIALIZE_RESPONSE, STACK_TRACE, ("<", "{\"body\":{\"stackFrames\":[{\"column\":1,\"id\":1001,\"line\":3,\"name\":\"f\"},{\"column\":1,\"id\":1000,\"line\":9,\"name\":\"g\"}]},\"command\":\"stackTrace\",\"request_seq\":2,\"seq\":2,\"success\":true,\"type\":\"response\"}")], &[INITIALIZE, FILLED_RESPONSE, STACK_TRACE, ("<", "{\"body\":{\"stackFrames\":[{\"column\":1,\"id\":1,\"line\":3,\"name\":\"f\"},{\"column\":1,\"id\":2,\"line\":9,\"name\":\"g\"}]},\"command\":\"stackTrace\",\"request_seq\":2,\"seq\":2,\"success\":true,\"type\":\"response\"}")]),
         // Variables references, of which a zero stays.
@@ -68,7 +68,7 @@ fn normal_forms(rt: HostRuntime) -> Result<(), Fail> {
         assert_eq!(rt; sink.bytes(), wanted.as_slice());
         match normalise_bytes(alloc, input.as_slice(), LIMITS) {
             Ok(normalised) => assert_eq!(rt; normalised.bytes(), wanted.as_slice()),
-            Err(refused) => assert_eq!(rt; refused, Refused::Memory),
+            Err(refused) => assert!(rt; false, "{refused}"),
         }
     }
     Ok(())
@@ -212,6 +212,42 @@ fn a_normal_text_stands_still(rt: HostRuntime) -> Result<(), Fail> {
         );
         assert_eq!(rt; answer, Ok(()));
         assert_eq!(rt; sink.bytes(), input.as_slice());
+    }
+    Ok(())
+}
+
+#[test]
+fn the_program_writes_the_normal_text_and_one_line_of_a_refusal(rt: HostRuntime) -> Result<(), Fail> {
+    let alloc = rt.alloc();
+    let configured = recording(alloc, CONFIGURED.as_slice())?;
+    let limits = Limits { ids: 1, ..LIMITS };
+    for (limits, len, line, wanted) in [
+        (LIMITS, 1709, b"".as_slice(), 0),
+        (
+            limits,
+            0,
+            b"dapnorm: record 3: TooManyIds\n".as_slice(),
+            2,
+        ),
+    ] {
+        let mut sink = MemorySink::new(alloc, 4096)?;
+        let mut errors = MemorySink::new(alloc, 4096)?;
+        let status = run_stream(
+            alloc,
+            &Job::Normalise,
+            &mut MemorySource::new(configured.as_slice()),
+            &mut sink,
+            &mut errors,
+            limits,
+        );
+        assert_eq!(rt; status, wanted);
+        assert_eq!(rt; sink.bytes().len(), len);
+        assert_eq!(rt; errors.bytes(), line);
+    }
+    let words = ["dapnorm", "normalise"];
+    match job(alloc, words.as_slice()) {
+        Ok(job) => assert_eq!(rt; job, Job::Normalise),
+        Err(fault) => assert!(rt; false, "{fault:?}"),
     }
     Ok(())
 }

@@ -49,13 +49,13 @@ module _ {R : Type 0} (left : R → Option (List ℕ)) (failures : R → ℕ) (l
   check_refuses complete WriteFault told = absurd told
   check_refuses complete Memory told = tt
 
-  module _ (sound : AreSound limits) {W U : Type 0} (out : W → Option (List ℕ)) (write_failures : W → ℕ) (writer : W) where
-    -- the reader failed behind an accepted recording, which has a normal text, or inside a record
-    not_refused : ((messages : List Sent) × IsAccepted limits bytes messages) ⊎ ((n : ℕ) × IsRefused limits bytes (Record n Cut))
-        → ((written : List ℕ) × Normalises limits bytes written) ⊎ ((n : ℕ) × IsRefused limits bytes (Record n Cut))
-    not_refused (inl accepted) = inl (_, normalised limits sound bytes accepted.0 accepted.1)
-    not_refused (inr ended) = inr ended
+  -- the reader failed behind an accepted recording, which has a normal text, or inside a record
+  not_refused : AreSound limits → ((messages : List Sent) × IsAccepted limits bytes messages) ⊎ ((n : ℕ) × IsRefused limits bytes (Record n Cut))
+      → ((written : List ℕ) × Normalises limits bytes written) ⊎ ((n : ℕ) × IsRefused limits bytes (Record n Cut))
+  not_refused sound (inl accepted) = inl (_, normalised limits sound bytes accepted.0 accepted.1)
+  not_refused sound (inr ended) = inr ended
 
+  module _ (sound : AreSound limits) {W : Type 0} (U : Type 0) (out : W → Option (List ℕ)) (write_failures : W → ℕ) (writer : W) where
     abbrev Answer : Refused → Type 0
     Answer because = Answers left failures out write_failures limits.input (Normalises limits) (IsRefused limits) {U = U} old new writer writer (Err because)
 
@@ -70,6 +70,6 @@ module _ {R : Type 0} (left : R → Option (List ℕ)) (failures : R → ℕ) (l
     normalise_refuses (Grew n) told = (refuses (Grew n) told, refl)
     normalise_refuses (Incomplete client adapter) told = absurd told.0
     normalise_refuses ReadFault told =
-        (record { bytes = bytes; came = subst (HasCome left failures old new limits.input bytes) told.0 came; not_refused = not_refused told.1 }, refl)
+        (record { bytes = bytes; came = subst (HasCome left failures old new limits.input bytes) told.0 came; not_refused = not_refused sound told.1 }, refl)
     normalise_refuses WriteFault told = absurd told
     normalise_refuses Memory told = refl

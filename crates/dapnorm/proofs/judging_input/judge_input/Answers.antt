@@ -35,6 +35,14 @@ returns-in_err-number c =
     (refused_next c.args.limits c.args.keep _ c.loop-rest.rest.now c.loop-rest.reader c.loop-rest.judge c.loop-rest.text.items c.loop-rest.number c.loop-rest.invariant c.args.bytes.now is
     c.args.stop c.in-Ok.fed.used c.in-Ok.fed.whole c.feed.new.self c.judge_next.new.self c.judge_next.new.out.items _ c.in-Ok.ensures.gives c.in_err-number.ensures.judged)
 
+pub loop-rest-preserved : goal.loop-rest-preserved
+loop-rest-preserved c =
+    subst (λ rest. Judging c.args.limits c.args.keep (take c.min.result c.args.bytes.now) rest c.feed.new.self c.judge_next.new.self c.forget.new.text.items c.in_ok-number.number)
+    (sym (take_rest c.loop-rest.rest.now c.in-Ok.fed.used))
+    (step c.args.limits c.args.keep _ c.loop-rest.rest.now c.loop-rest.reader c.loop-rest.judge c.loop-rest.text.items c.loop-rest.number c.loop-rest.invariant
+    c.in-Ok.fed.used c.in_ok-number.number c.in-Ok.fed.whole c.feed.new.self c.judge_next.new.self c.judge_next.new.out.items c.forget.new.text.items
+    c.in-Ok.ensures.gives c.in-Ok.ensures.limits c.in_ok-number.ensures.judged c.in_ok-number.ensures.limits c.forget.ensures)
+
 pub loop-rest-preserved-in_ok-number : goal.loop-rest-preserved-in_ok-number
 loop-rest-preserved-in_ok-number c =
     subst (λ rest. Judging c.args.limits c.args.keep (take c.min.result c.args.bytes.now) rest c.feed.new.self c.judge_next.new.self c.forget.new.text.items c.in_ok-number.number)
