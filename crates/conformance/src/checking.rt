@@ -214,12 +214,14 @@ fn inputs_past_the_limit(rt: HostRuntime) -> Result<(), Fail> {
         (10, Err(Refused::InputTooLong(1))),
         // The byte past the limit is the marker of the next record.
         (106, Err(Refused::InputTooLong(2))),
-        (472, Err(Refused::InputTooLong(5))),
-        (473, accepted(5, 0, 0)),
+        // The normal text of two records is longer.
+        (473, Err(Refused::Grew(2))),
+        (1708, Err(Refused::Grew(5))),
+        (1709, accepted(5, 0, 0)),
     ];
     for (input, wanted) in table {
         let limits = Limits { input, ..LIMITS };
-        assert!(rt; limits.frame.sound() && input <= 473);
+        assert!(rt; limits.frame.sound() && input <= 1709);
         let answer = check(
             alloc,
             &mut MemorySource::new(bytes.as_slice()),
@@ -244,7 +246,10 @@ fn contents_past_their_limit(rt: HostRuntime) -> Result<(), Fail> {
             81,
             Err(Refused::Record(1, RecordCause::Frame(FrameFault::ContentTooLong))),
         ),
-        (82, accepted(2, 0, 0)),
+        // The content of the second record is filled in.
+        (82, Err(Refused::Grew(2))),
+        (1314, Err(Refused::Grew(2))),
+        (1315, accepted(2, 0, 0)),
     ] {
         let limits = Limits {
             frame: FrameLimits {

@@ -22,6 +22,10 @@ mod failing_devices;
 #[cfg(test)]
 mod fault_lines;
 #[cfg(test)]
+mod normalise_refused_growths;
+#[cfg(test)]
+mod normalising;
+#[cfg(test)]
 mod recordings;
 #[cfg(test)]
 mod refused_growths;

@@ -29,7 +29,7 @@ bare = record (new_app (codes "dapnorm")) {
 
 -- what a parse reads of the program's command
 abbrev pub program : App
-program = with_subcommand (with_subcommand bare (plain (codes "compact")).top) checker.top
+program = with_subcommand (with_subcommand (with_subcommand bare (plain (codes "compact")).top) (plain (codes "normalise")).top) checker.top
 
 -- The command is this one, and its subcommands inherit no argument.
 abbrev pub IsCommand : App → Command → Type 0
@@ -38,10 +38,12 @@ IsCommand app command = (app_of command ≡ app) × ((fields_of command).has_glo
 -- a job by the texts that it was given
 pub data Told : Type 0 where
   compact : Told
+  normalise : Told
   check : Bool → Told
 
 abbrev pub told : Job → Told
 told job.Compact = compact
+told job.Normalise = normalise
 told (job.Check complete) = check complete
 
 -- the text behind a reference that may be there
@@ -57,6 +59,7 @@ is_set (Some text) = bytes_eq text (codes "true")
 abbrev pub job_of : Text → List Row → Option Told
 job_of name rows =
     if bytes_eq name (codes "compact") then Some compact
+    else if bytes_eq name (codes "normalise") then Some normalise
     else if bytes_eq name (codes "check") then Some (check (is_set (first_of (codes "complete") rows)))
     else None
 

@@ -8,7 +8,7 @@ use Rattle.dap_tree.specs.Doc.{Doc}
 use Rattle.dap_tree.specs.Json.{IsRead, HasFraction, HasNoReading, text_of}
 use Rattle.dapnorm.specs.declared.limits.Limits.{Limits}
 use Rattle.dapnorm.specs.declared.refused.Refused.{Refused}
-use Rattle.dapnorm.specs.declared.refused.Refused.TheVariants.{InputTooLong, Record, Json, Fraction, Message, Rule, Grew, Incomplete, ReadFault, WriteFault, Memory}
+use Rattle.dapnorm.specs.declared.refused.Refused.TheVariants.{InputTooLong, Record, Json, Fraction, Message, Rule, TooManyIds, Grew, Incomplete, ReadFault, WriteFault, Memory}
 use Rattle.dapnorm.specs.Limits.{AreSound}
 use Rattle.dapnorm.specs.Judging.{Judging, faulty, input_too_long, cut, objected, IsFirstRefusal, HasOneOutcome, RefusalStays}
 
@@ -79,6 +79,7 @@ IsRefused limits whole (Json n) = IsFirstRefusal (compacting limits) whole n (ob
 IsRefused limits whole (Fraction n) = IsFirstRefusal (compacting limits) whole n (objected fraction)
 IsRefused limits whole (Message n fault) = ⊥
 IsRefused limits whole (Rule n rule) = ⊥
+IsRefused limits whole (TooManyIds n) = ⊥
 IsRefused limits whole (Grew n) = IsFirstRefusal (compacting limits) whole n (objected grown)
 IsRefused limits whole (Incomplete client adapter) = ⊥
 IsRefused limits whole ReadFault = ⊥

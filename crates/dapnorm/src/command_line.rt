@@ -63,7 +63,13 @@ fn command<'a>(alloc: Global) -> Result<Command<'a>, AllocError>
         "compact",
         "Makes the contents of frames canonical, from standard input to standard output",
     )?;
-    with_other(compact, check)
+    let normalise = with_plain(
+        compact,
+        alloc,
+        "normalise",
+        "Writes the normal form of a recording, from standard input to standard output",
+    )?;
+    with_other(normalise, check)
 }
 
 /// Whether a flag's value is there and set.
@@ -82,6 +88,7 @@ fn job_by(name: &str, rows: &ArgMatches<'_>) -> Option<Job>
 {
     match name {
         "compact" => Some(Job::Compact),
+        "normalise" => Some(Job::Normalise),
         "check" => {
             let complete = is_true(rows.get_str("complete"));
             Some(Job::Check { complete })

@@ -27,6 +27,9 @@ pub enum Refused {
     /// The message of this record breaks a rule of its session.
     #[error("record {0}: {1}")]
     Rule(u64, Rule),
+    /// With this record, some sort has more distinct ids than the limit.
+    #[error("record {0}: TooManyIds")]
+    TooManyIds(u64),
     /// With this record, the text to be written would pass a limit.
     #[error("record {0}: Grew")]
     Grew(u64),

@@ -1,7 +1,9 @@
 //! Does a job, and tells of it what the program tells: lines and a status.
 ghost use Rattle.std.specs.Prelude.{◌≡◌, ◌+◌, ◌<◌, ◌≤◌, ◌^◌, Bool};
 ghost use Rattle.dapnorm.specs.Compacting.{Compacts, IsRefused};
+ghost use Rattle.dapnorm.specs.Accepting.{IsRefused as IsRecordingRefused};
 ghost use Rattle.dapnorm.specs.Limits.{AreSound};
+ghost use Rattle.dapnorm.specs.Normalising.{Normalises};
 ghost use Rattle.dapnorm.specs.Run.{Answered, CheckIsTold, HasPrinted, TellsUsage, status_of};
 
 use crate::checked::Checked;
@@ -10,6 +12,7 @@ use crate::compacting::compact;
 use crate::device::{Sink, Source};
 use crate::jobs::{Job, UsageFault};
 use crate::limits::Limits;
+use crate::normalising::normalise;
 use crate::refused::Refused;
 use crate::writing::write_and_flush;
 use arrayvec::ArrayString;
@@ -91,6 +94,9 @@ pub fn run_stream<R: Source, W: Sink, E: Sink>(
     // The output is what the engine writes, and the status that of its answer.
     ensures compact { job.now ≡ Job.Compact → Answered R.left R.failures W.out W.failures limits.input (Compacts limits) (IsRefused limits) reader.old reader.new writer.old writer.new result }
 
+    // The output is the normal text that `normalise` writes, and the status that of its answer.
+    ensures normalise { job.now ≡ Job.Normalise → Answered R.left R.failures W.out W.failures limits.input (Normalises limits) (IsRecordingRefused limits) reader.old reader.new writer.old writer.new result }
+
     // The output is the line of what `check` accepts, and the status that of its answer or of a writer that failed.
     ensures check { (complete : Bool) → job.now ≡ Job.Check complete → CheckIsTold R.left R.failures W.out W.failures limits complete reader.old reader.new writer.old writer.new result }
 
@@ -99,6 +105,7 @@ pub fn run_stream<R: Source, W: Sink, E: Sink>(
 {
     let answer = match *job {
         Job::Compact => compact(alloc, reader, writer, limits),
+        Job::Normalise => normalise(alloc, reader, writer, limits),
         Job::Check { complete } => print(writer, check(alloc, reader, limits, complete)),
     };
     if let Err(refused) = answer {

@@ -1,0 +1,10 @@
+pub mod Additions
+pub mod Naming
+pub mod Related
+pub mod Pairing
+pub mod Occurring
+pub mod Sameness
+pub mod Normals
+pub mod Places
+pub mod Grown
+pub mod Standing

@@ -1,0 +1,19 @@
+-- Places in a list.
+use Rattle.std.proofs.Common.{◌≡◌, ℕ, zero, suc, ◌+◌, ◌<◌, ◌≤◌, ℤ, pos, Bool, true, false, cond, List, [], ◌∷◌, ◌++◌, length, refl, sym, ◌∙◌, ap, arith, MatchOption, Some, None, Option}
+use Rattle.std.proofs.lemmas.Bool.{ltb-true, le-ltb, ltb-false}
+use lib.Dec.{ltb}
+use Rattle.std.specs.List.{list_any, position_or_len, position}
+use Rattle.dap_rename.proofs.Additions.{by_bool, place_below, place_missing}
+
+pub position_tells : {X : Type 0} (p : X → Bool) (xs : List X) (o : Option ℕ) → o ≡ position p xs →
+    MatchOption o (list_any p xs ≡ false) (λ i. (list_any p xs ≡ true) × (pos (suc (position_or_len p xs)) ≡ pos (suc i)) × (i < length xs))
+position_tells p xs o e =
+    by_bool (list_any p xs)
+    (λ h. let l = place_below p xs h in
+    let t : ltb (position_or_len p xs) (length xs) ≡ true = grind arith in
+    let q : o ≡ Some (position_or_len p xs) = rw t at e in
+    rw q (h, refl, l))
+    (λ h. let l = place_missing p xs h in
+    let t : ltb (position_or_len p xs) (length xs) ≡ false = le-ltb (position_or_len p xs) (length xs) (omega arith) in
+    let q : o ≡ None = rw t at e in
+    rw q h)

@@ -1,0 +1,125 @@
+-- Lists of messages: their ids, what it is that one list is a renaming of another, and the normal form.
+use Rattle.std.specs.Prelude.{◌≡◌, ℕ, ◌+◌, ◌<◌, ◌≤◌, ℤ, Bool, true, ◌&&◌, eqb, List, [], ◌∷◌, ◌++◌, length, map}
+use Rattle.std.specs.List.{AllByRecursion}
+use Rattle.dap_tree.specs.Ids.{ids, skeleton, with_ids}
+use Rattle.dap_tree.specs.declared.sort.Sort.{Sort}
+use Rattle.dap_tree.specs.declared.sort.Sort.TheVariants.{ClientSeq, AdapterSeq, Frame, Reference}
+use Rattle.dap_message.specs.Message.{Sent}
+use Rattle.dap_message.specs.Numbers.{is_proper_number, is_proper}
+use Rattle.dap_rename.specs.Numbering.{table, named, IsFresh}
+use Rattle.dap_rename.specs.Renamings.{IsRenaming, AreRelated, pairs}
+
+-- ---- classes
+
+-- A class of ids (own): a sort, and how many times classes began anew before. Ids of different classes have nothing to do with each other.
+abbrev pub Class : Type 0
+Class = Sort × ℕ
+
+abbrev pub sort_number : Sort → ℕ
+sort_number ClientSeq = 0
+sort_number AdapterSeq = 1
+sort_number Frame = 2
+sort_number Reference = 3
+
+abbrev pub same_class : Class → Class → Bool
+same_class c d = eqb (sort_number c.0) (sort_number d.0) && eqb c.1 d.1
+
+-- The class of an id of this sort, behind so many stops (own). Frames and references are good until the debuggee goes on (DAP specification, "Lifetime of Objects References"); sequence numbers are of the whole recording.
+abbrev pub class_after : ℕ → Sort → Class
+class_after stops ClientSeq = (ClientSeq, 0)
+class_after stops AdapterSeq = (AdapterSeq, 0)
+class_after stops Frame = (Frame, stops)
+class_after stops Reference = (Reference, stops)
+
+-- What says how many stops a message is: behind them the classes of frames and references begin anew. In a whole recording no message is one (own), so that there is one class for each sort.
+abbrev pub in_whole : Sent → ℕ
+in_whole m = 0
+
+-- ---- ids
+
+-- The occurrence that an id is, behind so many stops.
+abbrev pub occurrence : ℕ → Sort × ℤ → Class × ℤ
+occurrence stops i = (class_after stops i.0, i.1)
+
+-- A number of a class that may be an id: a variables reference of 0 is none (DAP specification, Variable.variablesReference).
+abbrev pub IsProperId : Class × ℤ → Type 0
+IsProperId o = is_proper_number o.0.0 o.1 ≡ true
+
+-- No id of the messages is a variables reference of 0.
+abbrev pub AreProper : List Sent → Type 0
+AreProper ms = AllByRecursion (λ m. is_proper m.doc ≡ true) ms
+
+-- The message with 0 for the number of each id (own): what two messages share that differ at most in the numbers of their ids.
+abbrev pub message_skeleton : Sent → Sent
+message_skeleton m = record { side = m.side; doc = skeleton m.doc }
+
+-- The names of the ids of a message behind these occurrences and so many stops.
+abbrev pub names_of : List (Class × ℤ) → ℕ → Sent → List ℤ
+names_of before stops m = map (λ o. o.1) (named same_class before (map (occurrence stops) (ids m.doc)))
+
+module _ (stop : Sent → ℕ) where
+  -- How many stops there are behind the messages, if there were so many before them.
+  abbrev pub stops_after : ℕ → List Sent → ℕ
+  stops_after stops [] = stops
+  stops_after stops (m ∷ ms) = stops_after (stops + stop m) ms
+
+  -- All ids (own): by position, and within a message in the order of its text.
+  abbrev pub occurrences : ℕ → List Sent → List (Class × ℤ)
+  occurrences stops [] = []
+  occurrences stops (m ∷ ms) = map (occurrence stops) (ids m.doc) ++ occurrences (stops + stop m) ms
+
+  -- The distinct numbers of a class in the messages, in the order of their first occurrence (own).
+  abbrev pub numbers_of_class : Class → List Sent → List ℤ
+  numbers_of_class c ms = table same_class c (occurrences 0 ms)
+
+  -- No class has more distinct numbers than the limit of its sort (own).
+  abbrev pub HasFewIds : (Sort → ℕ) → List Sent → Type 0
+  HasFewIds limit ms = (c : Class) → length (numbers_of_class c ms) ≤ limit c.0
+
+  -- Some class has more (own).
+  pub record HasTooManyIds (limit : Sort → ℕ) (ms : List Sent) : Type 0 where
+    pub of : Class
+    pub many : limit of.0 < length (numbers_of_class of ms)
+
+  -- ---- renamings
+
+  -- The entries carry the one list to the other (own): the messages are equal but for the numbers of their ids, and at each id an entry of its class takes the number of the one and gives that of the other.
+  abbrev pub Carries : List (Class × ℤ × ℤ) → List Sent → List Sent → Type 0
+  Carries r ms ns = (map message_skeleton ms ≡ map message_skeleton ns) × AreRelated r (occurrences 0 ms) (occurrences 0 ns)
+
+  -- Some renaming carries the one list to the other (own).
+  unfoldable pub AreSame : List Sent → List Sent → Type 0
+  AreSame ms ns = (r : List (Class × ℤ × ℤ)) × IsRenaming IsProperId r × Carries r ms ns
+
+  -- ---- the normal form
+
+  -- The names are given by first appearance: each id is known in its class, or one more than the count of those before it (own).
+  abbrev pub AreFresh : List Sent → Type 0
+  AreFresh ms = IsFresh same_class (occurrences 0 ms)
+
+  -- n is a normal form of ms: the same messages, with names by first appearance (own).
+  unfoldable pub IsNormal : List Sent → List Sent → Type 0
+  IsNormal ms n = AreSame ms n × AreFresh n
+
+  -- The message m with the names that its ids get behind the messages ms (own).
+  pub record IsRenamed (ms : List Sent) (m new : Sent) : Type 0 where
+    pub skeleton : message_skeleton new ≡ message_skeleton m
+    pub names : map (occurrence (stops_after 0 ms)) (ids new.doc) ≡ named same_class (occurrences 0 ms) (map (occurrence (stops_after 0 ms)) (ids m.doc))
+
+  -- The messages with the names of their ids, behind these occurrences and so many stops.
+  abbrev pub normal_from : List (Class × ℤ) → ℕ → List Sent → List Sent
+  normal_from before stops [] = []
+  normal_from before stops (m ∷ ms) =
+      record { side = m.side; doc = with_ids m.doc (names_of before stops m) } ∷ normal_from (before ++ map (occurrence stops) (ids m.doc)) (stops + stop m) ms
+
+  -- The messages with the names of their ids (own).
+  abbrev pub normal_of : List Sent → List Sent
+  normal_of ms = normal_from [] 0 ms
+
+-- The classes of whole recordings, in the order of the sorts.
+abbrev pub whole_classes : List Class
+whole_classes = (ClientSeq, 0) ∷ (AdapterSeq, 0) ∷ (Frame, 0) ∷ (Reference, 0) ∷ []
+
+-- Sort by sort, the i-th distinct number of the one list with the i-th of the other (own).
+abbrev pub equal_places : List Sent → List Sent → List (Class × ℤ × ℤ)
+equal_places ms ns = pairs same_class whole_classes (occurrences in_whole 0 ms) (occurrences in_whole 0 ns)

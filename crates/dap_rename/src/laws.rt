@@ -1,0 +1,50 @@
+//! Theorems on renamings and on the normal form, which hold of all lists of messages. Each function does nothing: a call of it gives its clauses to a proof.
+ghost use Rattle.dap_rename.specs.Laws.{WholeIsTold, SameAsItself, SameBothWays, SameAlong, SameIsProper, SameFronts, SameCounts, FrontHasFewIds};
+ghost use Rattle.dap_rename.specs.Laws.{FreshIsUnique, NormalIsUnique, NormalIsComplete, NamedIsNormal, SomeNormal, NormalIsItsOwn, NormalOfFront, NormalOfNext, NamesAreCounted, NamesAreSmall, EqualPlacesCarry};
+
+/// Being the same is an equivalence on the lists without a variables reference of 0.
+pub fn same_is_equivalence()
+    ensures itself { SameAsItself }
+    ensures both_ways { SameBothWays }
+    ensures along { SameAlong }
+    ensures proper { SameIsProper }
+{}
+
+/// What lists that are the same share.
+pub fn same_share()
+    ensures fronts { SameFronts }
+    ensures counts { SameCounts }
+    ensures few { FrontHasFewIds }
+{}
+
+/// Lists have one normal form exactly where they are the same.
+pub fn one_normal_form()
+    ensures fresh { FreshIsUnique }
+    ensures unique { NormalIsUnique }
+    ensures complete { NormalIsComplete }
+    ensures own { NormalIsItsOwn }
+{}
+
+/// Every list has a normal form: the messages with the names of their ids.
+pub fn some_normal_form()
+    ensures named { NamedIsNormal }
+    ensures some { SomeNormal }
+    ensures told { WholeIsTold }
+{}
+
+/// The normal form grows message by message.
+pub fn normal_form_grows()
+    ensures front { NormalOfFront }
+    ensures next { NormalOfNext }
+{}
+
+/// Names are counted from 1, up to the count of the distinct numbers of their class.
+pub fn names_are_small()
+    ensures counted { NamesAreCounted }
+    ensures small { NamesAreSmall }
+{}
+
+/// Of lists that are the same, the pairs of equal places carry the one to the other.
+pub fn equal_places_carry()
+    ensures { EqualPlacesCarry }
+{}
