@@ -5,12 +5,12 @@ use Rattle.dap_tree.specs.declared.side.Side.{Side}
 use Rattle.dap_tree.specs.declared.side.Side.TheVariants.{Client, Adapter}
 use Rattle.dap_tree.specs.declared.sort.Sort.{Sort}
 use Rattle.dap_tree.specs.declared.sort.Sort.TheVariants.{ClientSeq, AdapterSeq}
-use Rattle.std.proofs.Common.{◌≡◌, ℕ, ℤ, Bool, true, false, cond, ◌&&◌, List, [], ◌∷◌, Option, Some, None, option_map, codes, refl, sym, ◌∙◌, ap, subst, bytes_eq}
+use Rattle.std.proofs.Common.{◌≡◌, ℕ, ℤ, Bool, true, false, cond, ◌&&◌, List, [], ◌∷◌, Option, Some, None, option_map, codes, refl, sym, ◌∙◌, ap}
 use Rattle.std.specs.Option.{option_map_or}
 use Rattle.dap_message.specs.Capabilities.{filled}
-use Rattle.dap_message.specs.Faults.{fault, row_broken, has_kind}
+use Rattle.dap_message.specs.Faults.{row_broken, has_kind}
 use Rattle.dap_message.specs.Marks.{made, made_by, marked, mark, mark_row, mark_rows, top, sort_of}
-use Rattle.dap_message.specs.Message.{Sent, IsTyped}
+use Rattle.dap_message.specs.Message.{IsTyped}
 use Rattle.dap_message.specs.Places.{named, is_object, fits_place}
 use Rattle.dap_message.specs.Profile.{profile}
 use Rattle.dap_message.specs.Rows.{ProfileRow, row_fault, first_fault, of_row, is_asked, is_of_kind, type_name, is_text, has_type, judged, broken_at, first_cause, is_null, is_id_number}
@@ -19,7 +19,7 @@ use Rattle.dap_message.specs.declared.profile.Kind.{Kind}
 use Rattle.dap_message.specs.declared.profile.Kind.TheVariants.{Request, Response, Event}
 use Rattle.dap_message.specs.declared.profile.Want.{Want}
 use Rattle.dap_message.specs.declared.profile.Want.TheVariants.{Text, OwnSeq, OtherSeq}
-use Rattle.dap_message.proofs.Envelopes.{seen-mark, text_there, get-filled, free_cause, one_cause, free_at, fault_parts, rows_free}
+use Rattle.dap_message.proofs.Envelopes.{seen-mark, get-filled, free_cause, one_cause, free_at, fault_parts, rows_free}
 use Rattle.dap_message.proofs.Marking.{asked-mark_row}
 use Rattle.dap_session.specs.Messages.{other}
 use Rattle.dap_session.specs.Renamed.{id_sort, seq_sort, IsNumbered}

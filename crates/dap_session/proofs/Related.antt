@@ -2,7 +2,7 @@
 use Rattle.dap_tree.specs.Doc.{Doc, null, boolean, whole, text, list, object, id, Items, no_items, item, Members, no_members, member, get, get_member}
 use Rattle.dap_tree.specs.Ids.{ids, items_ids, members_ids, skeleton, items_skeleton, members_skeleton}
 use Rattle.dap_tree.specs.declared.sort.Sort.{Sort}
-use Rattle.std.proofs.Common.{◌≡◌, ℕ, ℤ, List, [], ◌∷◌, ◌++◌, Option, Some, None, Ordering, Less, Equal, Greater, nat_cmp, subst, append_assoc, append-nil, sym}
+use Rattle.std.proofs.Common.{◌≡◌, ℕ, ℤ, List, [], ◌++◌, Option, Some, None, Ordering, Less, Equal, Greater, nat_cmp, subst, append_assoc, append-nil, sym}
 use Rattle.std.specs.List.{AllZip}
 use Rattle.std.specs.Cmp.Lexicographic.{slice_cmp}
 use Rattle.std.specs.Ordering.{match_ordering}

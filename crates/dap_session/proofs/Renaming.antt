@@ -2,7 +2,7 @@
 use Rattle.dap_tree.specs.declared.side.Side.{Side}
 use Rattle.dap_tree.specs.declared.side.Side.TheVariants.{Client, Adapter}
 use Rattle.dap_tree.specs.declared.sort.Sort.{Sort}
-use Rattle.std.proofs.Common.{◌≡◌, ℕ, ◌+◌, ℤ, Bool, true, false, cond, not, ◌&&◌, ◌||◌, List, [], ◌∷◌, ◌++◌, Option, Some, None, codes, sym, ap, ◌∙◌, refl, subst, arith}
+use Rattle.std.proofs.Common.{◌≡◌, ℕ, ℤ, Bool, true, false, cond, not, ◌&&◌, ◌||◌, List, [], ◌∷◌, ◌++◌, Option, Some, None, codes, sym, ap, ◌∙◌, refl, subst, arith}
 use Rattle.std.specs.Str.{bytes_eq}
 use Rattle.std.specs.List.{All, AllZip, list_any, count_by}
 use Rattle.std.specs.Ordering.{int_eq}
@@ -11,7 +11,7 @@ use Rattle.dap_message.specs.Message.{Sent}
 use Rattle.dap_message.specs.declared.profile.Kind.TheVariants.{Request, Response, Event}
 use Rattle.dap_session.specs.declared.rule.Rule.{Rule}
 use Rattle.dap_session.specs.declared.rule.Rule.TheVariants.{EventFromClient, NotInitialized, StillInitializing, InitializeTwice, AfterDisconnect, SeqUsed, ConfiguredEarly, ConfiguredTwice, NoRequest, AnsweredTwice, OtherCommand}
-use Rattle.dap_session.specs.Messages.{side_of, kind_of, name_of, seq_of, request_seq_of, success_of, other, same_side, same_kind, is_number, is_yes, is_request, is_response, is_event, is_from, is_named, is_request_of, is_response_to, is_initialize, is_client_initialize, is_configuration_done, is_initialized, is_farewell, is_output}
+use Rattle.dap_session.specs.Messages.{side_of, name_of, seq_of, request_seq_of, other, same_side, same_kind, is_number, is_yes, is_request, is_response, is_event, is_from, is_named, is_request_of, is_response_to, is_initialize, is_client_initialize, is_configuration_done, is_initialized, is_farewell, is_output}
 use Rattle.dap_session.specs.Renamed.{seq_sort, IsNumbered, AreRenamed, IsOneToOne}
 use Rattle.dap_session.specs.Rules.{at_number, is_answered, is_initializing, is_broken, rules, first_of, first_broken, open_requests, KeepsRules}
 use Rattle.dap_session.proofs.Alike.{NumbersTied, Alike, all_alike}

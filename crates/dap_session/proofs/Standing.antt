@@ -1,5 +1,5 @@
 -- A session stands for one more message.
-use Rattle.std.proofs.Common.{◌≡◌, ℕ, ℤ, Bool, true, false, cond, not, ◌&&◌, ◌||◌, List, [], ◌∷◌, ◌++◌, Option, Some, None, option_map, ◌⊎◌, inl, inr, sym, ap, ◌∙◌, refl, subst, arith}
+use Rattle.std.proofs.Common.{◌≡◌, ℕ, ℤ, Bool, true, false, cond, not, ◌&&◌, ◌||◌, List, [], ◌∷◌, ◌++◌, Option, Some, None, option_map, sym, ap, ◌∙◌, refl, subst, arith}
 use Rattle.std.specs.Str.{bytes_eq}
 use Rattle.std.specs.List.{list_any}
 use Rattle.std.specs.Option.{is_some}
@@ -10,7 +10,7 @@ use Rattle.dap_session.specs.declared.rule.Rule.{Rule}
 use Rattle.dap_session.specs.declared.rule.Rule.TheVariants.{EventFromClient, NotInitialized, StillInitializing, InitializeTwice, AfterDisconnect, SeqUsed, ConfiguredEarly, ConfiguredTwice, NoRequest, AnsweredTwice, OtherCommand}
 use Rattle.dap_session.specs.declared.phase.Phase.TheVariants.{Waiting}
 use Rattle.dap_session.specs.Messages.{side_of, name_of, seq_of, request_seq_of, other, is_number, is_request, is_response, is_from, is_request_of, is_response_to, is_initialize, is_client_initialize, is_configuration_done, is_initialized, is_farewell, is_output}
-use Rattle.dap_session.specs.Rules.{at_number, is_answered, is_broken, rules, first_of, first_broken, KeepsRules, open_requests}
+use Rattle.dap_session.specs.Rules.{at_number, is_answered, is_broken, rules, first_of, first_broken, open_requests}
 use Rattle.dap_session.specs.Kept.{Kept, Requests, Noted, found, requests_of, phase_after, kept_after}
 use Rattle.dap_session.specs.Judged.{judged, tells, found_at, has_answer, has_other_command}
 use Rattle.dap_session.specs.Standing.{Stands, AreRequests, IsPhase, request_at}

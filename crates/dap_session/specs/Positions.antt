@@ -1,6 +1,5 @@
 -- The rules as statements over the positions of a list of messages, from 0.
-use Rattle.std.specs.Prelude.{◌≡◌, ℕ, ◌<◌, ℤ, true, List, ◌∷◌, ◌++◌, length, Some, codes, MatchOption}
-use Rattle.std.specs.Bool.{Decides}
+use Rattle.std.specs.Prelude.{◌≡◌, ℕ, ◌<◌, ℤ, true, List, Some, codes}
 use Rattle.std.specs.List.{slice_get}
 use Rattle.dap_tree.specs.declared.side.Side.{Side}
 use Rattle.dap_tree.specs.declared.side.Side.TheVariants.{Client, Adapter}
@@ -9,7 +8,7 @@ use Rattle.dap_message.specs.Message.{Sent}
 use Rattle.dap_session.specs.declared.rule.Rule.{Rule}
 use Rattle.dap_session.specs.declared.rule.Rule.TheVariants.{EventFromClient, NotInitialized, StillInitializing, InitializeTwice, AfterDisconnect, SeqUsed, ConfiguredEarly, ConfiguredTwice, NoRequest, AnsweredTwice, OtherCommand}
 use Rattle.dap_session.specs.Messages.{side_of, kind_of, name_of, seq_of, request_seq_of, success_of, other}
-use Rattle.dap_session.specs.Rules.{is_broken, rules, first_broken}
+use Rattle.dap_session.specs.Rules.{rules}
 
 -- It is from this side.
 abbrev pub IsFrom : Side → Sent → Type 0

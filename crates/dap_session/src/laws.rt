@@ -1,4 +1,5 @@
-//! Theorems on the rules, which hold of all lists of messages. Each function does nothing: a call of it gives its clauses to a proof.
+//! Theorems on the rules, which hold of all lists of messages. Each function does nothing: a call
+//! of it gives its clauses to a proof.
 ghost use Rattle.dap_session.specs.Laws.{RulesByPosition, FirstByPosition, NoneKeepRules, KeepsOneMore, FrontKeepsRules, KeepsOrBreaks, TypedIsNumbered, RenamedIsNumbered, RenamingKeepsRules, RenamingKeepsOpen, RenamingKeepsKept};
 
 /// The tests of the rules, over the messages before one, say what the rules say over positions.
@@ -21,7 +22,8 @@ pub fn numbers_of_sides()
     ensures renamed { RenamedIsNumbered }
 {}
 
-/// Other numbers at the ids change nothing of what the rules say, if equal sequence numbers stay equal and others stay apart.
+/// Other numbers at the ids change nothing of what the rules say, if equal sequence numbers stay
+/// equal and others stay apart.
 pub fn renaming_keeps_rules()
     ensures first { RenamingKeepsRules }
     ensures open { RenamingKeepsOpen }

@@ -1,7 +1,8 @@
 //! The rules of a session of the Debug Adapter Protocol, judged message by message.
 //!
-//! A [`Session`] takes the messages of both sides in their order, and names the first [`Rule`] that one breaks. `specs/`
-//! states the rules over the list of messages, and [`laws`] has the theorems.
+//! A [`Session`] takes the messages of both sides in their order, and names the first [`Rule`]
+//! that one breaks. `specs/` states the rules over the list of messages, and [`laws`] has the
+//! theorems.
 #![tactic(auto)]
 
 pub mod laws;

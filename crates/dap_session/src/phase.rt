@@ -9,9 +9,11 @@ use dap_message::{Message, Side};
 /// How far the client's `initialize` request has come.
 #[derive(Clone, Copy)]
 pub enum Phase {
+    /// It has not come.
     Waiting,
-    /// By the request of this number, which has no answer.
+    /// It has this number, and no response.
     Asked(i64),
+    /// The adapter has responded to it.
     Answered,
 }
 
@@ -42,6 +44,7 @@ impl Phase {
         }
     }
 
+    /// How far it has come after one more message.
     pub fn after(&self, message: &Message) -> Phase
         ensures { result ≡ kept.phase_after self.now (sent message.now) }
     {

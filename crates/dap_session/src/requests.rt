@@ -10,6 +10,7 @@ use std::alloc::{AllocError, Global};
 use std::collections::BTreeMap;
 use std::marker::Model;
 
+/// A request that was taken.
 #[derive(Drop)]
 pub struct Request {
     command: String,
@@ -64,6 +65,7 @@ impl Requests {
         }
     }
 
+    /// Keeps a request with a new number.
     pub fn ask(&mut self, number: i64, command: &str) -> Result<(), AllocError>
         requires { found number self.old ≡ None }
         ensures ok { OnOk result (self.new ≡ with_request number command.now self.old) }
@@ -82,6 +84,7 @@ impl Requests {
         Ok(())
     }
 
+    /// Marks the request of this number, which has this command and no response, as answered.
     fn answer(&mut self, number: i64, command: &str)
         requires { found number self.old ≡ Some (command.now, false) }
         ensures { self.new ≡ with_answer number command.now self.old }

@@ -1,9 +1,9 @@
 use thiserror::Error;
 
-/// What a message may break, in the order in which it is told: of several broken rules the first is named.
+/// What a message may break, in the order in which it is told: of several the first is named.
 ///
-/// An `output` event of the adapter breaks none. The rules are the DAP specification's, but for `AfterDisconnect` and
-/// `ConfiguredTwice`, which are this project's own.
+/// An `output` event of the adapter breaks none. The rules are the DAP specification's, but for
+/// `AfterDisconnect` and `ConfiguredTwice`, which are this project's own.
 #[derive(Clone, Copy, Debug, PartialEq, Eq, Drop, Error)]
 pub enum Rule {
     /// An event of the client.
@@ -12,7 +12,7 @@ pub enum Rule {
     /// A message before the client's `initialize` request.
     #[error("NotInitialized")]
     NotInitialized,
-    /// A message other than an adapter's response, while the client's `initialize` request has no response.
+    /// Anything but a response of the adapter, while the client's `initialize` has no response.
     #[error("StillInitializing")]
     StillInitializing,
     /// An `initialize` request of either side after the client's.

@@ -19,8 +19,8 @@ use std::marker::Model;
 
 /// What the rules need to know of the messages so far, of both sides.
 ///
-/// Of a request it keeps the number, the command and whether it is answered; of all else a few flags. A message is judged in
-/// time that grows with the logarithm of the number of requests.
+/// Of a request it keeps the number, the command and whether it is answered; of all else a few
+/// flags. The time to judge a message grows with the logarithm of the number of requests.
 #[derive(Drop)]
 pub struct Session {
     client: Requests,
@@ -58,11 +58,14 @@ impl Session {
 
     /// Takes the message as the next one, or names the first rule that it breaks.
     ///
-    /// After a refusal the session is as it was. `Memory` comes for requests alone, where a growth was refused.
+    /// After a refusal the session is as it was. `Memory` comes for requests alone, where a growth
+    /// was refused.
     pub fn accept(&mut self, message: &Message) -> Result<(), SessionFault>
-        ensures says { (ms : List Sent) → Stands self.old ms → Says ms (sent message.now) result self.old self.new }
+        ensures says { (ms : List Sent) → Stands self.old ms
+            → Says ms (sent message.now) result self.old self.new }
         ensures unchanged { OnErr result (self.new ≡ self.old) }
-        ensures memory { IsErrOf result SessionFault.Memory → is_request (sent message.now) ≡ true }
+        ensures memory { IsErrOf result SessionFault.Memory
+            → is_request (sent message.now) ≡ true }
     {
         if let Some(rule) = self.broken_by(message) {
             return Err(SessionFault::Broken(rule));
@@ -91,7 +94,8 @@ impl Session {
 
     /// The command of the request that a response answers, and whether it is answered.
     fn asked_for(&self, message: &Message) -> Option<(&str, bool)>
-        ensures { option_map (λ a. (a.0.now, a.1)) result ≡ asked_for self.now (sent message.now) }
+        ensures { option_map (λ a. (a.0.now, a.1)) result
+            ≡ asked_for self.now (sent message.now) }
     {
         let Some(number) = request_seq_of(message) else {
             return None;
@@ -167,7 +171,7 @@ impl Session {
         None
     }
 
-    /// Takes a message that breaks no rule.
+    /// Keeps what the rules need to know of a message that breaks none.
     fn keep(&mut self, message: &Message) -> Result<(), AllocError>
         requires { judged self.old (sent message.now) ≡ None }
         ensures ok { OnOk result (self.new ≡ kept_after self.old (sent message.now)) }
