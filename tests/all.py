@@ -38,6 +38,7 @@ def main():
             ("the program on the examples", "program.py"),
             ("the captures of real adapters", "captures.py"),
             ("their messages typed", "typed_recordings.py"),
+            ("the normal form", "normal_form.py"),
             ("growths of memory refused in turn", "fault_injection.py"),
             ("what the documents name", "documents.py"),
             ("the document of the profile", "profile.py"),

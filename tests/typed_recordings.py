@@ -10,7 +10,7 @@ import tempfile
 from report import TOP, Report
 
 sys.path.insert(0, os.path.join(TOP, "scripts"))
-from one_direction import LENGTH
+from one_direction import records
 
 CAPTURES = os.path.join(TOP, "examples", "captures")
 TESTS = os.path.join(TOP, "crates", "conformance", "out", "conformance_tests")
@@ -29,17 +29,6 @@ class NotWhole(Exception):
 
 def not_whole(_):
     raise NotWhole
-
-
-def contents(recording):
-    """The contents of a recording's records, in order."""
-    at, found = 0, []
-    while at < len(recording):
-        content = recording.index(b"\r\n\r\n", at) + 4
-        end = content + int(LENGTH.search(recording[at + 1:content])[1])
-        found.append(recording[content:end])
-        at = end + 1
-    return found
 
 
 def refusal(content):
@@ -70,7 +59,7 @@ def main():
     for name in names:
         path = os.path.join(CAPTURES, name)
         with open(path, "rb") as file:
-            told = [(number, refusal(content)) for number, content in enumerate(contents(file.read()), 1)]
+            told = [(number, refusal(content)) for number, (_, _, content) in enumerate(records(file.read()), 1)]
         refusals = [(number, reason) for number, reason in told if reason]
         counts = collections.Counter(reason for _, reason in refusals)
         report.check(f"{name}: so many are refused", counts == REFUSED.get(name, {}), str(counts))
