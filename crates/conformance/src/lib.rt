@@ -28,4 +28,6 @@ mod refused_growths;
 #[cfg(test)]
 mod refused_growths_of_messages;
 #[cfg(test)]
+mod session_rules;
+#[cfg(test)]
 mod typed_recordings;
