@@ -20,12 +20,7 @@ use dap_tree::{TreeFault, read_tree};
 use std::alloc::Global;
 
 /// The message that the record of that number holds.
-fn read_message(
-    alloc: Global,
-    number: u64,
-    side: Side,
-    content: &[u8],
-) -> Result<Message, Refused>
+fn read_message(alloc: Global, number: u64, side: Side, content: &[u8]) -> Result<Message, Refused>
     ensures ok { IfOk result (λ message. IsMessage (side, content.now) (sent message)) }
     ensures err { IfErr result (λ because. (messages : List Sent) → RefusesRecord messages (side, content.now) number because) }
 {
@@ -131,10 +126,7 @@ pub fn check<R: Source>(
     };
     let checked = check_input(alloc, &input, limits)?;
     if complete && (checked.client_open != 0 || checked.adapter_open != 0) {
-        return Err(Refused::Incomplete(
-            checked.client_open,
-            checked.adapter_open,
-        ));
+        return Err(Refused::Incomplete(checked.client_open, checked.adapter_open));
     }
     Ok(checked)
 }
