@@ -1,9 +1,7 @@
 -- The laws of contents and their messages, from those of documents.
-use Rattle.dap_tree.specs.Doc.{all_in_range, has_id, Doc, null, boolean, whole, text, list, object, id, get, is_plain, is_sound, is_ordered, all_utf8}
+use Rattle.dap_tree.specs.Doc.{Doc, null, boolean, whole, text, list, object, id, get, is_plain, is_sound, is_ordered, all_utf8}
 use Rattle.dap_tree.specs.Json.{data_of, Reads, text_of, IsRead, HasNoReading, HasFraction, Outcome, HasOutcome}
-use Rattle.dap_tree.proofs.Depths.{fits_is, plain_is}
-use Rattle.dap_tree.proofs.Without.{plain_parts}
-use Rattle.dap_tree.proofs.Booleans.{and_both, and_left, and_right}
+use Rattle.dap_tree.proofs.Booleans.{and_left, and_right}
 use Rattle.dap_tree.specs.Ids.{ids, skeleton, without_ids}
 use Rattle.dap_tree.specs.declared.side.Side.{Side}
 use Rattle.dap_tree.specs.declared.sort.Sort.{Sort}
@@ -11,9 +9,7 @@ use Rattle.dap_tree.specs.declared.sort.Sort.TheVariants.{Reference}
 use Rattle.dap_tree.proofs.Outcomes.{read_once, one_outcome, some_outcome, read_is_plain}
 use Rattle.dap_tree.proofs.Ordered.{read_is_ordered}
 use Rattle.dap_tree.proofs.Utf8.{read_is_utf8}
-use Rattle.dap_message.specs.Capabilities.{tells_capabilities}
 use Rattle.dap_message.specs.Message.{IsTypedBack, IsRenumberedBack}
-use Rattle.std.proofs.Common.{not}
 use Rattle.std.proofs.Common.{◌≡◌, ◌⊎◌, inl, inr, ℕ, zero, suc, ◌<◌, ℤ, pos, true, cond, List, [], ◌∷◌, length, get_or, Contains, Option, Some, None, option_map, codes, refl, sym, ◌∙◌, ap, ap₂, arith}
 use Rattle.std.specs.List.{list_all}
 use Rattle.dap_tree.specs.Json as contents

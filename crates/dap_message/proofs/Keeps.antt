@@ -1,5 +1,5 @@
 -- What marks and capabilities keep of a document: that it is sound, and that no id is a variables reference of 0.
-use Rattle.dap_tree.specs.Doc.{Doc, null, boolean, whole, text, list, object, id, Items, no_items, item, Members, no_members, member, put, get_member, change_member, change_child, map_items, change_items, fits, items_fit, members_fit, is_sound, is_plain, all_plain, items_plain, members_plain}
+use Rattle.dap_tree.specs.Doc.{Doc, null, boolean, whole, text, list, object, id, Items, no_items, item, Members, no_members, member, change_child, change_items, fits, items_fit, members_fit, is_sound, is_plain, all_plain, items_plain, members_plain}
 use Rattle.dap_tree.specs.declared.side.Side.{Side}
 use Rattle.dap_tree.specs.declared.sort.Sort.{Sort}
 use Rattle.dap_tree.specs.declared.sort.Sort.TheVariants.{ClientSeq, AdapterSeq, Frame, Reference}
@@ -7,21 +7,20 @@ use Rattle.dap_tree.proofs.Booleans.{and_left, and_right, and_both}
 use Rattle.dap_tree.proofs.Depths.{fits_is}
 use Rattle.dap_tree.proofs.Without.{plain_parts}
 use Rattle.dap_tree.specs.Ids.{ids, items_ids, members_ids}
-use Rattle.std.proofs.Common.{◌≡◌, ℕ, ◌-◌, ℤ, pos, Bool, true, false, cond, not, ◌&&◌, List, [], ◌∷◌, ◌++◌, Option, Some, None, Ordering, Less, Equal, Greater, nat_cmp, codes, refl, sym, ◌∙◌, ap, ap₂, ltb}
+use Rattle.std.proofs.Common.{◌≡◌, ℕ, ◌-◌, ℤ, pos, Bool, true, false, cond, not, ◌&&◌, List, [], ◌∷◌, ◌++◌, Option, Some, None, codes, refl, sym, ◌∙◌, ap, ap₂, ltb}
 use Rattle.std.specs.Option.{option_map_or}
 use Rattle.std.proofs.lemmas.List.Folds.{list_all-append}
 use Rattle.std.specs.List.{list_all}
-use Rattle.std.specs.Cmp.Lexicographic.{slice_cmp}
-use Rattle.std.specs.Ordering.{match_ordering, int_eq}
+use Rattle.std.specs.Ordering.{int_eq}
 use Rattle.dap_message.specs.Places.{PlaceStep, named, each}
 use Rattle.dap_message.specs.Rows.{ProfileRow, is_asked, is_id_number}
 use Rattle.dap_message.specs.Profile.{profile}
 use Rattle.dap_message.specs.Marks.{is_id_of, marked, edit, mark_rows, mark_row, sort_of, mark}
-use Rattle.dap_message.specs.Capabilities.{is_given, default_member, default_to, false_members, false_at, capabilities, with_capabilities, filled, tells_capabilities}
+use Rattle.dap_message.specs.Capabilities.{default_to, false_at, capabilities, with_capabilities, filled, tells_capabilities}
 use Rattle.dap_message.specs.Numbers.{is_proper, are_proper, is_proper_number}
 use Rattle.dap_message.specs.Message.{message_of}
 use Rattle.dap_message.proofs.Edits.{by_bool}
-use Rattle.dap_message.proofs.Tests.{PartTest, DocTest, nameless, member_changed, items_changed, member_defaulted, members_false, passes-message}
+use Rattle.dap_message.proofs.PartTests.{PartTest, DocTest, nameless, member_changed, items_changed, member_defaulted, members_false, passes-message}
 
 -- ---- how deep, and in range
 

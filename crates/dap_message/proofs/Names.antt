@@ -1,25 +1,19 @@
 -- The names of a message stand in order, and are UTF-8, where those of its document do and are.
-use Rattle.dap_tree.specs.Doc.{Doc, null, boolean, whole, text, list, object, id, Items, no_items, item, Members, no_members, member, get_member, put, change_member, change_child, map_items, change_items, is_below_all, is_ordered, items_ordered, members_ordered, all_utf8, items_utf8, members_utf8}
+use Rattle.dap_tree.specs.Doc.{Doc, Members, no_members, member, put, change_member, is_below_all, is_ordered, items_ordered, members_ordered, all_utf8, items_utf8, members_utf8}
 use Rattle.dap_tree.specs.declared.side.Side.{Side}
-use Rattle.dap_tree.specs.declared.sort.Sort.{Sort}
 use Rattle.dap_tree.proofs.Booleans.{and_left, and_right, and_both}
-use Rattle.std.proofs.Common.{◌≡◌, ℕ, zero, suc, ◌<◌, ℤ, Bool, nat_lt, slice_index, true, false, cond, ◌&&◌, List, [], ◌∷◌, Option, Some, None, Ordering, Less, Equal, Greater, nat_cmp, codes, refl, sym, ◌∙◌, ap}
+use Rattle.std.proofs.Common.{◌≡◌, ℕ, zero, suc, ◌<◌, Bool, nat_lt, slice_index, true, ◌&&◌, List, [], ◌∷◌, Ordering, Less, Equal, Greater, nat_cmp, refl, ◌∙◌, ap}
 use Rattle.std.proofs.lemmas.Bool.{ltb-true}
 use Rattle.std.proofs.lemmas.Cmp.{nat_list_cmp_total}
 use Rattle.std.proofs.lemmas.Str.{IsUtf8-from_ascii, is_utf8-from_IsUtf8}
 use Rattle.std.proofs.lemmas.Str.Ascii.{IsAscii-nil}
 use Rattle.std.specs.Cmp.Lexicographic.{slice_cmp}
 use Rattle.std.specs.List.{list_all}
-use Rattle.std.specs.Option.{option_map_or}
 use Rattle.std.specs.Ordering.{match_ordering, ordering_reverse, is_lt}
 use Rattle.std.specs.Str.{is_utf8, IsAscii}
-use Rattle.dap_message.specs.Capabilities.{is_given, default_member, default_to, false_members, false_at, capabilities, with_capabilities, filled, tells_capabilities}
-use Rattle.dap_message.specs.Marks.{is_id_of, marked, edit, mark_row, mark_rows, mark, sort_of}
+use Rattle.dap_message.specs.Marks.{mark}
 use Rattle.dap_message.specs.Message.{message_of}
-use Rattle.dap_message.specs.Places.{PlaceStep, named, each}
-use Rattle.dap_message.specs.Profile.{profile}
-use Rattle.dap_message.specs.Rows.{ProfileRow, is_asked}
-use Rattle.dap_message.proofs.Tests.{DocTest, passes-mark, passes-message}
+use Rattle.dap_message.proofs.PartTests.{DocTest, passes-mark, passes-message}
 
 -- ---- order
 
@@ -79,8 +73,12 @@ ordered_put k d (member l e ms) n h g =
 
 abbrev order_test : DocTest
 order_test =
-    record { parts = record { document = is_ordered; members = members_ordered; items = items_ordered; beside = is_below_all; may_come = λ k. true; no_member = refl; each_member = λ k d ms. refl; each_item = λ d ds. refl; beside_changed = below_change; put_in = ordered_put };
-      of_object = λ ms. refl; of_list = λ ds. refl; of_false = refl }
+    record {
+      parts = record { document = is_ordered; members = members_ordered; items = items_ordered; beside = is_below_all; may_come = λ k. true; no_member = refl; each_member = λ k d ms. refl; each_item = λ d ds. refl; beside_changed = below_change; put_in = ordered_put };
+      of_object = λ ms. refl;
+      of_list = λ ds. refl;
+      of_false = refl;
+    }
 
 pub ordered-mark : (side : Side) (d : Doc) → is_ordered d ≡ true → is_ordered (mark side d) ≡ true
 ordered-mark side d h = passes-mark order_test (λ s z is. refl) side d h
@@ -119,8 +117,12 @@ utf8_put k d (member l e ms) n h g =
 
 abbrev utf8_test : DocTest
 utf8_test =
-    record { parts = record { document = all_utf8; members = members_utf8; items = items_utf8; beside = λ k ms. is_utf8 k; may_come = is_ascii_name; no_member = refl; each_member = λ k d ms. refl; each_item = λ d ds. refl; beside_changed = λ l k f ms. refl; put_in = λ k d ms n. utf8_put k d ms (utf8_name k n) };
-      of_object = λ ms. refl; of_list = λ ds. refl; of_false = refl }
+    record {
+      parts = record { document = all_utf8; members = members_utf8; items = items_utf8; beside = λ k ms. is_utf8 k; may_come = is_ascii_name; no_member = refl; each_member = λ k d ms. refl; each_item = λ d ds. refl; beside_changed = λ l k f ms. refl; put_in = λ k d ms n. utf8_put k d ms (utf8_name k n) };
+      of_object = λ ms. refl;
+      of_list = λ ds. refl;
+      of_false = refl;
+    }
 
 pub utf8-message : (side : Side) (d : Doc) → all_utf8 d ≡ true → all_utf8 (message_of side d) ≡ true
 utf8-message side d h = passes-message utf8_test (λ s z is. refl) side d refl refl h

@@ -6,9 +6,8 @@ use Rattle.dap_tree.specs.declared.side.Side.TheVariants.{Client, Adapter}
 use Rattle.dap_tree.specs.declared.sort.Sort.{Sort}
 use Rattle.dap_tree.proofs.Without.{plain_parts, without_plain}
 use Rattle.dap_tree.proofs.Paths.{get_member-change}
-use Rattle.std.proofs.Common.{◌≡◌, ℕ, Bool, true, false, cond, ◌&&◌, List, [], ◌∷◌, Option, Some, None, option_map, Ordering, Less, Equal, Greater, nat_cmp, codes, refl, sym, ◌∙◌, ap, ap₂, bytes_eq, is_eq}
+use Rattle.std.proofs.Common.{◌≡◌, ℕ, Bool, true, false, cond, ◌&&◌, List, [], ◌∷◌, Option, Some, None, option_map, Ordering, Less, Equal, Greater, nat_cmp, codes, refl, sym, ◌∙◌, ap, ap₂, bytes_eq}
 use Rattle.std.specs.Option.{option_map_or}
-use Rattle.std.proofs.lemmas.Map.Text.{is_eq-slice_cmp}
 use Rattle.std.proofs.lemmas.Slice.Eq.{bytes_eq-Decides}
 use Rattle.std.specs.Cmp.Lexicographic.{slice_cmp}
 use Rattle.std.specs.Ordering.{match_ordering}
@@ -20,7 +19,7 @@ use Rattle.dap_message.specs.Marks.{marked, is_id_of, mark_rows, mark_row, edit,
 use Rattle.dap_message.proofs.Choices.{itself, equal_at}
 use Rattle.dap_message.proofs.Edits.{by_bool}
 use Rattle.dap_message.proofs.Envelopes.{get-filled, given_other, apart}
-use Rattle.dap_message.proofs.Tests.{DocTest, nameless, passes-filled}
+use Rattle.dap_message.proofs.PartTests.{DocTest, nameless, passes-filled}
 
 -- ---- the ids as numbers again
 

@@ -12,7 +12,6 @@ use Rattle.std.proofs.Common.{◌≡◌, ℕ, ℤ, pos, negsuc, Bool, true, fals
 use Rattle.std.proofs.lemmas.Bool.Decides.{nat_tests}
 use Rattle.std.specs.Cmp.Lexicographic.{slice_cmp}
 use Rattle.std.specs.List.{list_all}
-use Rattle.std.specs.Option.{option_or}
 use Rattle.std.specs.Ordering.{match_ordering}
 use Rattle.dap_message.specs.Capabilities.{is_given, default_to, false_members, false_at, capabilities, tells_capabilities, with_capabilities, filled}
 use Rattle.dap_message.specs.Faults.{fault, Fits, has_kind, row_broken}

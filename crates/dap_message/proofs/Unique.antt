@@ -4,8 +4,7 @@ use Rattle.dap_tree.specs.Path.{Step, name, place, at, get_item}
 use Rattle.dap_tree.specs.declared.side.Side.{Side}
 use Rattle.dap_tree.proofs.Paths.{skips}
 use Rattle.dap_tree.proofs.Booleans.{and_left, and_right}
-use Rattle.std.proofs.Common.{◌≡◌, ℕ, suc, true, ◌&&◌, List, [], ◌∷◌, Option, Some, None, option_map, option_and_then, Ordering, Less, Equal, Greater, nat_cmp, refl, sym, ◌∙◌, ap, ap₂, bytes_eq, is_eq}
-use Rattle.std.proofs.lemmas.Map.Text.{is_eq-slice_cmp}
+use Rattle.std.proofs.Common.{◌≡◌, ℕ, suc, true, ◌&&◌, List, [], ◌∷◌, Option, Some, None, option_map, option_and_then, Ordering, Less, Equal, Greater, nat_cmp, refl, sym, ◌∙◌, ap, ap₂, bytes_eq}
 use Rattle.std.proofs.lemmas.Slice.Eq.{bytes_eq-Decides}
 use Rattle.std.specs.Cmp.Lexicographic.{slice_cmp}
 use Rattle.std.specs.Ordering.{match_ordering, is_lt}

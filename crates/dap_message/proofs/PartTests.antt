@@ -91,8 +91,18 @@ module _ (P : Doc → Bool) (Q : Members → Bool) (each_member : (k : List ℕ)
 abbrev pub nameless : (P : Doc → Bool) (Q : Members → Bool) (R : Items → Bool) → Q no_members ≡ true → ((k : List ℕ) (d : Doc) (ms : Members) → Q (member k d ms) ≡ (P d && Q ms))
     → ((d : Doc) (ds : Items) → R (item d ds) ≡ (P d && R ds)) → PartTest
 nameless P Q R none each_member each_item =
-    record { document = P; members = Q; items = R; beside = λ k ms. true; may_come = λ k. true; no_member = none; each_member = each_member; each_item = each_item;
-      beside_changed = λ l k f ms. refl; put_in = λ k d ms n hd hm. put_nameless P Q each_member none k d ms hd hm }
+    record {
+      document = P;
+      members = Q;
+      items = R;
+      beside = λ k ms. true;
+      may_come = λ k. true;
+      no_member = none;
+      each_member = each_member;
+      each_item = each_item;
+      beside_changed = λ l k f ms. refl;
+      put_in = λ k d ms n hd hm. put_nameless P Q each_member none k d ms hd hm;
+    }
 
 -- ---- documents
 
