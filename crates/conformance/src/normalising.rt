@@ -29,7 +29,21 @@ const FRAMES: Line = (
 );
 
 /// Recordings and their normal forms.
-const NORMAL_FORMS: [(&[Line], &[Line]); 14] = [
+const NORMAL_FORMS: [(&[Line], &[Line]); 15] = [
+    // The example of docs/NORMAL-FORM.md.
+    (
+        &[
+            (
+                ">",
+                "{\"arguments\":{\"adapterID\":\"mock\"},\"command\":\"initialize\",\"seq\":7,\"type\":\"request\"}",
+            ),
+            (
+                "<",
+                "{\"body\":{\"output\":\"hi\"},\"event\":\"output\",\"seq\":0,\"type\":\"event\"}",
+            ),
+        ],
+        &[INITIALIZE, OUTPUT],
+    ),
     // Sequence numbers that count already.
     (
         &[
