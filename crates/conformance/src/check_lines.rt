@@ -2,80 +2,72 @@
 use crate::devices::{Failing, TestSink, TestSource};
 use crate::examples::LIMITS;
 use crate::recordings::{CONFIGURED, INITIALIZE, INITIALIZE_RESPONSE, Line, THREADS, recording};
-use dap_frame::FrameFault;
 use dapnorm::{
-    Job, MemorySink, MemorySource, MessageFault, RecordCause, Refused, Rule, UsageFault, job,
-    run_stream, run_usage,
+    Job, MemorySink, MemorySource, MessageFault, Refused, Rule, UsageFault, job, run_stream,
+    run_usage,
 };
+use std::alloc::Global;
+use std::process::Abort;
 use std::test::Fail;
+
+/// Asks for the status, the output and the errors of the program for these lines.
+fn tells(
+    rt: &impl Abort,
+    alloc: Global,
+    lines: &[Line],
+    complete: bool,
+    wanted: (u8, &str, &str),
+) -> Result<(), Fail> {
+    let bytes = recording(alloc, lines)?;
+    let mut sink = MemorySink::new(alloc, 4096)?;
+    let mut errors = MemorySink::new(alloc, 4096)?;
+    let status = run_stream(
+        alloc,
+        &Job::Check { complete },
+        &mut MemorySource::new(bytes.as_slice()),
+        &mut sink,
+        &mut errors,
+        LIMITS,
+    );
+    let (wanted_status, output, line) = wanted;
+    assert_eq!(rt; status, wanted_status);
+    assert_eq!(rt; sink.bytes(), output.as_bytes());
+    assert_eq!(rt; errors.bytes(), line.as_bytes());
+    Ok(())
+}
 
 #[test]
 fn an_accepted_recording_is_told_in_one_line(rt: HostRuntime) -> Result<(), Fail> {
     let alloc = rt.alloc();
-    let open = recording(alloc, [INITIALIZE, INITIALIZE_RESPONSE, THREADS].as_slice())?;
-    let twice = recording(
-        alloc,
-        [INITIALIZE, INITIALIZE_RESPONSE, INITIALIZE_RESPONSE].as_slice(),
-    )?;
+    let open = [INITIALIZE, INITIALIZE_RESPONSE, THREADS];
+    for (lines, complete, output) in [
+        ([].as_slice(), true, "accepted records=0 open=0,0\n"),
+        (open.as_slice(), false, "accepted records=3 open=1,0\n"),
+    ] {
+        tells(&rt, alloc, lines, complete, (0, output, ""))?;
+    }
+    Ok(())
+}
+
+#[test]
+fn a_refused_recording_is_told_in_one_line(rt: HostRuntime) -> Result<(), Fail> {
+    let alloc = rt.alloc();
+    let open = [INITIALIZE, INITIALIZE_RESPONSE, THREADS];
+    let twice = [INITIALIZE, INITIALIZE_RESPONSE, INITIALIZE_RESPONSE];
     let no_source: Line = (
         ">",
         "{\"arguments\":{\"breakpoints\":[{\"line\":3}]},\"command\":\"setBreakpoints\",\"seq\":2,\"type\":\"request\"}",
     );
-    let missing = recording(
-        alloc,
-        [INITIALIZE, INITIALIZE_RESPONSE, no_source].as_slice(),
-    )?;
-    let table = [
-        (
-            b"".as_slice(),
-            true,
-            b"accepted records=0 open=0,0\n".as_slice(),
-            b"".as_slice(),
-            0,
-        ),
+    let missing = [INITIALIZE, INITIALIZE_RESPONSE, no_source];
+    for (lines, line) in [
         (
             open.as_slice(),
-            false,
-            b"accepted records=3 open=1,0\n".as_slice(),
-            b"".as_slice(),
-            0,
+            "dapnorm: incomplete: 1 client, 0 adapter\n",
         ),
-        (
-            open.as_slice(),
-            true,
-            b"".as_slice(),
-            b"dapnorm: incomplete: 1 client, 0 adapter\n".as_slice(),
-            2,
-        ),
-        (
-            twice.as_slice(),
-            false,
-            b"".as_slice(),
-            b"dapnorm: record 3: AnsweredTwice\n".as_slice(),
-            2,
-        ),
-        (
-            missing.as_slice(),
-            true,
-            b"".as_slice(),
-            b"dapnorm: record 3: Missing row 13\n".as_slice(),
-            2,
-        ),
-    ];
-    for (input, complete, output, line, wanted) in table {
-        let mut sink = MemorySink::new(alloc, 4096)?;
-        let mut errors = MemorySink::new(alloc, 4096)?;
-        let status = run_stream(
-            alloc,
-            &Job::Check { complete },
-            &mut MemorySource::new(input),
-            &mut sink,
-            &mut errors,
-            LIMITS,
-        );
-        assert_eq!(rt; status, wanted);
-        assert_eq!(rt; sink.bytes(), output);
-        assert_eq!(rt; errors.bytes(), line);
+        (twice.as_slice(), "dapnorm: record 3: AnsweredTwice\n"),
+        (missing.as_slice(), "dapnorm: record 3: Missing row 13\n"),
+    ] {
+        tells(&rt, alloc, lines, true, (2, "", line))?;
     }
     Ok(())
 }
@@ -107,6 +99,13 @@ fn a_line_that_cannot_be_written_is_a_write_fault(rt: HostRuntime) -> Result<(),
             assert_eq!(rt; errors.bytes(), b"dapnorm: write fault\n".as_slice());
         }
     }
+    Ok(())
+}
+
+#[test]
+fn a_line_may_go_out_byte_by_byte(rt: HostRuntime) -> Result<(), Fail> {
+    let alloc = rt.alloc();
+    let bytes = recording(alloc, CONFIGURED.as_slice())?;
     let mut sink = TestSink::new(alloc, 4096)?;
     sink.piece = 1;
     let mut errors = MemorySink::new(alloc, 4096)?;
@@ -119,7 +118,7 @@ fn a_line_that_cannot_be_written_is_a_write_fault(rt: HostRuntime) -> Result<(),
         LIMITS,
     );
     assert_eq!(rt; status, 0);
-    assert_eq!(rt; sink.bytes(), line.as_slice());
+    assert_eq!(rt; sink.bytes(), b"accepted records=5 open=0,0\n".as_slice());
     assert_eq!(rt; sink.flushes, 1);
     Ok(())
 }
@@ -135,6 +134,12 @@ fn words_that_ask_for_check(rt: HostRuntime) -> Result<(), Fail> {
             Err(fault) => assert!(rt; false, "{fault:?}"),
         }
     }
+    Ok(())
+}
+
+#[test]
+fn words_that_no_check_takes(rt: HostRuntime) -> Result<(), Fail> {
+    let alloc = rt.alloc();
     let twice = ["dapnorm", "check", "--complete", "--complete"];
     let of_compact = ["dapnorm", "compact", "--complete"];
     let file = ["dapnorm", "check", "file"];
@@ -149,6 +154,12 @@ fn words_that_ask_for_check(rt: HostRuntime) -> Result<(), Fail> {
             }
         }
     }
+    Ok(())
+}
+
+#[test]
+fn help_of_check_names_its_flag(rt: HostRuntime) -> Result<(), Fail> {
+    let alloc = rt.alloc();
     let help = ["dapnorm", "check", "--help"];
     match job(alloc, help.as_slice()) {
         Err(UsageFault::Help(text)) => {
@@ -161,77 +172,41 @@ fn words_that_ask_for_check(rt: HostRuntime) -> Result<(), Fail> {
 }
 
 #[test]
-fn the_text_of_each_refusal_of_a_recording(rt: HostRuntime) -> Result<(), Fail> {
+fn the_text_of_each_faulty_message(rt: HostRuntime) -> Result<(), Fail> {
     let alloc = rt.alloc();
-    let table = [
-        (
-            Refused::Message(3, MessageFault::NotObject),
-            "record 3: NotObject",
-        ),
-        (
-            Refused::Message(1, MessageFault::UnknownType),
-            "record 1: UnknownType",
-        ),
-        (
-            Refused::Message(3, MessageFault::Missing(13)),
-            "record 3: Missing row 13",
-        ),
-        (
-            Refused::Message(2, MessageFault::WrongType(139)),
-            "record 2: WrongType row 139",
-        ),
-        (
-            Refused::Record(4, RecordCause::Frame(FrameFault::TwoLengths)),
-            "record 4: TwoLengths",
-        ),
-        (
-            Refused::Rule(1, Rule::EventFromClient),
-            "record 1: EventFromClient",
-        ),
-        (
-            Refused::Rule(1, Rule::NotInitialized),
-            "record 1: NotInitialized",
-        ),
-        (
-            Refused::Rule(2, Rule::StillInitializing),
-            "record 2: StillInitializing",
-        ),
-        (
-            Refused::Rule(3, Rule::InitializeTwice),
-            "record 3: InitializeTwice",
-        ),
-        (
-            Refused::Rule(5, Rule::AfterDisconnect),
-            "record 5: AfterDisconnect",
-        ),
-        (Refused::Rule(3, Rule::SeqUsed), "record 3: SeqUsed"),
-        (
-            Refused::Rule(3, Rule::ConfiguredEarly),
-            "record 3: ConfiguredEarly",
-        ),
-        (
-            Refused::Rule(6, Rule::ConfiguredTwice),
-            "record 6: ConfiguredTwice",
-        ),
-        (Refused::Rule(3, Rule::NoRequest), "record 3: NoRequest"),
-        (
-            Refused::Rule(3, Rule::AnsweredTwice),
-            "record 3: AnsweredTwice",
-        ),
-        (
-            Refused::Rule(57, Rule::OtherCommand),
-            "record 57: OtherCommand",
-        ),
-        (
-            Refused::Incomplete(1, 0),
-            "incomplete: 1 client, 0 adapter",
-        ),
-        (
-            Refused::Incomplete(0, 12),
-            "incomplete: 0 client, 12 adapter",
-        ),
-    ];
-    for (refused, wanted) in table {
+    for (fault, wanted) in [
+        (MessageFault::NotObject, "record 3: NotObject"),
+        (MessageFault::UnknownType, "record 3: UnknownType"),
+        (MessageFault::Missing(13), "record 3: Missing row 13"),
+        (MessageFault::WrongType(139), "record 3: WrongType row 139"),
+    ] {
+        let refused = Refused::Message(3, fault);
+        let text = format!(in alloc; "{refused}")?;
+        assert_eq!(rt; text.as_str(), wanted);
+    }
+    let incomplete = Refused::Incomplete(1, 12);
+    let text = format!(in alloc; "{incomplete}")?;
+    assert_eq!(rt; text.as_str(), "incomplete: 1 client, 12 adapter");
+    Ok(())
+}
+
+#[test]
+fn the_text_of_each_broken_rule(rt: HostRuntime) -> Result<(), Fail> {
+    let alloc = rt.alloc();
+    for (rule, wanted) in [
+        (Rule::EventFromClient, "record 57: EventFromClient"),
+        (Rule::NotInitialized, "record 57: NotInitialized"),
+        (Rule::StillInitializing, "record 57: StillInitializing"),
+        (Rule::InitializeTwice, "record 57: InitializeTwice"),
+        (Rule::AfterDisconnect, "record 57: AfterDisconnect"),
+        (Rule::SeqUsed, "record 57: SeqUsed"),
+        (Rule::ConfiguredEarly, "record 57: ConfiguredEarly"),
+        (Rule::ConfiguredTwice, "record 57: ConfiguredTwice"),
+        (Rule::NoRequest, "record 57: NoRequest"),
+        (Rule::AnsweredTwice, "record 57: AnsweredTwice"),
+        (Rule::OtherCommand, "record 57: OtherCommand"),
+    ] {
+        let refused = Refused::Rule(57, rule);
         let text = format!(in alloc; "{refused}")?;
         assert_eq!(rt; text.as_str(), wanted);
     }

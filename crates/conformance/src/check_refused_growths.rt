@@ -32,10 +32,7 @@ fn check_is_refused_in_turn(rt: HostRuntime) -> Result<(), Fail> {
         (b"".as_slice(), accepted(0, 0, 0)),
         (accepts.as_slice(), accepted(5, 0, 0)),
         (open.as_slice(), Err(Refused::Incomplete(1, 0))),
-        (
-            twice.as_slice(),
-            Err(Refused::Rule(3, Rule::AnsweredTwice)),
-        ),
+        (twice.as_slice(), Err(Refused::Rule(3, Rule::AnsweredTwice))),
         (
             missing.as_slice(),
             Err(Refused::Message(3, MessageFault::Missing(13))),

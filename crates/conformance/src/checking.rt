@@ -35,18 +35,15 @@ fn open_requests_are_counted(rt: HostRuntime) -> Result<(), Fail> {
         assert_eq!(rt; answer, Err(Refused::Incomplete(client, adapter)));
     }
     let none = recording(alloc, CONFIGURED.as_slice())?;
-    let answer = check(
-        alloc,
-        &mut MemorySource::new(none.as_slice()),
-        LIMITS,
-        true,
-    );
+    let answer = check(alloc, &mut MemorySource::new(none.as_slice()), LIMITS, true);
     assert_eq!(rt; answer, accepted(5, 0, 0));
     Ok(())
 }
 
 #[test]
-fn a_failed_response_needs_no_body_and_keeps_what_no_row_names(rt: HostRuntime) -> Result<(), Fail> {
+fn a_failed_response_needs_no_body_and_keeps_what_no_row_names(
+    rt: HostRuntime,
+) -> Result<(), Fail> {
     let alloc = rt.alloc();
     let asks: Line = (
         ">",
@@ -168,7 +165,10 @@ fn refused_envelopes(rt: HostRuntime) -> Result<(), Fail> {
     ];
     for (content, fault) in table {
         let bytes = recording(alloc, [(">", content)].as_slice())?;
-        assert_eq!(rt; checked(alloc, bytes.as_slice()), Err(Refused::Message(1, fault)));
+        assert_eq!(rt;
+            checked(alloc, bytes.as_slice()),
+            Err(Refused::Message(1, fault))
+        );
     }
     let least = recording(
         alloc,
@@ -274,10 +274,7 @@ fn contents_past_their_limit(rt: HostRuntime) -> Result<(), Fail> {
 fn contents_nest_127_deep(rt: HostRuntime) -> Result<(), Fail> {
     let alloc = rt.alloc();
     // Two objects stand round the lists.
-    for (levels, wanted) in [
-        (125usize, accepted(3, 1, 0)),
-        (126, Err(Refused::Json(3))),
-    ] {
+    for (levels, wanted) in [(125usize, accepted(3, 1, 0)), (126, Err(Refused::Json(3)))] {
         let mut bytes = recording(alloc, [INITIALIZE, INITIALIZE_RESPONSE].as_slice())?;
         let mut content = String::from_str(alloc, "{\"arguments\":{\"x\":")?;
         for bracket in ["[", "]"] {

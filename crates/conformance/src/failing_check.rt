@@ -1,9 +1,7 @@
 //! What `check` answers where its reader fails.
 use crate::devices::TestSource;
 use crate::examples::LIMITS;
-use crate::recordings::{
-    CONFIGURED, INITIALIZE, INITIALIZE_RESPONSE, THREADS, recording,
-};
+use crate::recordings::{CONFIGURED, INITIALIZE, INITIALIZE_RESPONSE, THREADS, recording};
 use dapnorm::{Job, MemorySink, Refused, Rule, check, run_stream};
 use std::test::Fail;
 

@@ -13,42 +13,300 @@ use std::alloc::Global;
 use std::test::Fail;
 
 /// The response to `initialize` with the capabilities that it leaves out.
-const FILLED_RESPONSE: Line = ("<", "{\"body\":{\"supportSuspendDebuggee\":false,\"supportTerminateDebuggee\":false,\"supportsBreakpointLocationsRequest\":false,\"supportsCancelRequest\":false,\"supportsClipboardContext\":false,\"supportsCompletionsRequest\":false,\"supportsConditionalBreakpoints\":false,\"supportsConfigurationDoneRequest\":false,\"supportsDataBreakpoints\":false,\"supportsDelayedStackTraceLoading\":false,\"supportsDisassembleRequest\":false,\"supportsEvaluateForHovers\":false,\"supportsExceptionFilterOptions\":false,\"supportsExceptionInfoRequest\":false,\"supportsExceptionOptions\":false,\"supportsFunctionBreakpoints\":false,\"supportsGotoTargetsRequest\":false,\"supportsHitConditionalBreakpoints\":false,\"supportsInstructionBreakpoints\":false,\"supportsLoadedSourcesRequest\":false,\"supportsLogPoints\":false,\"supportsModulesRequest\":false,\"supportsReadMemoryRequest\":false,\"supportsRestartFrame\":false,\"supportsRestartRequest\":false,\"supportsSetExpression\":false,\"supportsSetVariable\":false,\"supportsSingleThreadExecutionRequests\":false,\"supportsStepBack\":false,\"supportsStepInTargetsRequest\":false,\"supportsSteppingGranularity\":false,\"supportsTerminateRequest\":false,\"supportsTerminateThreadsRequest\":false,\"supportsValueFormattingOptions\":false,\"supportsWriteMemoryRequest\":false},\"command\":\"initialize\",\"request_seq\":1,\"seq\":1,\"success\":true,\"type\":\"response\"}");
+const FILLED_RESPONSE: Line = (
+    "<",
+    "{\"body\":{\"supportSuspendDebuggee\":false,\"supportTerminateDebuggee\":false,\"supportsBreakpointLocationsRequest\":false,\"supportsCancelRequest\":false,\"supportsClipboardContext\":false,\"supportsCompletionsRequest\":false,\"supportsConditionalBreakpoints\":false,\"supportsConfigurationDoneRequest\":false,\"supportsDataBreakpoints\":false,\"supportsDelayedStackTraceLoading\":false,\"supportsDisassembleRequest\":false,\"supportsEvaluateForHovers\":false,\"supportsExceptionFilterOptions\":false,\"supportsExceptionInfoRequest\":false,\"supportsExceptionOptions\":false,\"supportsFunctionBreakpoints\":false,\"supportsGotoTargetsRequest\":false,\"supportsHitConditionalBreakpoints\":false,\"supportsInstructionBreakpoints\":false,\"supportsLoadedSourcesRequest\":false,\"supportsLogPoints\":false,\"supportsModulesRequest\":false,\"supportsReadMemoryRequest\":false,\"supportsRestartFrame\":false,\"supportsRestartRequest\":false,\"supportsSetExpression\":false,\"supportsSetVariable\":false,\"supportsSingleThreadExecutionRequests\":false,\"supportsStepBack\":false,\"supportsStepInTargetsRequest\":false,\"supportsSteppingGranularity\":false,\"supportsTerminateRequest\":false,\"supportsTerminateThreadsRequest\":false,\"supportsValueFormattingOptions\":false,\"supportsWriteMemoryRequest\":false},\"command\":\"initialize\",\"request_seq\":1,\"seq\":1,\"success\":true,\"type\":\"response\"}",
+);
 
-const STACK_TRACE: Line = (">", "{\"arguments\":{\"threadId\":1},\"command\":\"stackTrace\",\"seq\":2,\"type\":\"request\"}");
+const STACK_TRACE: Line = (
+    ">",
+    "{\"arguments\":{\"threadId\":1},\"command\":\"stackTrace\",\"seq\":2,\"type\":\"request\"}",
+);
 
-const FRAMES: Line = ("<", "{\"body\":{\"stackFrames\":[{\"column\":1,\"id\":1000,\"line\":3,\"name\":\"f\"},{\"column\":1,\"id\":1001,\"line\":9,\"name\":\"g\"}]},\"command\":\"stackTrace\",\"request_seq\":2,\"seq\":2,\"success\":true,\"type\":\"response\"}");
+const FRAMES: Line = (
+    "<",
+    "{\"body\":{\"stackFrames\":[{\"column\":1,\"id\":1000,\"line\":3,\"name\":\"f\"},{\"column\":1,\"id\":1001,\"line\":9,\"name\":\"g\"}]},\"command\":\"stackTrace\",\"request_seq\":2,\"seq\":2,\"success\":true,\"type\":\"response\"}",
+);
 
 /// Recordings and their normal forms.
-const NORMAL_FORMS: [(&[Line], &[Line]); 14] = [
-        // Sequence numbers that count already.
-        (&[INITIALIZE, INITIALIZE_RESPONSE, INITIALIZED, CONFIGURATION_DONE, CONFIGURATION_DONE_RESPONSE], &[INITIALIZE, FILLED_RESPONSE, INITIALIZED, CONFIGURATION_DONE, CONFIGURATION_DONE_RESPONSE]),
-        // An adapter that numbers nothing.
-        (&[(">", "{\"arguments\":{\"adapterID\":\"mock\"},\"command\":\"initialize\",\"seq\":7,\"type\":\"request\"}"), ("<", "{\"command\":\"initialize\",\"request_seq\":7,\"seq\":0,\"success\":true,\"type\":\"response\"}"), ("<", "{\"event\":\"initialized\",\"seq\":0,\"type\":\"event\"}"), (">", "{\"command\":\"configurationDone\",\"seq\":9,\"type\":\"request\"}"), ("<", "{\"command\":\"configurationDone\",\"request_seq\":9,\"seq\":0,\"success\":true,\"type\":\"response\"}")], &[INITIALIZE, FILLED_RESPONSE, ("<", "{\"event\":\"initialized\",\"seq\":1,\"type\":\"event\"}"), CONFIGURATION_DONE, ("<", "{\"command\":\"configurationDone\",\"request_seq\":2,\"seq\":1,\"success\":true,\"type\":\"response\"}")]),
-        // Frame ids.
-        (&[INITIALIZE, INITIALIZE_RESPONSE, STACK_TRACE, FRAMES], &[INITIALIZE, FILLED_RESPONSE, STACK_TRACE, ("<", "{\"body\":{\"stackFrames\":[{\"column\":1,\"id\":1,\"line\":3,\"name\":\"f\"},{\"column\":1,\"id\":2,\"line\":9,\"name\":\"g\"}]},\"command\":\"stackTrace\",\"request_seq\":2,\"seq\":2,\"success\":true,\"type\":\"response\"}")]),
-        // Frame ids exchanged.
-        (&[INITIALIZE, INITIALIZE_RESPONSE, STACK_TRACE, ("<", "{\"body\":{\"stackFrames\":[{\"column\":1,\"id\":1001,\"line\":3,\"name\":\"f\"},{\"column\":1,\"id\":1000,\"line\":9,\"name\":\"g\"}]},\"command\":\"stackTrace\",\"request_seq\":2,\"seq\":2,\"success\":true,\"type\":\"response\"}")], &[INITIALIZE, FILLED_RESPONSE, STACK_TRACE, ("<", "{\"body\":{\"stackFrames\":[{\"column\":1,\"id\":1,\"line\":3,\"name\":\"f\"},{\"column\":1,\"id\":2,\"line\":9,\"name\":\"g\"}]},\"command\":\"stackTrace\",\"request_seq\":2,\"seq\":2,\"success\":true,\"type\":\"response\"}")]),
-        // Variables references, of which a zero stays.
-        (&[INITIALIZE, INITIALIZE_RESPONSE, (">", "{\"arguments\":{\"variablesReference\":9},\"command\":\"variables\",\"seq\":2,\"type\":\"request\"}"), ("<", "{\"body\":{\"variables\":[{\"name\":\"a\",\"value\":\"1\",\"variablesReference\":0},{\"name\":\"b\",\"value\":\"1\",\"variablesReference\":5},{\"name\":\"c\",\"value\":\"1\",\"variablesReference\":0},{\"name\":\"d\",\"value\":\"1\",\"variablesReference\":5},{\"name\":\"e\",\"value\":\"1\",\"variablesReference\":3}]},\"command\":\"variables\",\"request_seq\":2,\"seq\":2,\"success\":true,\"type\":\"response\"}")], &[INITIALIZE, FILLED_RESPONSE, (">", "{\"arguments\":{\"variablesReference\":1},\"command\":\"variables\",\"seq\":2,\"type\":\"request\"}"), ("<", "{\"body\":{\"variables\":[{\"name\":\"a\",\"value\":\"1\",\"variablesReference\":0},{\"name\":\"b\",\"value\":\"1\",\"variablesReference\":2},{\"name\":\"c\",\"value\":\"1\",\"variablesReference\":0},{\"name\":\"d\",\"value\":\"1\",\"variablesReference\":2},{\"name\":\"e\",\"value\":\"1\",\"variablesReference\":3}]},\"command\":\"variables\",\"request_seq\":2,\"seq\":2,\"success\":true,\"type\":\"response\"}")]),
-        // Frames and references count apart.
-        (&[INITIALIZE, INITIALIZE_RESPONSE, (">", "{\"arguments\":{\"expression\":\"x\",\"frameId\":5},\"command\":\"evaluate\",\"seq\":2,\"type\":\"request\"}"), ("<", "{\"body\":{\"result\":\"1\",\"variablesReference\":6},\"command\":\"evaluate\",\"request_seq\":2,\"seq\":2,\"success\":true,\"type\":\"response\"}")], &[INITIALIZE, FILLED_RESPONSE, (">", "{\"arguments\":{\"expression\":\"x\",\"frameId\":1},\"command\":\"evaluate\",\"seq\":2,\"type\":\"request\"}"), ("<", "{\"body\":{\"result\":\"1\",\"variablesReference\":1},\"command\":\"evaluate\",\"request_seq\":2,\"seq\":2,\"success\":true,\"type\":\"response\"}")]),
-        // The request that is cancelled.
-        (&[INITIALIZE, INITIALIZE_RESPONSE, (">", "{\"command\":\"threads\",\"seq\":40,\"type\":\"request\"}"), (">", "{\"arguments\":{\"requestId\":40},\"command\":\"cancel\",\"seq\":41,\"type\":\"request\"}")], &[INITIALIZE, FILLED_RESPONSE, THREADS, (">", "{\"arguments\":{\"requestId\":2},\"command\":\"cancel\",\"seq\":3,\"type\":\"request\"}")]),
-        // An event of capabilities stays.
-        (&[INITIALIZE, INITIALIZE_RESPONSE, ("<", "{\"body\":{\"capabilities\":{\"supportsStepBack\":true}},\"event\":\"capabilities\",\"seq\":2,\"type\":\"event\"}")], &[INITIALIZE, FILLED_RESPONSE, ("<", "{\"body\":{\"capabilities\":{\"supportsStepBack\":true}},\"event\":\"capabilities\",\"seq\":2,\"type\":\"event\"}")]),
-        // Capabilities are filled in beside what no row names.
-        (&[INITIALIZE, ("<", "{\"body\":{\"supportsStepBack\":null,\"x\":1},\"command\":\"initialize\",\"request_seq\":1,\"seq\":1,\"success\":true,\"type\":\"response\"}")], &[INITIALIZE, ("<", "{\"body\":{\"supportSuspendDebuggee\":false,\"supportTerminateDebuggee\":false,\"supportsBreakpointLocationsRequest\":false,\"supportsCancelRequest\":false,\"supportsClipboardContext\":false,\"supportsCompletionsRequest\":false,\"supportsConditionalBreakpoints\":false,\"supportsConfigurationDoneRequest\":false,\"supportsDataBreakpoints\":false,\"supportsDelayedStackTraceLoading\":false,\"supportsDisassembleRequest\":false,\"supportsEvaluateForHovers\":false,\"supportsExceptionFilterOptions\":false,\"supportsExceptionInfoRequest\":false,\"supportsExceptionOptions\":false,\"supportsFunctionBreakpoints\":false,\"supportsGotoTargetsRequest\":false,\"supportsHitConditionalBreakpoints\":false,\"supportsInstructionBreakpoints\":false,\"supportsLoadedSourcesRequest\":false,\"supportsLogPoints\":false,\"supportsModulesRequest\":false,\"supportsReadMemoryRequest\":false,\"supportsRestartFrame\":false,\"supportsRestartRequest\":false,\"supportsSetExpression\":false,\"supportsSetVariable\":false,\"supportsSingleThreadExecutionRequests\":false,\"supportsStepBack\":false,\"supportsStepInTargetsRequest\":false,\"supportsSteppingGranularity\":false,\"supportsTerminateRequest\":false,\"supportsTerminateThreadsRequest\":false,\"supportsValueFormattingOptions\":false,\"supportsWriteMemoryRequest\":false,\"x\":1},\"command\":\"initialize\",\"request_seq\":1,\"seq\":1,\"success\":true,\"type\":\"response\"}")]),
-        // A failed response keeps what no row names.
-        (&[INITIALIZE, INITIALIZE_RESPONSE, STACK_TRACE, ("<", "{\"body\":{\"error\":{\"format\":\"gone\",\"id\":7}},\"command\":\"stackTrace\",\"message\":\"gone\",\"request_seq\":2,\"seq\":2,\"success\":false,\"type\":\"response\"}")], &[INITIALIZE, FILLED_RESPONSE, STACK_TRACE, ("<", "{\"body\":{\"error\":{\"format\":\"gone\",\"id\":7}},\"command\":\"stackTrace\",\"message\":\"gone\",\"request_seq\":2,\"seq\":2,\"success\":false,\"type\":\"response\"}")]),
-        // No record.
-        (&[], &[]),
-        // Output before all else.
-        (&[OUTPUT], &[OUTPUT]),
-        // A request of the adapter.
-        (&[INITIALIZE, INITIALIZE_RESPONSE, ("<", "{\"arguments\":{\"args\":[\"sh\"],\"cwd\":\"/\"},\"command\":\"runInTerminal\",\"seq\":0,\"type\":\"request\"}"), (">", "{\"command\":\"runInTerminal\",\"request_seq\":0,\"seq\":2,\"success\":true,\"type\":\"response\"}")], &[INITIALIZE, FILLED_RESPONSE, ("<", "{\"arguments\":{\"args\":[\"sh\"],\"cwd\":\"/\"},\"command\":\"runInTerminal\",\"seq\":2,\"type\":\"request\"}"), (">", "{\"command\":\"runInTerminal\",\"request_seq\":2,\"seq\":2,\"success\":true,\"type\":\"response\"}")]),
-        // The least number.
-        (&[(">", "{\"arguments\":{\"adapterID\":\"mock\"},\"command\":\"initialize\",\"seq\":-9223372036854775808,\"type\":\"request\"}")], &[INITIALIZE]),
+const NORMAL_FORMS: [(&[Line], &[Line]); 15] = [
+    // The example of docs/NORMAL-FORM.md.
+    (
+        &[
+            (
+                ">",
+                "{\"arguments\":{\"adapterID\":\"mock\"},\"command\":\"initialize\",\"seq\":7,\"type\":\"request\"}",
+            ),
+            (
+                "<",
+                "{\"body\":{\"output\":\"hi\"},\"event\":\"output\",\"seq\":0,\"type\":\"event\"}",
+            ),
+        ],
+        &[INITIALIZE, OUTPUT],
+    ),
+    // Sequence numbers that count already.
+    (
+        &[
+            INITIALIZE,
+            INITIALIZE_RESPONSE,
+            INITIALIZED,
+            CONFIGURATION_DONE,
+            CONFIGURATION_DONE_RESPONSE,
+        ],
+        &[
+            INITIALIZE,
+            FILLED_RESPONSE,
+            INITIALIZED,
+            CONFIGURATION_DONE,
+            CONFIGURATION_DONE_RESPONSE,
+        ],
+    ),
+    // An adapter that numbers nothing.
+    (
+        &[
+            (
+                ">",
+                "{\"arguments\":{\"adapterID\":\"mock\"},\"command\":\"initialize\",\"seq\":7,\"type\":\"request\"}",
+            ),
+            (
+                "<",
+                "{\"command\":\"initialize\",\"request_seq\":7,\"seq\":0,\"success\":true,\"type\":\"response\"}",
+            ),
+            (
+                "<",
+                "{\"event\":\"initialized\",\"seq\":0,\"type\":\"event\"}",
+            ),
+            (
+                ">",
+                "{\"command\":\"configurationDone\",\"seq\":9,\"type\":\"request\"}",
+            ),
+            (
+                "<",
+                "{\"command\":\"configurationDone\",\"request_seq\":9,\"seq\":0,\"success\":true,\"type\":\"response\"}",
+            ),
+        ],
+        &[
+            INITIALIZE,
+            FILLED_RESPONSE,
+            (
+                "<",
+                "{\"event\":\"initialized\",\"seq\":1,\"type\":\"event\"}",
+            ),
+            CONFIGURATION_DONE,
+            (
+                "<",
+                "{\"command\":\"configurationDone\",\"request_seq\":2,\"seq\":1,\"success\":true,\"type\":\"response\"}",
+            ),
+        ],
+    ),
+    // Frame ids.
+    (
+        &[INITIALIZE, INITIALIZE_RESPONSE, STACK_TRACE, FRAMES],
+        &[
+            INITIALIZE,
+            FILLED_RESPONSE,
+            STACK_TRACE,
+            (
+                "<",
+                "{\"body\":{\"stackFrames\":[{\"column\":1,\"id\":1,\"line\":3,\"name\":\"f\"},{\"column\":1,\"id\":2,\"line\":9,\"name\":\"g\"}]},\"command\":\"stackTrace\",\"request_seq\":2,\"seq\":2,\"success\":true,\"type\":\"response\"}",
+            ),
+        ],
+    ),
+    // Frame ids exchanged.
+    (
+        &[
+            INITIALIZE,
+            INITIALIZE_RESPONSE,
+            STACK_TRACE,
+            (
+                "<",
+                "{\"body\":{\"stackFrames\":[{\"column\":1,\"id\":1001,\"line\":3,\"name\":\"f\"},{\"column\":1,\"id\":1000,\"line\":9,\"name\":\"g\"}]},\"command\":\"stackTrace\",\"request_seq\":2,\"seq\":2,\"success\":true,\"type\":\"response\"}",
+            ),
+        ],
+        &[
+            INITIALIZE,
+            FILLED_RESPONSE,
+            STACK_TRACE,
+            (
+                "<",
+                "{\"body\":{\"stackFrames\":[{\"column\":1,\"id\":1,\"line\":3,\"name\":\"f\"},{\"column\":1,\"id\":2,\"line\":9,\"name\":\"g\"}]},\"command\":\"stackTrace\",\"request_seq\":2,\"seq\":2,\"success\":true,\"type\":\"response\"}",
+            ),
+        ],
+    ),
+    // Variables references, of which a zero stays.
+    (
+        &[
+            INITIALIZE,
+            INITIALIZE_RESPONSE,
+            (
+                ">",
+                "{\"arguments\":{\"variablesReference\":9},\"command\":\"variables\",\"seq\":2,\"type\":\"request\"}",
+            ),
+            (
+                "<",
+                "{\"body\":{\"variables\":[{\"name\":\"a\",\"value\":\"1\",\"variablesReference\":0},{\"name\":\"b\",\"value\":\"1\",\"variablesReference\":5},{\"name\":\"c\",\"value\":\"1\",\"variablesReference\":0},{\"name\":\"d\",\"value\":\"1\",\"variablesReference\":5},{\"name\":\"e\",\"value\":\"1\",\"variablesReference\":3}]},\"command\":\"variables\",\"request_seq\":2,\"seq\":2,\"success\":true,\"type\":\"response\"}",
+            ),
+        ],
+        &[
+            INITIALIZE,
+            FILLED_RESPONSE,
+            (
+                ">",
+                "{\"arguments\":{\"variablesReference\":1},\"command\":\"variables\",\"seq\":2,\"type\":\"request\"}",
+            ),
+            (
+                "<",
+                "{\"body\":{\"variables\":[{\"name\":\"a\",\"value\":\"1\",\"variablesReference\":0},{\"name\":\"b\",\"value\":\"1\",\"variablesReference\":2},{\"name\":\"c\",\"value\":\"1\",\"variablesReference\":0},{\"name\":\"d\",\"value\":\"1\",\"variablesReference\":2},{\"name\":\"e\",\"value\":\"1\",\"variablesReference\":3}]},\"command\":\"variables\",\"request_seq\":2,\"seq\":2,\"success\":true,\"type\":\"response\"}",
+            ),
+        ],
+    ),
+    // Frames and references count apart.
+    (
+        &[
+            INITIALIZE,
+            INITIALIZE_RESPONSE,
+            (
+                ">",
+                "{\"arguments\":{\"expression\":\"x\",\"frameId\":5},\"command\":\"evaluate\",\"seq\":2,\"type\":\"request\"}",
+            ),
+            (
+                "<",
+                "{\"body\":{\"result\":\"1\",\"variablesReference\":6},\"command\":\"evaluate\",\"request_seq\":2,\"seq\":2,\"success\":true,\"type\":\"response\"}",
+            ),
+        ],
+        &[
+            INITIALIZE,
+            FILLED_RESPONSE,
+            (
+                ">",
+                "{\"arguments\":{\"expression\":\"x\",\"frameId\":1},\"command\":\"evaluate\",\"seq\":2,\"type\":\"request\"}",
+            ),
+            (
+                "<",
+                "{\"body\":{\"result\":\"1\",\"variablesReference\":1},\"command\":\"evaluate\",\"request_seq\":2,\"seq\":2,\"success\":true,\"type\":\"response\"}",
+            ),
+        ],
+    ),
+    // The request that is cancelled.
+    (
+        &[
+            INITIALIZE,
+            INITIALIZE_RESPONSE,
+            (
+                ">",
+                "{\"command\":\"threads\",\"seq\":40,\"type\":\"request\"}",
+            ),
+            (
+                ">",
+                "{\"arguments\":{\"requestId\":40},\"command\":\"cancel\",\"seq\":41,\"type\":\"request\"}",
+            ),
+        ],
+        &[
+            INITIALIZE,
+            FILLED_RESPONSE,
+            THREADS,
+            (
+                ">",
+                "{\"arguments\":{\"requestId\":2},\"command\":\"cancel\",\"seq\":3,\"type\":\"request\"}",
+            ),
+        ],
+    ),
+    // An event of capabilities stays.
+    (
+        &[
+            INITIALIZE,
+            INITIALIZE_RESPONSE,
+            (
+                "<",
+                "{\"body\":{\"capabilities\":{\"supportsStepBack\":true}},\"event\":\"capabilities\",\"seq\":2,\"type\":\"event\"}",
+            ),
+        ],
+        &[
+            INITIALIZE,
+            FILLED_RESPONSE,
+            (
+                "<",
+                "{\"body\":{\"capabilities\":{\"supportsStepBack\":true}},\"event\":\"capabilities\",\"seq\":2,\"type\":\"event\"}",
+            ),
+        ],
+    ),
+    // Capabilities are filled in beside what no row names.
+    (
+        &[
+            INITIALIZE,
+            (
+                "<",
+                "{\"body\":{\"supportsStepBack\":null,\"x\":1},\"command\":\"initialize\",\"request_seq\":1,\"seq\":1,\"success\":true,\"type\":\"response\"}",
+            ),
+        ],
+        &[
+            INITIALIZE,
+            (
+                "<",
+                "{\"body\":{\"supportSuspendDebuggee\":false,\"supportTerminateDebuggee\":false,\"supportsBreakpointLocationsRequest\":false,\"supportsCancelRequest\":false,\"supportsClipboardContext\":false,\"supportsCompletionsRequest\":false,\"supportsConditionalBreakpoints\":false,\"supportsConfigurationDoneRequest\":false,\"supportsDataBreakpoints\":false,\"supportsDelayedStackTraceLoading\":false,\"supportsDisassembleRequest\":false,\"supportsEvaluateForHovers\":false,\"supportsExceptionFilterOptions\":false,\"supportsExceptionInfoRequest\":false,\"supportsExceptionOptions\":false,\"supportsFunctionBreakpoints\":false,\"supportsGotoTargetsRequest\":false,\"supportsHitConditionalBreakpoints\":false,\"supportsInstructionBreakpoints\":false,\"supportsLoadedSourcesRequest\":false,\"supportsLogPoints\":false,\"supportsModulesRequest\":false,\"supportsReadMemoryRequest\":false,\"supportsRestartFrame\":false,\"supportsRestartRequest\":false,\"supportsSetExpression\":false,\"supportsSetVariable\":false,\"supportsSingleThreadExecutionRequests\":false,\"supportsStepBack\":false,\"supportsStepInTargetsRequest\":false,\"supportsSteppingGranularity\":false,\"supportsTerminateRequest\":false,\"supportsTerminateThreadsRequest\":false,\"supportsValueFormattingOptions\":false,\"supportsWriteMemoryRequest\":false,\"x\":1},\"command\":\"initialize\",\"request_seq\":1,\"seq\":1,\"success\":true,\"type\":\"response\"}",
+            ),
+        ],
+    ),
+    // A failed response keeps what no row names.
+    (
+        &[
+            INITIALIZE,
+            INITIALIZE_RESPONSE,
+            STACK_TRACE,
+            (
+                "<",
+                "{\"body\":{\"error\":{\"format\":\"gone\",\"id\":7}},\"command\":\"stackTrace\",\"message\":\"gone\",\"request_seq\":2,\"seq\":2,\"success\":false,\"type\":\"response\"}",
+            ),
+        ],
+        &[
+            INITIALIZE,
+            FILLED_RESPONSE,
+            STACK_TRACE,
+            (
+                "<",
+                "{\"body\":{\"error\":{\"format\":\"gone\",\"id\":7}},\"command\":\"stackTrace\",\"message\":\"gone\",\"request_seq\":2,\"seq\":2,\"success\":false,\"type\":\"response\"}",
+            ),
+        ],
+    ),
+    // No record.
+    (&[], &[]),
+    // Output before all else.
+    (&[OUTPUT], &[OUTPUT]),
+    // A request of the adapter.
+    (
+        &[
+            INITIALIZE,
+            INITIALIZE_RESPONSE,
+            (
+                "<",
+                "{\"arguments\":{\"args\":[\"sh\"],\"cwd\":\"/\"},\"command\":\"runInTerminal\",\"seq\":0,\"type\":\"request\"}",
+            ),
+            (
+                ">",
+                "{\"command\":\"runInTerminal\",\"request_seq\":0,\"seq\":2,\"success\":true,\"type\":\"response\"}",
+            ),
+        ],
+        &[
+            INITIALIZE,
+            FILLED_RESPONSE,
+            (
+                "<",
+                "{\"arguments\":{\"args\":[\"sh\"],\"cwd\":\"/\"},\"command\":\"runInTerminal\",\"seq\":2,\"type\":\"request\"}",
+            ),
+            (
+                ">",
+                "{\"command\":\"runInTerminal\",\"request_seq\":2,\"seq\":2,\"success\":true,\"type\":\"response\"}",
+            ),
+        ],
+    ),
+    // The least number.
+    (
+        &[(
+            ">",
+            "{\"arguments\":{\"adapterID\":\"mock\"},\"command\":\"initialize\",\"seq\":-9223372036854775808,\"type\":\"request\"}",
+        )],
+        &[INITIALIZE],
+    ),
 ];
 
 #[test]
@@ -81,8 +339,7 @@ fn refusal(alloc: Global, input: &[u8], limits: Limits) -> Result<Refused, Fail>
     let checked = check(alloc, &mut MemorySource::new(input), limits, false);
     match (written, normalise_bytes(alloc, input, limits), checked) {
         (Err(refused), Err(of_bytes), Err(of_check))
-            if refused == of_bytes && refused == of_check && sink.bytes().is_empty() =>
-        {
+            if refused == of_bytes && refused == of_check && sink.bytes().is_empty() => {
             Ok(refused)
         }
         _ => Err("not refused alike".into()),
@@ -94,20 +351,68 @@ fn refused_contents(rt: HostRuntime) -> Result<(), Fail> {
     let alloc = rt.alloc();
     let table: [(&[Line], Refused); 9] = [
         // A number with a fraction.
-        ([INITIALIZE, INITIALIZE_RESPONSE, (">", "{\"arguments\":{\"x\":0.5},\"command\":\"launch\",\"seq\":2,\"type\":\"request\"}")].as_slice(), Refused::Fraction(3)),
+        (
+            [
+                INITIALIZE,
+                INITIALIZE_RESPONSE,
+                (
+                    ">",
+                    "{\"arguments\":{\"x\":0.5},\"command\":\"launch\",\"seq\":2,\"type\":\"request\"}",
+                ),
+            ]
+            .as_slice(),
+            Refused::Fraction(3),
+        ),
         // One with an exponent, though it is whole.
-        ([INITIALIZE, INITIALIZE_RESPONSE, (">", "{\"arguments\":{\"breakpoints\":[{\"line\":1e3}]},\"command\":\"setBreakpoints\",\"seq\":2,\"type\":\"request\"}")].as_slice(), Refused::Fraction(3)),
+        (
+            [
+                INITIALIZE,
+                INITIALIZE_RESPONSE,
+                (
+                    ">",
+                    "{\"arguments\":{\"breakpoints\":[{\"line\":1e3}]},\"command\":\"setBreakpoints\",\"seq\":2,\"type\":\"request\"}",
+                ),
+            ]
+            .as_slice(),
+            Refused::Fraction(3),
+        ),
         // The same with a whole number has no source.
-        ([INITIALIZE, INITIALIZE_RESPONSE, (">", "{\"arguments\":{\"breakpoints\":[{\"line\":3}]},\"command\":\"setBreakpoints\",\"seq\":2,\"type\":\"request\"}")].as_slice(), Refused::Message(3, MessageFault::Missing(13))),
+        (
+            [
+                INITIALIZE,
+                INITIALIZE_RESPONSE,
+                (
+                    ">",
+                    "{\"arguments\":{\"breakpoints\":[{\"line\":3}]},\"command\":\"setBreakpoints\",\"seq\":2,\"type\":\"request\"}",
+                ),
+            ]
+            .as_slice(),
+            Refused::Message(3, MessageFault::Missing(13)),
+        ),
         // A second response.
-        ([INITIALIZE, INITIALIZE_RESPONSE, INITIALIZE_RESPONSE].as_slice(), Refused::Rule(3, Rule::AnsweredTwice)),
+        (
+            [INITIALIZE, INITIALIZE_RESPONSE, INITIALIZE_RESPONSE].as_slice(),
+            Refused::Rule(3, Rule::AnsweredTwice),
+        ),
         // An event before all else.
         ([STOPPED].as_slice(), Refused::Rule(1, Rule::NotInitialized)),
         // Contents that are no messages.
-        ([(">", "[]")].as_slice(), Refused::Message(1, MessageFault::NotObject)),
-        ([(">", "{}")].as_slice(), Refused::Message(1, MessageFault::UnknownType)),
-        ([(">", "{\"type\":\"request\"}")].as_slice(), Refused::Message(1, MessageFault::Missing(1))),
-        ([(">", "{\"seq\":9223372036854775808,\"type\":\"event\"}")].as_slice(), Refused::Message(1, MessageFault::WrongType(1))),
+        (
+            [(">", "[]")].as_slice(),
+            Refused::Message(1, MessageFault::NotObject),
+        ),
+        (
+            [(">", "{}")].as_slice(),
+            Refused::Message(1, MessageFault::UnknownType),
+        ),
+        (
+            [(">", "{\"type\":\"request\"}")].as_slice(),
+            Refused::Message(1, MessageFault::Missing(1)),
+        ),
+        (
+            [(">", "{\"seq\":9223372036854775808,\"type\":\"event\"}")].as_slice(),
+            Refused::Message(1, MessageFault::WrongType(1)),
+        ),
     ];
     for (lines, wanted) in table {
         let input = recording(alloc, lines)?;
@@ -187,14 +492,23 @@ fn a_filled_content_may_pass_its_limit(rt: HostRuntime) -> Result<(), Fail> {
 #[test]
 fn too_many_ids(rt: HostRuntime) -> Result<(), Fail> {
     let alloc = rt.alloc();
-    let three_frames: Line = ("<", "{\"body\":{\"stackFrames\":[{\"column\":1,\"id\":1000,\"line\":3,\"name\":\"f\"},{\"column\":1,\"id\":1001,\"line\":9,\"name\":\"g\"},{\"column\":1,\"id\":1002,\"line\":9,\"name\":\"g\"}]},\"command\":\"stackTrace\",\"request_seq\":2,\"seq\":2,\"success\":true,\"type\":\"response\"}");
+    let three_frames: Line = (
+        "<",
+        "{\"body\":{\"stackFrames\":[{\"column\":1,\"id\":1000,\"line\":3,\"name\":\"f\"},{\"column\":1,\"id\":1001,\"line\":9,\"name\":\"g\"},{\"column\":1,\"id\":1002,\"line\":9,\"name\":\"g\"}]},\"command\":\"stackTrace\",\"request_seq\":2,\"seq\":2,\"success\":true,\"type\":\"response\"}",
+    );
     let lines = [INITIALIZE, INITIALIZE_RESPONSE, STACK_TRACE, three_frames];
     let input = recording(alloc, lines.as_slice())?;
     let two = Limits { ids: 2, ..LIMITS };
-    assert_eq!(rt; refusal(alloc, input.as_slice(), two)?, Refused::TooManyIds(4));
+    assert_eq!(rt;
+        refusal(alloc, input.as_slice(), two)?,
+        Refused::TooManyIds(4)
+    );
     let one = recording(alloc, [INITIALIZE].as_slice())?;
     let none = Limits { ids: 0, ..LIMITS };
-    assert_eq!(rt; refusal(alloc, one.as_slice(), none)?, Refused::TooManyIds(1));
+    assert_eq!(rt;
+        refusal(alloc, one.as_slice(), none)?,
+        Refused::TooManyIds(1)
+    );
     Ok(())
 }
 
@@ -217,18 +531,15 @@ fn a_normal_text_stands_still(rt: HostRuntime) -> Result<(), Fail> {
 }
 
 #[test]
-fn the_program_writes_the_normal_text_and_one_line_of_a_refusal(rt: HostRuntime) -> Result<(), Fail> {
+fn the_program_writes_the_normal_text_and_one_line_of_a_refusal(
+    rt: HostRuntime,
+) -> Result<(), Fail> {
     let alloc = rt.alloc();
     let configured = recording(alloc, CONFIGURED.as_slice())?;
     let limits = Limits { ids: 1, ..LIMITS };
     for (limits, len, line, wanted) in [
         (LIMITS, 1709, b"".as_slice(), 0),
-        (
-            limits,
-            0,
-            b"dapnorm: record 3: TooManyIds\n".as_slice(),
-            2,
-        ),
+        (limits, 0, b"dapnorm: record 3: TooManyIds\n".as_slice(), 2),
     ] {
         let mut sink = MemorySink::new(alloc, 4096)?;
         let mut errors = MemorySink::new(alloc, 4096)?;

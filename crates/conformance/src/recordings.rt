@@ -59,7 +59,10 @@ pub const CONFIGURED: [Line; 5] = [
 pub fn recording(alloc: Global, lines: &[Line]) -> Result<Vec<u8>, AllocError> {
     let mut bytes = Vec::new(alloc);
     for (marker, content) in lines {
-        let record = format!(in alloc; "{marker}Content-Length: {}\r\n\r\n{content}\n", content.len())?;
+        let record = format!(in alloc;
+            "{marker}Content-Length: {}\r\n\r\n{content}\n",
+            content.len()
+        )?;
         bytes.extend_from_slice(record.as_bytes())?;
     }
     Ok(bytes)
@@ -71,11 +74,7 @@ pub fn checked(alloc: Global, bytes: &[u8]) -> Result<Checked, Refused> {
 }
 
 /// That so many records are accepted, and so many requests of the client and of the adapter are open.
-pub fn accepted(
-    records: u64,
-    client_open: usize,
-    adapter_open: usize,
-) -> Result<Checked, Refused> {
+pub fn accepted(records: u64, client_open: usize, adapter_open: usize) -> Result<Checked, Refused> {
     Ok(Checked {
         records,
         client_open,

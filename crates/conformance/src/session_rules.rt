@@ -8,124 +8,168 @@ use std::alloc::Global;
 use std::process::Abort;
 use std::test::Fail;
 
+const BEGUN: [Line; 2] = [INITIALIZE, INITIALIZE_RESPONSE];
+
+const ASKED: [Line; 3] = [INITIALIZE, INITIALIZE_RESPONSE, THREADS];
+
+const DISCONNECTED: [Line; 4] = [
+    INITIALIZE,
+    INITIALIZE_RESPONSE,
+    (
+        ">",
+        "{\"command\":\"disconnect\",\"seq\":2,\"type\":\"request\"}",
+    ),
+    (
+        "<",
+        "{\"command\":\"disconnect\",\"request_seq\":2,\"seq\":2,\"success\":true,\"type\":\"response\"}",
+    ),
+];
+
+/// An event of the client.
+const CLIENT_EVENT: Line = (">", INITIALIZED.1);
+
+/// `initialize` with another number than before.
 const INITIALIZE_AGAIN: Line = (
     ">",
-    "{\"arguments\":{\"adapterID\":\"mock\"},\"command\":\"initialize\",\"seq\":2,\"type\":\"request\"}",
+    "{\"arguments\":{\"adapterID\":\"mock\"},\"command\":\"initialize\",\"seq\":3,\"type\":\"request\"}",
 );
 
-const DISCONNECT: Line = (
+/// `threads` with the number of `initialize`.
+const THREADS_USED: Line = (
     ">",
-    "{\"command\":\"disconnect\",\"seq\":2,\"type\":\"request\"}",
+    "{\"command\":\"threads\",\"seq\":1,\"type\":\"request\"}",
 );
 
-const DISCONNECT_RESPONSE: Line = (
-    "<",
-    "{\"command\":\"disconnect\",\"request_seq\":2,\"seq\":2,\"success\":true,\"type\":\"response\"}",
-);
-
-const THREADS_AFTER: Line = (
+/// `threads` with a new number.
+const THREADS_NEW: Line = (
     ">",
     "{\"command\":\"threads\",\"seq\":3,\"type\":\"request\"}",
 );
 
-/// That the last line breaks the rule, and no line before it breaks any.
+/// `configurationDone` with the number of `initialize`.
+const CONFIGURATION_DONE_USED: Line = (
+    ">",
+    "{\"command\":\"configurationDone\",\"seq\":1,\"type\":\"request\"}",
+);
+
+/// `configurationDone` with a new number.
+const CONFIGURATION_DONE_NEW: Line = (
+    ">",
+    "{\"command\":\"configurationDone\",\"seq\":3,\"type\":\"request\"}",
+);
+
+/// A response to no request.
+const TO_NONE: Line = (
+    "<",
+    "{\"command\":\"initialize\",\"request_seq\":9,\"seq\":1,\"success\":true,\"type\":\"response\"}",
+);
+
+/// A response of the client to no request.
+const CLIENT_TO_NONE: Line = (
+    ">",
+    "{\"command\":\"threads\",\"request_seq\":9,\"seq\":2,\"success\":true,\"type\":\"response\"}",
+);
+
+/// A response to `threads` with another command.
+const THREADS_ANSWERED_OTHERWISE: Line = (
+    "<",
+    "{\"command\":\"initialize\",\"request_seq\":2,\"seq\":1,\"success\":true,\"type\":\"response\"}",
+);
+
+/// A response to `initialize` with another command.
+const INITIALIZE_ANSWERED_OTHERWISE: Line = (
+    "<",
+    "{\"command\":\"pause\",\"request_seq\":1,\"seq\":1,\"success\":true,\"type\":\"response\"}",
+);
+
+/// Asks that the last line breaks the rule, and that no line before it breaks any.
 fn breaks(
     rt: &impl Abort,
     alloc: Global,
     before: &[Line],
     last: Line,
-    number: u64,
     rule: Rule,
 ) -> Result<(), Fail> {
     let mut bytes = recording(alloc, before)?;
     assert!(rt; checked(alloc, bytes.as_slice()).is_ok(), "{rule}");
     bytes.extend_from_slice(recording(alloc, [last].as_slice())?.as_slice())?;
-    assert_eq!(rt; checked(alloc, bytes.as_slice()), Err(Refused::Rule(number, rule)));
+    let number = (before.len() as u64).saturating_add(1);
+    assert_eq!(rt;
+        checked(alloc, bytes.as_slice()),
+        Err(Refused::Rule(number, rule))
+    );
     Ok(())
 }
 
 #[test]
 fn each_rule_broken_alone(rt: HostRuntime) -> Result<(), Fail> {
     let alloc = rt.alloc();
-    let asked = [INITIALIZE];
-    let begun = [INITIALIZE, INITIALIZE_RESPONSE];
-    let open = [INITIALIZE, INITIALIZE_RESPONSE, THREADS];
-    let ended = [
-        INITIALIZE,
-        INITIALIZE_RESPONSE,
-        DISCONNECT,
-        DISCONNECT_RESPONSE,
-    ];
-    let no_request: Line = (
-        "<",
-        "{\"command\":\"initialize\",\"request_seq\":9,\"seq\":1,\"success\":true,\"type\":\"response\"}",
-    );
-    let other_command: Line = (
-        "<",
-        "{\"command\":\"initialize\",\"request_seq\":2,\"seq\":1,\"success\":true,\"type\":\"response\"}",
-    );
-    let from_client: Line = (">", INITIALIZED.1);
-    let used: Line = (
-        ">",
-        "{\"command\":\"threads\",\"seq\":1,\"type\":\"request\"}",
-    );
-    let configured_again: Line = (
-        ">",
-        "{\"command\":\"configurationDone\",\"seq\":3,\"type\":\"request\"}",
-    );
-    breaks(&rt, alloc, begun.as_slice(), from_client, 3, Rule::EventFromClient)?;
-    breaks(&rt, alloc, [].as_slice(), STOPPED, 1, Rule::NotInitialized)?;
-    breaks(&rt, alloc, asked.as_slice(), THREADS, 2, Rule::StillInitializing)?;
-    breaks(&rt, alloc, begun.as_slice(), INITIALIZE_AGAIN, 3, Rule::InitializeTwice)?;
-    breaks(&rt, alloc, ended.as_slice(), THREADS_AFTER, 5, Rule::AfterDisconnect)?;
-    breaks(&rt, alloc, begun.as_slice(), used, 3, Rule::SeqUsed)?;
-    breaks(&rt, alloc, begun.as_slice(), CONFIGURATION_DONE, 3, Rule::ConfiguredEarly)?;
-    breaks(&rt, alloc, CONFIGURED.as_slice(), configured_again, 6, Rule::ConfiguredTwice)?;
-    breaks(&rt, alloc, begun.as_slice(), no_request, 3, Rule::NoRequest)?;
-    breaks(&rt, alloc, begun.as_slice(), INITIALIZE_RESPONSE, 3, Rule::AnsweredTwice)?;
-    breaks(&rt, alloc, open.as_slice(), other_command, 4, Rule::OtherCommand)
+    let initializing = [INITIALIZE];
+    let (begun, asked, disconnected, configured) = (BEGUN, ASKED, DISCONNECTED, CONFIGURED);
+    for (before, last, rule) in [
+        (begun.as_slice(), CLIENT_EVENT, Rule::EventFromClient),
+        ([].as_slice(), STOPPED, Rule::NotInitialized),
+        (initializing.as_slice(), THREADS, Rule::StillInitializing),
+        (begun.as_slice(), INITIALIZE_AGAIN, Rule::InitializeTwice),
+        (disconnected.as_slice(), THREADS_NEW, Rule::AfterDisconnect),
+        (begun.as_slice(), THREADS_USED, Rule::SeqUsed),
+        (begun.as_slice(), CONFIGURATION_DONE, Rule::ConfiguredEarly),
+        (
+            configured.as_slice(),
+            CONFIGURATION_DONE_NEW,
+            Rule::ConfiguredTwice,
+        ),
+        (begun.as_slice(), TO_NONE, Rule::NoRequest),
+        (begun.as_slice(), INITIALIZE_RESPONSE, Rule::AnsweredTwice),
+        (
+            asked.as_slice(),
+            THREADS_ANSWERED_OTHERWISE,
+            Rule::OtherCommand,
+        ),
+    ] {
+        breaks(&rt, alloc, before, last, rule)?;
+    }
+    Ok(())
 }
 
 #[test]
 fn of_two_broken_rules_the_first_is_told(rt: HostRuntime) -> Result<(), Fail> {
     let alloc = rt.alloc();
-    let asked = [INITIALIZE];
-    let begun = [INITIALIZE, INITIALIZE_RESPONSE];
-    let ended = [
-        INITIALIZE,
-        INITIALIZE_RESPONSE,
-        DISCONNECT,
-        DISCONNECT_RESPONSE,
-    ];
-    let from_client: Line = (">", INITIALIZED.1);
-    let client_response: Line = (
-        ">",
-        "{\"command\":\"threads\",\"request_seq\":9,\"seq\":2,\"success\":true,\"type\":\"response\"}",
-    );
-    let initialize_after: Line = (
-        ">",
-        "{\"arguments\":{\"adapterID\":\"mock\"},\"command\":\"initialize\",\"seq\":3,\"type\":\"request\"}",
-    );
-    let used_and_early: Line = (
-        ">",
-        "{\"command\":\"configurationDone\",\"seq\":1,\"type\":\"request\"}",
-    );
-    let twice_and_other: Line = (
-        "<",
-        "{\"command\":\"threads\",\"request_seq\":1,\"seq\":1,\"success\":true,\"type\":\"response\"}",
-    );
-    // The other rule that each breaks: NotInitialized, NoRequest, NoRequest, InitializeTwice, AfterDisconnect, SeqUsed,
+    let initializing = [INITIALIZE];
+    let (begun, disconnected, configured) = (BEGUN, DISCONNECTED, CONFIGURED);
+    // The other rules that these break: NotInitialized, NoRequest, NoRequest, InitializeTwice, AfterDisconnect, SeqUsed,
     // SeqUsed, ConfiguredEarly, ConfiguredTwice, OtherCommand.
-    breaks(&rt, alloc, [].as_slice(), from_client, 1, Rule::EventFromClient)?;
-    breaks(&rt, alloc, [].as_slice(), INITIALIZE_RESPONSE, 1, Rule::NotInitialized)?;
-    breaks(&rt, alloc, asked.as_slice(), client_response, 2, Rule::StillInitializing)?;
-    breaks(&rt, alloc, asked.as_slice(), INITIALIZE_AGAIN, 2, Rule::StillInitializing)?;
-    breaks(&rt, alloc, ended.as_slice(), initialize_after, 5, Rule::InitializeTwice)?;
-    breaks(&rt, alloc, begun.as_slice(), INITIALIZE, 3, Rule::InitializeTwice)?;
-    breaks(&rt, alloc, ended.as_slice(), THREADS, 5, Rule::AfterDisconnect)?;
-    breaks(&rt, alloc, begun.as_slice(), used_and_early, 3, Rule::SeqUsed)?;
-    breaks(&rt, alloc, CONFIGURED.as_slice(), CONFIGURATION_DONE, 6, Rule::SeqUsed)?;
-    breaks(&rt, alloc, begun.as_slice(), twice_and_other, 3, Rule::AnsweredTwice)
+    for (before, last, rule) in [
+        ([].as_slice(), CLIENT_EVENT, Rule::EventFromClient),
+        ([].as_slice(), INITIALIZE_RESPONSE, Rule::NotInitialized),
+        (
+            initializing.as_slice(),
+            CLIENT_TO_NONE,
+            Rule::StillInitializing,
+        ),
+        (
+            initializing.as_slice(),
+            INITIALIZE_AGAIN,
+            Rule::StillInitializing,
+        ),
+        (
+            disconnected.as_slice(),
+            INITIALIZE_AGAIN,
+            Rule::InitializeTwice,
+        ),
+        (begun.as_slice(), INITIALIZE, Rule::InitializeTwice),
+        (disconnected.as_slice(), THREADS, Rule::AfterDisconnect),
+        (begun.as_slice(), CONFIGURATION_DONE_USED, Rule::SeqUsed),
+        (configured.as_slice(), CONFIGURATION_DONE, Rule::SeqUsed),
+        (
+            begun.as_slice(),
+            INITIALIZE_ANSWERED_OTHERWISE,
+            Rule::AnsweredTwice,
+        ),
+    ] {
+        breaks(&rt, alloc, before, last, rule)?;
+    }
+    Ok(())
 }
 
 #[test]
@@ -136,7 +180,7 @@ fn output_breaks_no_rule(rt: HostRuntime) -> Result<(), Fail> {
     assert_eq!(rt; checked(alloc, bytes.as_slice()), accepted(5, 0, 0));
     // That of a client is an event of a client.
     let of_client: Line = (">", OUTPUT.1);
-    breaks(&rt, alloc, [].as_slice(), of_client, 1, Rule::EventFromClient)
+    breaks(&rt, alloc, [].as_slice(), of_client, Rule::EventFromClient)
 }
 
 #[test]
@@ -153,5 +197,5 @@ fn each_side_has_numbers_of_its_own(rt: HostRuntime) -> Result<(), Fail> {
     let lines = [INITIALIZE, INITIALIZE_RESPONSE, asks, answers];
     let bytes = recording(alloc, lines.as_slice())?;
     assert_eq!(rt; checked(alloc, bytes.as_slice()), accepted(4, 0, 0));
-    breaks(&rt, alloc, lines.as_slice(), asks, 5, Rule::SeqUsed)
+    breaks(&rt, alloc, lines.as_slice(), asks, Rule::SeqUsed)
 }

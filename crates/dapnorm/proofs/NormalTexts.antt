@@ -25,8 +25,8 @@ no_numbers c [] all none = refl
 no_numbers c (o ∷ os) all none =
     by_bool (same_class c o.0)
     (λ same.
-      let among : IsIn c whole_classes = subst (λ d. IsIn d whole_classes) (sym ((class_decides c o.0).0 same)) all.0 in
-      absurd (not_among c whole_classes among none))
+    let among : IsIn c whole_classes = subst (λ d. IsIn d whole_classes) (sym ((class_decides c o.0).0 same)) all.0 in
+    absurd (not_among c whole_classes among none))
     (λ other. rw other (no_numbers c os all.1 none))
   where
     not_among : (c : Class) (cs : List Class) → IsIn c cs → list_any (same_class c) cs ≡ false → ⊥

@@ -42,13 +42,16 @@ pub fn check<R: Source>(
         Ok(input) => input,
         Err(_) => return Err(Refused::Memory),
     };
-    let accepted = judge_input(alloc, input.bytes.as_slice(), input.stop, limits, Keep::Length)?;
+    let accepted = judge_input(
+        alloc,
+        input.bytes.as_slice(),
+        input.stop,
+        limits,
+        Keep::Length,
+    )?;
     let checked = accepted.checked;
     if complete && (checked.client_open != 0 || checked.adapter_open != 0) {
-        return Err(Refused::Incomplete(
-            checked.client_open,
-            checked.adapter_open,
-        ));
+        return Err(Refused::Incomplete(checked.client_open, checked.adapter_open));
     }
     Ok(checked)
 }

@@ -69,7 +69,13 @@ pub fn normalise<R: Source, W: Sink>(
         Ok(input) => input,
         Err(_) => return Err(Refused::Memory),
     };
-    let accepted = judge_input(alloc, input.bytes.as_slice(), input.stop, limits, Keep::Text)?;
+    let accepted = judge_input(
+        alloc,
+        input.bytes.as_slice(),
+        input.stop,
+        limits,
+        Keep::Text,
+    )?;
     match write_and_flush(writer, accepted.text.as_slice()) {
         Ok(()) => Ok(()),
         Err(_) => Err(Refused::WriteFault),
