@@ -8,3 +8,5 @@ pub mod Normals
 pub mod Places
 pub mod Grown
 pub mod Standing
+pub mod Carried
+pub mod Paired

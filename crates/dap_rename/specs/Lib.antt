@@ -5,4 +5,7 @@ pub mod Table
 pub mod Tables
 pub mod Names
 pub mod PlainNames
+pub mod Pairs
+pub mod Renaming
+pub mod Carrying
 pub mod Laws

@@ -5,15 +5,20 @@
 //! list is; [`laws`] has the theorems.
 #![tactic(auto)]
 
+mod carries;
 pub mod laws;
 mod name_table;
 mod names;
+mod pair;
 mod plain_names;
+mod renaming;
 mod tables;
 #[cfg(test)]
 mod tests;
 
 pub use name_table::{NameFault, NameTable};
 pub use names::Names;
+pub use pair::{Pair, PairFault};
 pub use plain_names::PlainNames;
+pub use renaming::Renaming;
 pub use tables::Tables;
