@@ -11,7 +11,6 @@ fn a_reader_of_a_recording_that_fails(rt: HostRuntime) -> Result<(), Fail> {
     let bytes = recording(alloc, CONFIGURED.as_slice())?;
     for place in 0..=473u64 {
         let mut source = TestSource::new(bytes.as_slice());
-        source.piece = 50;
         source.fails_at = place;
         let answer = check(alloc, &mut source, LIMITS, false);
         assert_eq!(rt; answer, Err(Refused::ReadFault), "behind {place} bytes");

@@ -1,7 +1,7 @@
 //! Each rule of a session, broken alone and together with another, through `check`.
 use crate::recordings::{
-    CONFIGURATION_DONE, CONFIGURED, INITIALIZE, INITIALIZE_RESPONSE, INITIALIZED, Line, OUTPUT,
-    STOPPED, THREADS, accepted, checked, recording,
+    CONFIGURATION_DONE, CONFIGURED, INITIALIZE, INITIALIZE_RESPONSE, Line, OUTPUT, STOPPED,
+    THREADS, accepted, checked, recording,
 };
 use dapnorm::{Refused, Rule};
 use std::alloc::Global;
@@ -26,7 +26,10 @@ const DISCONNECTED: [Line; 4] = [
 ];
 
 /// An event of the client.
-const CLIENT_EVENT: Line = (">", INITIALIZED.1);
+const CLIENT_EVENT: Line = (
+    ">",
+    "{\"event\":\"initialized\",\"seq\":2,\"type\":\"event\"}",
+);
 
 /// `initialize` with another number than before.
 const INITIALIZE_AGAIN: Line = (
@@ -67,7 +70,7 @@ const TO_NONE: Line = (
 /// A response of the client to no request.
 const CLIENT_TO_NONE: Line = (
     ">",
-    "{\"command\":\"threads\",\"request_seq\":9,\"seq\":2,\"success\":true,\"type\":\"response\"}",
+    "{\"command\":\"pause\",\"request_seq\":9,\"seq\":2,\"success\":true,\"type\":\"response\"}",
 );
 
 /// A response to `threads` with another command.
