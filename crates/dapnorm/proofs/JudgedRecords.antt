@@ -1,10 +1,10 @@
 -- A record that is judged behind others: the judge goes on to stand for its message too, or it is refused.
-use Rattle.std.proofs.Common.{◌≡◌, ◌⊎◌, inl, inr, ℕ, ◌+◌, ◌<◌, ◌≤◌, List, [], ◌∷◌, ◌++◌, length, Some, None, Err, refl, sym, ◌∙◌, ap, subst, arith, append-nil, length-append}
+use Rattle.std.proofs.Common.{◌≡◌, ◌⊎◌, inl, inr, ℕ, ◌+◌, ◌<◌, ◌≤◌, List, [], ◌∷◌, ◌++◌, length, None, Err, sym, ◌∙◌, ap, subst, arith, append-nil, length-append}
 use Rattle.std.specs.List.{AllByRecursion}
 use Rattle.dap_tree.specs.Json.{text_of}
 use Rattle.dap_tree.specs.declared.sort.Sort.{Sort}
 use Rattle.dap_message.specs.Message.{Sent}
-use Rattle.dap_rename.specs.Messages.{AreProper, HasFewIds, HasTooManyIds, IsNormal, IsRenamed, in_whole, normal_of, numbers_of_class}
+use Rattle.dap_rename.specs.Messages.{AreProper, HasFewIds, HasTooManyIds, IsNormal, IsRenamed, in_whole, numbers_of_class}
 use Rattle.dap_rename.specs.Names.{StandFor, limit_in}
 use Rattle.dap_rename.specs.PlainNames.{plain_limit, plain_numbers}
 use Rattle.dap_rename.proofs.Normals.{normal_of_next, whole_is_told}
@@ -15,7 +15,7 @@ use Rattle.dapnorm.specs.declared.judging.Judge.{Judge}
 use Rattle.dapnorm.specs.declared.limits.Limits.{Limits}
 use Rattle.dapnorm.specs.declared.refused.Refused.{Refused}
 use Rattle.dapnorm.specs.declared.refused.Refused.TheVariants.{InputTooLong, Record, Json, Fraction, Message, Rule, TooManyIds, Grew, Incomplete, ReadFault, WriteFault, Memory}
-use Rattle.dapnorm.specs.Accepting.{Held, Fits, HasGrown, IsMessage, IsNext, Objects, grew, id_limit, text, too_many_ids}
+use Rattle.dapnorm.specs.Accepting.{Held, Fits, IsMessage, IsNext, Objects, grew, id_limit, text, too_many_ids}
 use Rattle.dapnorm.specs.JudgingSteps.{IsTaken, RefusesRecord, StandsFor, Writes, record_of}
 use Rattle.dapnorm.proofs.AcceptingFacts.{message_proper}
 use Rattle.dapnorm.proofs.NormalTexts.{normal, normal_fits, proper_push, text-append}

@@ -12,7 +12,6 @@ use Rattle.dap_recording.specs.RecordReading.{RecordReading, StandsFor as Reads,
 use Rattle.dap_recording.proofs.RecordSteps.{stands_open}
 use Rattle.dap_recording.proofs.RecordOutcomes.{open_none}
 use Rattle.dap_session.specs.Rules.{open_requests}
-use Rattle.dapnorm.specs.declared.checked.Checked.{Checked}
 use Rattle.dapnorm.specs.declared.judging.Judge.{Judge}
 use Rattle.dapnorm.specs.declared.judging_input.Accepted.{Accepted}
 use Rattle.dapnorm.specs.declared.judging_input.Keep.{Keep}
@@ -22,8 +21,7 @@ use Rattle.dapnorm.specs.declared.reading.Stop.{Stop}
 use Rattle.dapnorm.specs.declared.refused.Refused.{Refused}
 use Rattle.dapnorm.specs.declared.refused.Refused.TheVariants.{InputTooLong, Record, Json, Fraction, Message, Rule, TooManyIds, Grew, Incomplete, ReadFault, WriteFault, Memory}
 use Rattle.dapnorm.specs.Judging.{IsFirstRefusal, faulty, cut, input_too_long, objected}
-use Rattle.dapnorm.specs.Accepting.{Held, IsAccepted, IsRefused, Objection, Objects, IsNext, accepting, no_message, broken, too_many_ids, grew, text}
-use Rattle.dapnorm.specs.Checking.{AreCounted}
+use Rattle.dapnorm.specs.Accepting.{IsAccepted, IsRefused, Objection, Objects, IsNext, accepting, no_message, broken, too_many_ids, grew, text}
 use Rattle.dapnorm.specs.InputJudging.{AcceptsInput, JudgesInput}
 use Rattle.dapnorm.specs.JudgingSteps.{HasGoneOn, RefusesRecord, StandsFor, held_of, judge_limits, record_of}
 use Rattle.dapnorm.proofs.AcceptingFacts.{accepted_facts, value_laws}

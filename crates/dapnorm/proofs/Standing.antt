@@ -1,5 +1,5 @@
 -- The text of a normal form is accepted, stands still, and tells the messages up to a renaming.
-use Rattle.std.proofs.Common.{◌≡◌, ℕ, zero, suc, ◌+◌, ◌<◌, ◌^◌, ◌≤◌, ℤ, true, List, [], ◌∷◌, ◌++◌, length, map, refl, sym, ◌∙◌, ap, subst, arith}
+use Rattle.std.proofs.Common.{◌≡◌, ℕ, zero, suc, ◌≤◌, ℤ, true, List, [], ◌∷◌, ◌++◌, length, map, refl, sym, ◌∙◌, ap, subst, arith}
 use Rattle.std.specs.List.{All, AllZip, AllByRecursion}
 use Rattle.std.proofs.lemmas.List.{length-map}
 use Rattle.dap_tree.specs.Ids.{ids}
@@ -10,7 +10,7 @@ use Rattle.dap_message.specs.Numbers.{has_small_ids}
 use Rattle.dap_message.proofs.Contents.{content_again}
 use Rattle.dap_recording.specs.Recording.{IsRecording, record_text}
 use Rattle.dap_recording.proofs.RecordOutcomes.{written_is_record}
-use Rattle.dap_rename.specs.Messages.{Class, IsProperId, AreProper, AreSame, HasFewIds, IsNormal, class_after, in_whole, message_skeleton, normal_of, numbers_of_class, occurrence, occurrences}
+use Rattle.dap_rename.specs.Messages.{Class, IsProperId, AreProper, AreSame, IsNormal, class_after, in_whole, message_skeleton, normal_of, occurrence, occurrences}
 use Rattle.dap_rename.specs.Renamings.{IsIn, IsRenaming, AreRelated}
 use Rattle.dap_rename.proofs.Related.{gives_one, takes_one}
 use Rattle.dap_rename.proofs.Occurring.{docs_alike, head_of, ids_alike, tail_of}
@@ -22,7 +22,7 @@ use Rattle.dap_session.proofs.Numbered.{typed_numbered}
 use Rattle.dap_session.proofs.Renaming.{keeps_renamed}
 use Rattle.dapnorm.specs.declared.limits.Limits.{Limits}
 use Rattle.dapnorm.specs.Limits.{AreSound}
-use Rattle.dapnorm.specs.Accepting.{Held, AreMessages, Fits, IsAccepted, IsMessage, accepting, id_limit, text}
+use Rattle.dapnorm.specs.Accepting.{Held, AreMessages, IsAccepted, accepting, id_limit, text}
 use Rattle.dapnorm.specs.Normalising.{Normalises, HasOneNormalForm, NormalIsAccepted, AcceptedIsNormalised, OneNormalText, NormalStandsStill, EqualTextsTell}
 use Rattle.dapnorm.proofs.AcceptingFacts.{accepted_facts, messages_proper, value_laws}
 use Rattle.dapnorm.proofs.NormalTexts.{normal, normal_fits, one_normal}

@@ -2,7 +2,6 @@
 use Rattle.std.specs.Prelude.{◌≡◌, ◌⊎◌, ℕ, List, Result, Ok, Err}
 use Rattle.dap_message.specs.Message.{Sent}
 use Rattle.dap_recording.specs.declared.record_fault.RecordCause.TheVariants.{Cut}
-use Rattle.dap_rename.specs.Messages.{IsNormal, in_whole}
 use Rattle.dapnorm.specs.declared.judging_input.Accepted.{Accepted}
 use Rattle.dapnorm.specs.declared.judging_input.Keep.{Keep}
 use Rattle.dapnorm.specs.declared.judging_input.Keep.TheVariants.{Text}
