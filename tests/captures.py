@@ -1,4 +1,4 @@
-"""Takes each recording of a real adapter through `check` and `normalise`, and each side of it through `compact`."""
+"""Takes each recording of a real adapter through `check`, and each side of it through `compact`."""
 import json
 import os
 import sys
@@ -58,42 +58,6 @@ def check_recording(report, name, recording):
         report.check(f"{title} tells its numbers", answer == wanted, repr(answer))
 
 
-def levelled(value):
-    """The value with 0 for each whole number, which may be an id."""
-    if isinstance(value, dict):
-        return {name: levelled(part) for name, part in value.items()}
-    if isinstance(value, list):
-        return [levelled(part) for part in value]
-    return 0 if isinstance(value, int) and not isinstance(value, bool) else value
-
-
-def is_kept(old, new):
-    """The new message is the old one, but for its numbers and for capabilities that were left out."""
-    first, second = levelled(json.loads(old)), levelled(json.loads(new))
-    if first.get("type") == "response" and first.get("command") == "initialize" and first.get("success"):
-        told = {name: part for name, part in (first.get("body") or {}).items() if part is not None}
-        filled = second.pop("body")
-        first.pop("body", None)
-        return first == second and all(filled[name] == told.get(name, False) for name in filled) and set(told) <= set(filled)
-    return first == second
-
-
-def normalise_recording(report, name, recording):
-    answer = run(["normalise"], recording)
-    if name in REFUSED_RECORDINGS:
-        wanted = (2, b"", f"dapnorm: {REFUSED_RECORDINGS[name]}\n".encode())
-        report.check(f"{name}: normalise refuses it as check does", answer == wanted, repr(answer))
-        return None
-    status, text, line = answer
-    report.check(f"{name}: it has a normal form", (status, line) == (0, b"") and text, repr((status, line)))
-    old, new = list(records(recording)), list(records(text))
-    kept = len(old) == len(new) and all(a[0] == b[0] and is_kept(a[2], b[2]) for a, b in zip(old, new))
-    report.check(f"{name}: its normal form keeps all but numbers and absent capabilities", kept)
-    report.check(f"{name}: its normal form stands still", run(["normalise"], text) == (0, text, b""))
-    report.check(f"{name}: its normal form is accepted with the same numbers", run(["check"], text) == run(["check"], recording))
-    return text
-
-
 def compact_sides(report, name, recording):
     for side in ("client", "adapter"):
         frames, contents = one_direction(recording, side)
@@ -112,12 +76,10 @@ def main():
         return report.close()
     names = sorted(name for name in os.listdir(CAPTURES) if name.endswith(".rec"))
     report.check("each recording is there", len(names) == 15, str(len(names)))
-    texts = {}
     for name in names:
         with open(os.path.join(CAPTURES, name), "rb") as file:
             recording = file.read()
         check_recording(report, name, recording)
-        texts[name] = normalise_recording(report, name, recording)
         compact_sides(report, name, recording)
     return report.close()
 
