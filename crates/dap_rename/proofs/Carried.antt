@@ -1,12 +1,10 @@
 -- The test whether pairs carry one document to another answers whether they do.
-use Rattle.std.proofs.Common.{◌≡◌, ℕ, zero, suc, ℤ, pos, Bool, true, false, ◌&&◌, ◌||◌, ◌⊎◌, inl, inr, eqb, List, [], ◌∷◌, ◌++◌, map, length, drop, ◌≤◌, refl, sym, ◌∙◌, ap, subst, arith}
+use Rattle.std.proofs.Common.{◌≡◌, ℕ, suc, ℤ, pos, Bool, true, ◌&&◌, inl, inr, eqb, List, [], ◌∷◌, ◌++◌, map, length, drop, ◌≤◌, refl, sym, ◌∙◌, ap, subst, arith}
 use Rattle.std.proofs.lemmas.Bool.{and_parts, and_from, or_cases, eqb-true, eq-eqb, ne_eqb}
 use Rattle.std.proofs.lemmas.Bool.Decides.{Decides-int_eq}
 use Rattle.std.proofs.lemmas.List.{length-map, map-append, drop_all}
 use Rattle.std.specs.Cmp.{booleans_Decides}
 use Rattle.std.specs.Cmp.Lexicographic.{bytes_decides}
-use Rattle.std.specs.Bool.{beq}
-use Rattle.std.specs.List.{list_any}
 use Rattle.std.specs.Ordering.{int_eq}
 use Rattle.std.specs.Str.{bytes_eq}
 use Rattle.dap_tree.specs.Doc.{Doc, null, boolean, whole, text, list, object, id, Items, no_items, item, Members, no_members, member}
@@ -21,10 +19,10 @@ use Rattle.dap_message.specs.Message.{Sent, sent}
 use Rattle.dap_message.specs.declared.message.Message.{Message}
 use Rattle.dap_rename.specs.Messages.{Class, class_after, occurrence, occurrences, message_skeleton, sort_number, in_whole, Carries}
 use Rattle.dap_rename.specs.Renamings.{IsIn, AreRelated}
-use Rattle.dap_rename.specs.Pairs.{entry, entries, same_sort}
+use Rattle.dap_rename.specs.Pairs.{entries, same_sort}
 use Rattle.dap_rename.specs.Carrying.{has_pair, carries_doc, carries_items, carries_members, same_side, carries_sent, carries_list}
 use Rattle.dap_rename.specs.declared.pair.Pair.{Pair}
-use Rattle.dap_rename.proofs.Occurring.{sort_told, class_sort, head_of, tail_of}
+use Rattle.dap_rename.proofs.Occurring.{sort_told, head_of, tail_of}
 use Rattle.dap_rename.proofs.Sameness.{related_front}
 use Rattle.dap_rename.proofs.Standing.{first_class}
 

@@ -1,9 +1,9 @@
 -- Pairs judged one by one, and the pairs of equal places.
-use Rattle.std.proofs.Common.{◌≡◌, ℕ, zero, suc, ◌+◌, ◌<◌, ℤ, pos, Bool, true, false, ◌&&◌, ◌||◌, List, [], ◌∷◌, ◌++◌, map, length, take, drop, get_or, Option, Some, None, MatchOption, is_some, refl, sym, ◌∙◌, ap, subst, arith, true≢false, take-append-drop, append_assoc, append-nil}
+use Rattle.std.proofs.Common.{◌≡◌, ℕ, ◌+◌, ◌<◌, ℤ, pos, true, false, ◌&&◌, List, [], ◌∷◌, ◌++◌, length, take, drop, get_or, Option, Some, None, MatchOption, is_some, refl, sym, ◌∙◌, ap, subst, arith, true≢false, take-append-drop, append_assoc, append-nil}
 use Rattle.std.proofs.lemmas.Bool.{and_parts, and_from}
 use Rattle.std.proofs.lemmas.Bool.Decides.{Decides-int_eq}
 use Rattle.std.proofs.lemmas.List.{map-append, take_more, length-take-le}
-use Rattle.std.specs.List.{list_any, AllByRecursion}
+use Rattle.std.specs.List.{AllByRecursion}
 use Rattle.std.specs.Ordering.{int_eq}
 use Rattle.dap_tree.specs.declared.sort.Sort.{Sort}
 use Rattle.dap_tree.specs.declared.sort.Sort.TheVariants.{ClientSeq, AdapterSeq, Frame, Reference}
@@ -11,11 +11,11 @@ use Rattle.dap_tree.proofs.Booleans.{or_left, or_right}
 use Rattle.dap_message.specs.Message.{Sent}
 use Rattle.dap_message.specs.Numbers.{is_proper_number}
 use Rattle.dap_rename.specs.Numbering.{table}
-use Rattle.dap_rename.specs.Messages.{Class, IsProperId, class_after, occurrences, same_class, stops_after, in_whole, equal_places}
+use Rattle.dap_rename.specs.Messages.{Class, IsProperId, class_after, occurrences, same_class, in_whole, equal_places}
 use Rattle.dap_rename.specs.Renamings.{AreApart, IsRenaming, pairs_of_class}
 use Rattle.dap_rename.specs.Tables.{table_of}
 use Rattle.dap_rename.specs.declared.tables.Tables.{Tables}
-use Rattle.dap_rename.specs.Pairs.{entry, entries, same_sort, is_proper_pair, is_taken, is_given, MayFollow, PairFails, FailsFirst, equal_names}
+use Rattle.dap_rename.specs.Pairs.{entry, entries, same_sort, is_taken, is_given, MayFollow, PairFails, FailsFirst, equal_names}
 use Rattle.dap_rename.specs.declared.pair.Pair.{Pair}
 use Rattle.dap_rename.specs.declared.pair.PairFault.{PairFault}
 use Rattle.dap_rename.proofs.Pairing.{append_renaming}

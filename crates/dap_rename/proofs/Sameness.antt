@@ -1,5 +1,5 @@
 -- What it is to be the same: one skeleton and one list of names. From it the laws of fresh lists and of the normal form.
-use Rattle.std.proofs.Common.{◌≡◌, ℕ, zero, suc, ◌+◌, ◌<◌, ◌≤◌, ℤ, pos, Bool, true, false, cond, List, [], ◌∷◌, ◌++◌, map, length, inl, inr, refl, sym, ◌∙◌, ap, subst, arith, append_assoc, true≢false}
+use Rattle.std.proofs.Common.{◌≡◌, ℕ, suc, ℤ, pos, true, false, cond, List, [], ◌∷◌, ◌++◌, map, length, inl, inr, refl, sym, ◌∙◌, ap, subst, arith, true≢false}
 use Rattle.std.proofs.lemmas.List.{length-map, map-append}
 use Rattle.std.proofs.lemmas.Bool.Decides.{Decides-int_eq}
 use Rattle.std.specs.List.{list_any, AllByRecursion}
@@ -10,8 +10,8 @@ use Rattle.dap_tree.specs.declared.sort.Sort.TheVariants.{ClientSeq, AdapterSeq,
 use Rattle.dap_message.specs.Message.{Sent}
 use Rattle.dap_message.specs.Numbers.{is_proper_number}
 use Rattle.dap_rename.specs.Numbering.{table, name, named, IsFresh}
-use Rattle.dap_rename.specs.Renamings.{IsIn, AreApart, IsRenaming, AreRelated, pairs}
-use Rattle.dap_rename.specs.Messages.{Class, IsProperId, AreProper, class_after, occurrence, occurrences, message_skeleton, same_class, sort_number, AreSame, AreFresh, IsNormal, Carries, in_whole, whole_classes, equal_places}
+use Rattle.dap_rename.specs.Renamings.{IsIn, IsRenaming, AreRelated, pairs}
+use Rattle.dap_rename.specs.Messages.{Class, IsProperId, class_after, occurrence, occurrences, message_skeleton, same_class, sort_number, AreSame, IsNormal, Carries, in_whole, whole_classes}
 use Rattle.dap_rename.specs.Laws.{SameAsItself, SameBothWays, SameAlong, SameIsProper, SameFronts, FreshIsUnique, NormalIsUnique, NormalIsComplete, NamedIsNormal, NormalIsItsOwn, EqualPlacesRename, EqualPlacesCarry}
 use Rattle.dap_rename.proofs.Additions.{by_bool}
 use Rattle.dap_rename.proofs.Naming.{IsCounted, named-fresh, fresh_named}
