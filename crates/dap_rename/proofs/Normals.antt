@@ -225,7 +225,7 @@ small_name k h = and_from _ _ (lt-ltb 0 (suc k) (omega arith)) (lt-ltb (suc k) (
 pub names_are_small : NamesAreSmall
 names_are_small stop limit ms n small few h =
     small_messages stop 0 n (each_of _ (occurrences stop 0 n) (λ o i.
-        let r = names_are_counted stop ms n h o.0 o.1 i in
-        let top = small o.0.0 in
-        let count = few o.0 in
-        ap is_small r.1 ∙ small_name r.0 (omega (arith, r.2, top, count))))
+    let r = names_are_counted stop ms n h o.0 o.1 i in
+    let top = small o.0.0 in
+    let count = few o.0 in
+    ap is_small r.1 ∙ small_name r.0 (omega (arith, r.2, top, count))))

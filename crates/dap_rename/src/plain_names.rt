@@ -34,8 +34,8 @@ impl PlainNames {
     fn place_of(&self, number: i64) -> Option<usize>
         ensures { MatchOption result (has (plain_numbers self.now) number ≡ false)
             (λ i. (has (plain_numbers self.now) number ≡ true)
-                × (place (plain_numbers self.now) number ≡ pos (suc i))
-                × (i < length (plain_numbers self.now))) }
+            × (place (plain_numbers self.now) number ≡ pos (suc i))
+            × (i < length (plain_numbers self.now))) }
     {
         self.scan(number)
     }

@@ -26,7 +26,11 @@ struct Marks {
 
 impl<T: NameTable> Tables<T> {
     // The name of each id. On a fault every table is as before.
-    pub(crate) fn name_ids(&mut self, alloc: Global, ids: &[(Sort, i64)]) -> Result<Vec<i64>, NameFault>
+    pub(crate) fn name_ids(
+        &mut self,
+        alloc: Global,
+        ids: &[(Sort, i64)],
+    ) -> Result<Vec<i64>, NameFault>
         ensures named { IfOk result (λ v. v.items ≡ names_from (lists T.numbers self.old) ids.now) }
         ensures grown { OnOk result (lists T.numbers self.new ≡ added_all (lists T.numbers self.old) ids.now) }
         ensures refused { OnErr result (lists T.numbers self.new ≡ lists T.numbers self.old) }
@@ -67,7 +71,7 @@ impl<T: NameTable> Tables<T> {
         ensures refused { OnErr result (lists T.numbers self.new ≡ lists T.numbers self.old) }
         ensures full { result ≡ Err NameFault.Full
             → (has (list_of (lists T.numbers self.old) id.0) id.1 ≡ false)
-                × (limit_of (limits T.limit self.old) id.0 ≤ length (list_of (lists T.numbers self.old) id.0)) }
+            × (limit_of (limits T.limit self.old) id.0 ≤ length (list_of (lists T.numbers self.old) id.0)) }
         ensures same_limits { limits T.limit self.new ≡ limits T.limit self.old }
     {
         match id.0 {
