@@ -5,4 +5,6 @@ pub mod Table
 pub mod Tables
 pub mod Names
 pub mod PlainNames
+pub mod Entries
+pub mod SortedNames
 pub mod Laws

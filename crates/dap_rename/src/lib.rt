@@ -9,6 +9,7 @@ pub mod laws;
 mod name_table;
 mod names;
 mod plain_names;
+mod sorted_names;
 mod tables;
 #[cfg(test)]
 mod tests;
@@ -16,4 +17,5 @@ mod tests;
 pub use name_table::{NameFault, NameTable};
 pub use names::Names;
 pub use plain_names::PlainNames;
+pub use sorted_names::SortedNames;
 pub use tables::Tables;
