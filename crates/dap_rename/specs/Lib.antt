@@ -8,4 +8,6 @@ pub mod PlainNames
 pub mod Pairs
 pub mod Renaming
 pub mod Carrying
+pub mod Entries
+pub mod SortedNames
 pub mod Laws

@@ -12,6 +12,7 @@ mod names;
 mod pair;
 mod plain_names;
 mod renaming;
+mod sorted_names;
 mod tables;
 #[cfg(test)]
 mod tests;
@@ -21,4 +22,5 @@ pub use names::Names;
 pub use pair::{Pair, PairFault};
 pub use plain_names::PlainNames;
 pub use renaming::Renaming;
+pub use sorted_names::SortedNames;
 pub use tables::Tables;

@@ -7,7 +7,7 @@ use Rattle.dap_recording.specs.Recording.{record_text}
 use Rattle.dap_recording.specs.declared.record.Record.{Record as WholeRecord}
 use Rattle.dap_rename.specs.Messages.{AreProper, IsNormal, in_whole}
 use Rattle.dap_rename.specs.Names.{StandFor, limit_in}
-use Rattle.dap_rename.specs.PlainNames.{plain_limit, plain_numbers}
+use Rattle.dap_rename.specs.SortedNames.{sorted_limit, sorted_numbers}
 use Rattle.dap_session.specs.Standing.{Stands}
 use Rattle.dapnorm.specs.declared.judging.Judge.{Judge}
 use Rattle.dapnorm.specs.declared.limits.Limits.{Limits}
@@ -25,8 +25,8 @@ judge_limits judge = judge.limits
 -- The judge stands for these messages, with this normal form: its session and its names do, and it knows how long the text is.
 pub record StandsFor (judge : Judge) (messages normal : List Sent) : Type 0 where
   pub session : Stands judge.session messages
-  pub names : StandFor plain_numbers judge.names messages
-  pub name_limits : (s : Sort) → limit_in plain_limit judge.names s ≡ judge.limits.ids
+  pub names : StandFor sorted_numbers judge.names messages
+  pub name_limits : (s : Sort) → limit_in sorted_limit judge.names s ≡ judge.limits.ids
   pub proper : AreProper messages
   pub is_normal : IsNormal in_whole messages normal
   pub fits : Fits judge.limits normal

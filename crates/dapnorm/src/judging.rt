@@ -9,7 +9,7 @@ use crate::messages::{append_record, read_message};
 use crate::refused::Refused;
 use dap_message::Side;
 use dap_recording::Record;
-use dap_rename::{NameFault, Names, PlainNames, Tables};
+use dap_rename::{NameFault, Names, SortedNames, Tables};
 use dap_session::{Session, SessionFault};
 use std::alloc::Global;
 
@@ -17,7 +17,7 @@ use std::alloc::Global;
 #[derive(Drop)]
 pub struct Judge {
     session: Session,
-    names: Names<PlainNames>,
+    names: Names<SortedNames>,
     /// How many bytes the text of the normal form has so far.
     written: u64,
     limits: Limits,
@@ -35,10 +35,10 @@ impl Judge {
         ensures limits { judge_limits result ≡ limits }
     {
         let tables = Tables {
-            client_seq: PlainNames::new(alloc, limits.ids),
-            adapter_seq: PlainNames::new(alloc, limits.ids),
-            frame: PlainNames::new(alloc, limits.ids),
-            reference: PlainNames::new(alloc, limits.ids),
+            client_seq: SortedNames::new(alloc, limits.ids),
+            adapter_seq: SortedNames::new(alloc, limits.ids),
+            frame: SortedNames::new(alloc, limits.ids),
+            reference: SortedNames::new(alloc, limits.ids),
         };
         Judge {
             session: Session::new(alloc),
