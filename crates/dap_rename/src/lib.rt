@@ -10,6 +10,8 @@ mod name_table;
 mod names;
 mod plain_names;
 mod sorted_names;
+#[cfg(test)]
+mod sorted_names_tests;
 mod tables;
 #[cfg(test)]
 mod tests;
