@@ -1,4 +1,4 @@
-"""Measures `dapnorm compact` on generated frames beside a short Python script that does the same work."""
+"""Measures `dapnorm` on generated frames and sessions, `compact` and `normalise` beside short Python scripts that do the same work."""
 import hashlib
 import json
 import os
@@ -10,8 +10,13 @@ import tempfile
 import time
 
 TOP = os.path.dirname(os.path.dirname(os.path.abspath(__file__)))
+PROGRAM = os.path.join(TOP, "bin", "dapnorm")
 SIZE = 50_000_000
+SESSION_SIZES = (1_000_000, 10_000_000, 100_000_000)
+REQUESTS = (100_000, 1_000_000)
 ROUNDS = 3
+INITIALIZE = {"seq": 0, "type": "request", "command": "initialize", "arguments": {"adapterID": "mock"}}
+INITIALIZE_RESPONSE = {"seq": 0, "type": "response", "request_seq": 0, "success": True, "command": "initialize"}
 
 
 def messages(seed):
@@ -55,6 +60,68 @@ def generate(path):
                 return written, number + 1
 
 
+def record(side, message):
+    content = json.dumps(message, separators=(",", ":")).encode()
+    return b"%sContent-Length: %d\r\n\r\n%s\n" % (b">" if side == "client" else b"<", len(content), content)
+
+
+def begin_session(file):
+    return file.write(record("client", INITIALIZE)) + file.write(record("adapter", INITIALIZE_RESPONSE))
+
+
+def generate_session(path, size):
+    """A session of some bytes as a client and an adapter have it: each response of the adapter has its request before it."""
+    with open(path, "wb") as file:
+        written, records, requests = begin_session(file), 2, 1
+        for message in messages(20261122):
+            if message["type"] == "response":
+                arguments = {"threadId": 1} if message["command"] == "stackTrace" else {"variablesReference": 1}
+                written += file.write(record("client", {"seq": message["request_seq"], "type": "request", "command": message["command"], "arguments": arguments}))
+                records, requests = records + 1, requests + 1
+            written += file.write(record("adapter", message))
+            records += 1
+            if written >= size:
+                return written, records, requests
+
+
+def generate_requests(path, count):
+    """A session of so many small requests, each answered at once, whose numbers go up and down at random."""
+    with open(path, "wb") as file:
+        written = begin_session(file)
+        for place in range(1, count):
+            # No two places give one number, since the factor is odd.
+            seq = place * 2_654_435_761 % 2**32
+            written += file.write(record("client", {"seq": seq, "type": "request", "command": "pause"}))
+            written += file.write(record("adapter", {"seq": place, "type": "response", "request_seq": seq, "success": True, "command": "pause"}))
+    return written, 2 * count, count
+
+
+def measure_check(name, path, size, records, requests):
+    seconds, memory, digest = measure([PROGRAM, "check", "--complete"], path)
+    if digest != hashlib.sha256(f"accepted records={records} open=0,0\n".encode()).hexdigest():
+        sys.exit(f"{name} was not accepted with {records} records")
+    print(
+        f"{name:18} {seconds:6.2f} s {size / 1e6 / seconds:7.1f} MB/s {memory / 1e6:8.1f} MB of memory, "
+        f"{records / seconds:.0f} messages typed and judged a second, {seconds / requests * 1e6:.2f} us a request"
+    )
+
+
+def check_requests(folder):
+    path = os.path.join(folder, "session")
+    print(f"dapnorm check, the shortest of {ROUNDS} runs each")
+    for count in REQUESTS:
+        measure_check(f"{count} requests", path, *generate_requests(path, count))
+
+
+def normalise_sessions(folder):
+    path = os.path.join(folder, "session")
+    for wanted in SESSION_SIZES:
+        size, records, requests = generate_session(path, wanted)
+        print(f"a session of {size / 1e6:.1f} MB in {records} records, the shortest of {ROUNDS} runs each")
+        measure_check("dapnorm check", path, size, records, requests)
+        beside_script("normalise", path, size)
+
+
 def measure(arguments, given):
     """The shortest of some runs in seconds, the most memory in bytes, and a digest of the output."""
     best, memory, digest = None, 0, None
@@ -74,22 +141,29 @@ def measure(arguments, given):
     return best, memory, digest
 
 
+def beside_script(command, path, size):
+    """The command beside the script that does the same; the two write the same bytes."""
+    rows = {}
+    for name, arguments in [
+        (f"dapnorm {command}", [PROGRAM, command]),
+        ("python script", [sys.executable, os.path.join(TOP, "scripts", f"{command}_reference.py")]),
+    ]:
+        seconds, memory, digest = rows[name] = measure(arguments, path)
+        print(f"{name:18} {seconds:6.2f} s {size / 1e6 / seconds:7.1f} MB/s {memory / 1e6:8.1f} MB of memory")
+    (ours, _, one), (theirs, _, other) = rows.values()
+    if one != other:
+        sys.exit("the two wrote different bytes")
+    print(f"the same bytes, {theirs / ours:.1f} times as fast as the script")
+
+
 def main():
     with tempfile.TemporaryDirectory() as folder:
         given = os.path.join(folder, "frames")
         size, count = generate(given)
         print(f"{size / 1e6:.1f} MB in {count} frames, the shortest of {ROUNDS} runs each")
-        rows = {}
-        for name, arguments in [
-            ("dapnorm compact", [os.path.join(TOP, "bin", "dapnorm"), "compact"]),
-            ("python script", [sys.executable, os.path.join(TOP, "scripts", "compact_reference.py")]),
-        ]:
-            seconds, memory, digest = rows[name] = measure(arguments, given)
-            print(f"{name:16} {seconds:6.2f} s {size / 1e6 / seconds:7.1f} MB/s {memory / 1e6:8.1f} MB of memory")
-        (ours, _, one), (theirs, _, other) = rows.values()
-        if one != other:
-            sys.exit("the two wrote different bytes")
-        print(f"the same bytes, {theirs / ours:.1f} times as fast as the script")
+        beside_script("compact", given, size)
+        normalise_sessions(folder)
+        check_requests(folder)
 
 
 if __name__ == "__main__":

@@ -37,8 +37,11 @@ def main():
         for name, script in [
             ("the program on the examples", "program.py"),
             ("the captures of real adapters", "captures.py"),
+            ("their messages typed", "typed_recordings.py"),
+            ("the normal form", "normal_form.py"),
             ("growths of memory refused in turn", "fault_injection.py"),
             ("what the documents name", "documents.py"),
+            ("the document of the profile", "profile.py"),
         ]:
             more_passed, more_failed = counted(name, [sys.executable, os.path.join(tests, script)])
             passed, failed = passed + more_passed, failed + more_failed

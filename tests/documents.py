@@ -17,14 +17,17 @@ def sources(crate):
 
 
 def contract(crate, path):
-    """The text of a public function from its name to its body, in the impl block of its type where the path has one."""
+    """The text of a public function from its name to its body, in the trait or the impl block of its type where the path has one."""
     *owners, name = path.split("::")
     for text in sources(crate):
+        function = rf"pub fn {name}\b.*?^ *\{{"
         for owner in owners:
             if owner[0].isupper():
-                found = re.search(rf"^impl(?:<[^>]*>)? {owner}\b.*?^}}", text, re.MULTILINE | re.DOTALL)
+                found = re.search(rf"^(pub trait|impl(?:<[^>]*>)?) {owner}\b.*?^}}", text, re.MULTILINE | re.DOTALL)
                 text = found[0] if found else ""
-        found = re.search(rf"pub fn {name}\b.*?^ *\{{", text, re.MULTILINE | re.DOTALL)
+                if found and found[1] == "pub trait":
+                    function = rf"fn {name}\b.*?;$"
+        found = re.search(function, text, re.MULTILINE | re.DOTALL)
         if found:
             return found[0]
     return None

@@ -9,6 +9,8 @@ from report import PROGRAM, TOP, Report, run, toolchain
 
 FRAME = b'Content-Length: 15\r\n\r\n{ "b":1,"a":2 }'
 CANONICAL = b'Content-Length: 13\r\n\r\n{"a":2,"b":1}'
+REQUEST = b'{"arguments":{"adapterID":"mock"},"command":"initialize","seq":1,"type":"request"}'
+RECORD = b">Content-Length: %d\r\n\r\n%s\n" % (len(REQUEST), REQUEST)
 
 
 def build_shim(folder):
@@ -40,20 +42,20 @@ def run_tests(report, shim):
     report.check("some tests ask for refused growths", found > 0)
 
 
-def run_program(report, shim):
+def run_program(report, shim, arguments, given, wanted):
     """The program with its first growth refused, then its second, and so on until it meets none."""
     for turn in range(1, 1000):
         environment = {"LD_PRELOAD": shim, "FAULT_INJECTION_TURN": str(turn)}
-        answer = run(["compact"], FRAME, environment)
-        if answer == (0, CANONICAL, b""):
+        answer = run(arguments, given, environment)
+        if answer == (0, wanted, b""):
             # It managed without that growth, or met none: it met none where two more turns change nothing.
-            later = [run(["compact"], FRAME, {**environment, "FAULT_INJECTION_TURN": str(turn + more)}) for more in (1, 2, 3, 40)]
+            later = [run(arguments, given, {**environment, "FAULT_INJECTION_TURN": str(turn + more)}) for more in (1, 2, 3, 40)]
             if all(other == answer for other in later):
-                report.check("some growths of the program were refused", turn > 10, f"only {turn - 1}")
+                report.check(f"some growths of {arguments[0]} were refused", turn > 10, f"only {turn - 1}")
                 return
         else:
-            report.check(f"the program with growth {turn} refused", answer == (5, b"", b"dapnorm: out of memory\n"), repr(answer))
-    report.check("the program meets no growth after the last", False)
+            report.check(f"{arguments[0]} with growth {turn} refused", answer == (5, b"", b"dapnorm: out of memory\n"), repr(answer))
+    report.check(f"{arguments[0]} meets no growth after the last", False)
 
 
 def main():
@@ -61,7 +63,8 @@ def main():
     with tempfile.TemporaryDirectory() as folder:
         shim = build_shim(folder)
         run_tests(report, shim)
-        run_program(report, shim)
+        run_program(report, shim, ["compact"], FRAME, CANONICAL)
+        run_program(report, shim, ["check"], RECORD, b"accepted records=1 open=1,0\n")
     return report.close()
 
 

@@ -40,6 +40,31 @@ def compact_an_adapter(report):
     report.check("compacting it again changes nothing", run(["compact"], written) == (0, written, b""))
 
 
+def check_a_session(report):
+    """`check` over pipes, also where a session comes in small pieces."""
+    session = read("captures/debugpy-l-stopentry.1.rec")
+    wanted = (0, b"accepted records=59 open=0,0\n", b"")
+    for arguments in (["check"], ["check", "--complete"]):
+        report.check(f"{' '.join(arguments)} accepts a real session", run(arguments, session) == wanted)
+    with subprocess.Popen([PROGRAM, "check"], stdin=subprocess.PIPE, stdout=subprocess.PIPE, stderr=subprocess.PIPE) as process:
+        for at in range(0, len(session), 997):
+            process.stdin.write(session[at:at + 997])
+            process.stdin.flush()
+        output, errors = process.communicate()
+        report.check("check takes a session in pieces", (process.returncode, output, errors) == wanted, repr((output, errors)))
+    report.check("check takes an empty recording", run(["check", "--complete"]) == (0, b"accepted records=0 open=0,0\n", b""))
+    cut = run(["check", "--complete"], session[:-1])
+    report.check("check tells a cut", cut == (2, b"", b"dapnorm: record 59: Cut\n"), repr(cut))
+    first = session[:session.index(b"\n", session.index(b"\r\n\r\n") + 4) + 1]
+    answer = run(["check", "--complete"], first)
+    report.check("check tells open requests", answer == (2, b"", b"dapnorm: incomplete: 1 client, 0 adapter\n"), repr(answer))
+    answer = run(["check"], first + first)
+    report.check("check tells a broken rule", answer == (2, b"", b"dapnorm: record 2: StillInitializing\n"), repr(answer))
+    with open("/dev/full", "wb") as full:
+        ran = subprocess.run([PROGRAM, "check"], input=session, stdout=full, stderr=subprocess.PIPE)
+    report.check("a full device is a write fault of check", (ran.returncode, ran.stderr) == (4, b"dapnorm: write fault\n"), repr(ran))
+
+
 def streams(report):
     """The program over the operating system's own streams."""
     closed = subprocess.run([PROGRAM, "compact"], stdin=subprocess.DEVNULL, stdout=subprocess.PIPE, stderr=subprocess.PIPE)
@@ -57,7 +82,11 @@ def usage(report):
     status, output, errors = run([])
     report.check("no subcommand is a usage fault", status == 3 and output == b"" and errors.startswith(b"error: "))
     status, output, errors = run(["--help"])
-    report.check("help goes to the output", status == 0 and b"compact" in output and errors == b"")
+    report.check("help goes to the output", status == 0 and b"compact" in output and b"check" in output and errors == b"")
+    status, output, errors = run(["check", "--help"])
+    report.check("help of check names its flag", status == 0 and b"--complete" in output and errors == b"")
+    status, output, errors = run(["check", "--all"])
+    report.check("an unknown flag is a usage fault", status == 3 and output == b"" and errors.startswith(b"error: "))
 
 
 def refusals(report):
@@ -77,6 +106,7 @@ def main():
     if not report.check("the gate has built the program", os.access(PROGRAM, os.X_OK)):
         return report.close()
     compact_an_adapter(report)
+    check_a_session(report)
     streams(report)
     usage(report)
     refusals(report)

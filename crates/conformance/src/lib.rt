@@ -2,6 +2,12 @@
 #![tactic(auto)]
 
 #[cfg(test)]
+mod check_lines;
+#[cfg(test)]
+mod check_refused_growths;
+#[cfg(test)]
+mod checking;
+#[cfg(test)]
 mod command_lines;
 #[cfg(test)]
 mod compacting;
@@ -10,8 +16,22 @@ mod devices;
 #[cfg(test)]
 mod examples;
 #[cfg(test)]
+mod failing_check;
+#[cfg(test)]
 mod failing_devices;
 #[cfg(test)]
 mod fault_lines;
 #[cfg(test)]
+mod normalise_refused_growths;
+#[cfg(test)]
+mod normalising;
+#[cfg(test)]
+mod recordings;
+#[cfg(test)]
 mod refused_growths;
+#[cfg(test)]
+mod refused_growths_of_messages;
+#[cfg(test)]
+mod session_rules;
+#[cfg(test)]
+mod typed_recordings;

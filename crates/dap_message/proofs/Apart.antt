@@ -46,10 +46,6 @@ mark_rows-edits (r ∷ rs) side d e h =
     ∙ ap (λ b. edits (pending rs side d) (option_map_or (λ s. cond b (edit r.place (marked s) e) e) (sort_of side r.want) e)) (h r.kind r.name)
     ∙ sym (edits-then_row (sort_of side r.want) (is_asked r.kind r.name d) r.place (pending rs side d) e)
 
-pub pending-alike : (rs : List ProfileRow) (side : Side) (d e : Doc) → AskedAlike d e → pending rs side e ≡ pending rs side d
-pending-alike [] side d e h = refl
-pending-alike (r ∷ rs) side d e h = ap₂ (λ b es. then_row (sort_of side r.want) b r.place es) (h r.kind r.name) (pending-alike rs side d e h)
-
 -- ---- rows that are asked of one message
 
 abbrev one_kind : Kind → Kind → Bool

@@ -1,25 +1,22 @@
 -- The laws of contents and their messages, from those of documents.
-use Rattle.dap_tree.specs.Doc.{all_in_range, has_id, Doc, null, boolean, whole, text, list, object, id, get, is_plain, is_sound, is_ordered, all_utf8}
+use Rattle.dap_tree.specs.Doc.{Doc, null, boolean, whole, text, list, object, id, get, is_plain, is_sound, is_ordered, all_utf8}
 use Rattle.dap_tree.specs.Json.{data_of, Reads, text_of, IsRead, HasNoReading, HasFraction, Outcome, HasOutcome}
-use Rattle.dap_tree.proofs.Depths.{fits_is, plain_is}
-use Rattle.dap_tree.proofs.Without.{plain_parts}
-use Rattle.dap_tree.proofs.Booleans.{and_both, and_left, and_right}
+use Rattle.dap_tree.proofs.Booleans.{and_left, and_right}
 use Rattle.dap_tree.specs.Ids.{ids, skeleton, without_ids}
 use Rattle.dap_tree.specs.declared.side.Side.{Side}
 use Rattle.dap_tree.specs.declared.sort.Sort.{Sort}
 use Rattle.dap_tree.specs.declared.sort.Sort.TheVariants.{Reference}
-use Rattle.dap_tree.proofs.Outcomes.{read_once, one_outcome, some_outcome}
-use Rattle.dap_message.specs.Capabilities.{tells_capabilities}
+use Rattle.dap_tree.proofs.Outcomes.{read_once, one_outcome, some_outcome, read_is_plain}
+use Rattle.dap_tree.proofs.Ordered.{read_is_ordered}
+use Rattle.dap_tree.proofs.Utf8.{read_is_utf8}
 use Rattle.dap_message.specs.Message.{IsTypedBack, IsRenumberedBack}
-use Rattle.dap_message.proofs.Keeps.{fits-if}
-use Rattle.dap_message.proofs.Refilled.{plain-if}
-use Rattle.std.proofs.Common.{not}
 use Rattle.std.proofs.Common.{◌≡◌, ◌⊎◌, inl, inr, ℕ, zero, suc, ◌<◌, ℤ, pos, true, cond, List, [], ◌∷◌, length, get_or, Contains, Option, Some, None, option_map, codes, refl, sym, ◌∙◌, ap, ap₂, arith}
 use Rattle.std.specs.List.{list_all}
 use Rattle.dap_tree.specs.Json as contents
 use Rattle.dap_message.specs.Capabilities.{filled}
 use Rattle.dap_message.specs.Envelope.{kind_of, name_of, success_of, text_value, boolean_value, has_envelope}
 use Rattle.dap_message.specs.Faults.{fault}
+use Rattle.dap_message.specs.Laws.{IsWellFormed}
 use Rattle.dap_message.specs.Marks.{mark}
 use Rattle.dap_message.specs.Message.{IsTyped, IsTypedContent, message_of, Refusal, no_reading, fraction, faulty, HasRefusal}
 use Rattle.dap_message.specs.Numbers.{is_proper_number, is_proper, has_small_ids}
@@ -28,7 +25,7 @@ use Rattle.dap_message.specs.declared.fault.MessageFault.{MessageFault}
 use Rattle.dap_message.specs.declared.profile.Kind.{Kind}
 use Rattle.dap_message.specs.declared.profile.Kind.TheVariants.{Request, Response, Event}
 use Rattle.dap_message.proofs.Refilled.{numbers-again, filled-again}
-use Rattle.dap_message.proofs.Envelopes.{enveloped-message}
+use Rattle.dap_message.proofs.Envelopes.{enveloped-message, some_is}
 use Rattle.dap_message.proofs.Keeps.{sound-message, proper-message}
 use Rattle.dap_message.proofs.Names.{ordered-message, utf8-message}
 use Rattle.dap_message.proofs.FilledFits.{fault-filled}
@@ -39,9 +36,6 @@ use Rattle.dap_message.proofs.TypedAgain.{typed_again, text_again}
 
 pub one_message : (side : Side) (bytes : List ℕ) (m n : Doc) → IsTypedContent side bytes m → IsTypedContent side bytes n → m ≡ n
 one_message side bytes m n h k = h.2.1 ∙ ap (message_of side) (read_once bytes h.0 k.0 h.1 k.1) ∙ sym k.2.1
-
-some_same : {X : Type 0} (a b : X) → Some a ≡ Some b → a ≡ b
-some_same a b h = cc
 
 -- what a refusal tells of the content's outcome
 two_outcomes : (bytes : List ℕ) (o p : Outcome) → HasOutcome bytes o → HasOutcome bytes p → (o ≡ p → ⊥) → ⊥
@@ -56,7 +50,7 @@ one_refusal bytes fraction fraction h k = refl
 one_refusal bytes fraction (faulty f) h k = absurd (two_outcomes bytes contents.fraction (contents.document k.0) h k.1 (λ e. cc))
 one_refusal bytes (faulty e) no_reading h k = absurd (two_outcomes bytes (contents.document h.0) contents.no_reading h.1 k (λ x. cc))
 one_refusal bytes (faulty e) fraction h k = absurd (two_outcomes bytes (contents.document h.0) contents.fraction h.1 k (λ x. cc))
-one_refusal bytes (faulty e) (faulty f) h k = ap faulty (some_same e f (sym h.2 ∙ ap fault (read_once bytes h.0 k.0 h.1 k.1) ∙ k.2))
+one_refusal bytes (faulty e) (faulty f) h k = ap faulty (some_is e f (sym h.2 ∙ ap fault (read_once bytes h.0 k.0 h.1 k.1) ∙ k.2))
 
 no_fault : (f : MessageFault) (o : Option MessageFault) → o ≡ None → o ≡ Some f → ⊥
 no_fault f o h k = let never : None ≡ Some f = sym h ∙ k in cc
@@ -106,15 +100,26 @@ typed_ordered side d m ordered h = ap is_ordered h.1 ∙ ordered-message side d 
 pub typed_utf8 : (side : Side) (d m : Doc) → all_utf8 d ≡ true → IsTyped side d m → all_utf8 m ≡ true
 typed_utf8 side d m utf8 h = ap all_utf8 h.1 ∙ utf8-message side d utf8
 
+pub content_well_formed : (side : Side) (bytes : List ℕ) (m : Doc) → IsTypedContent side bytes m → IsWellFormed m
+content_well_formed side bytes m (d, reads, h) =
+    let plain = read_is_plain bytes d reads in
+    record {
+      proper = ap is_proper h.1 ∙ proper-message side d plain;
+      sound = typed_sound side d m plain h;
+      enveloped = typed_enveloped side d m h;
+      ordered = typed_ordered side d m (read_is_ordered bytes d reads) h;
+      utf8 = typed_utf8 side d m (read_is_utf8 bytes d reads) h;
+    }
+
 -- ---- typed again
 
 pub document_again : (side : Side) (d m n : Doc) → is_plain d ≡ true → IsTyped side d m → skeleton n ≡ skeleton m → has_small_ids n ≡ true → IsTyped side (without_ids n) n
 document_again side d m n plain h same small = (typed_again side d n plain h.0 (same ∙ ap skeleton h.1) small).1
 
-pub content_again : (side : Side) (d m n : Doc) → is_plain d ≡ true → is_ordered d ≡ true → all_utf8 d ≡ true → IsTyped side d m → skeleton n ≡ skeleton m → has_small_ids n ≡ true
-    → IsTypedContent side (text_of n) n
-content_again side d m n plain ordered utf8 h same small =
-    (without_ids n, text_again side d n plain ordered utf8 (same ∙ ap skeleton h.1) small, document_again side d m n plain h same small)
+pub content_again : (side : Side) (bytes : List ℕ) (m n : Doc) → IsTypedContent side bytes m → skeleton n ≡ skeleton m → has_small_ids n ≡ true → IsTypedContent side (text_of n) n
+content_again side bytes m n (d, reads, h) same small =
+    let plain = read_is_plain bytes d reads in
+    (without_ids n, text_again side d n plain (read_is_ordered bytes d reads) (read_is_utf8 bytes d reads) (same ∙ ap skeleton h.1) small, document_again side d m n plain h same small)
 
 pub own_again : (side : Side) (d m : Doc) → is_plain d ≡ true → IsTyped side d m → IsTyped side (without_ids m) m
 own_again side d m plain h =
@@ -165,13 +170,6 @@ skeleton_tells m n h = (
 )
 
 -- ---- the content of a message
-
-plain-filled : (side : Side) (d : Doc) → is_plain d ≡ true → is_plain (filled side d) ≡ true
-plain-filled side d h =
-    let t = filled side d in
-    let b = tells_capabilities side d in
-    let sound : is_sound t ≡ true = sym (fits_is 127 t) ∙ fits-if b d (fits_is 127 d ∙ and_left (is_sound d) (not (has_id d)) h) in
-    and_both (is_sound t) (not (has_id t)) sound (and_right (all_in_range t) (not (has_id t)) (sym (plain_is t) ∙ plain-if b d (plain_parts d h)))
 
 pub typed_back : (side : Side) (m : Doc) (bytes : List ℕ) → IsRead bytes (without_ids m) → IsTypedBack side m bytes
 typed_back side m bytes reads d plain h =

@@ -1,5 +1,7 @@
 pub mod Elements
+pub mod Choices
 pub mod Edits
+pub mod PartTests
 pub mod Marking
 pub mod Keeps
 pub mod Envelopes

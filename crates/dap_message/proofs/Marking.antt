@@ -150,6 +150,10 @@ made-asked (r ∷ rs) side d e h p x =
     made-asked rs side d e h p (made_by r side e p x)
     ∙ ap (λ b. made rs side d p (option_map_or (λ s. cond (b && fits_place r.place p) (marked s x) x) (sort_of side r.want) x)) (h r.kind r.name)
 
+option_itself : (o : Option Doc) → o ≡ option_map (λ x. x) o
+option_itself None = refl
+option_itself (Some x) = refl
+
 option_same : (f g : Doc → Doc) → ((x : Doc) → f x ≡ g x) → (o : Option Doc) → option_map f o ≡ option_map g o
 option_same f g h None = refl
 option_same f g h (Some x) = ap Some (h x)
@@ -158,10 +162,6 @@ option_same f g h (Some x) = ap Some (h x)
 at-mark_row : (r : ProfileRow) (side : Side) (d : Doc) (p : List Step) → Alike (at p (mark_row r side d)) (option_map (made_by r side d p) (at p d))
 at-mark_row r side d p = go (sort_of side r.want) (is_asked r.kind r.name d)
   where
-    kept : (o : Option Doc) → o ≡ option_map (λ x. x) o
-    kept None = refl
-    kept (Some x) = refl
-
     either : (s : Sort) (b : Bool) (o : Option Doc) → cond b (option_map (marked s) o) o ≡ option_map (λ x. cond b (marked s x) x) o
     either s true None = refl
     either s false None = refl
@@ -170,20 +170,16 @@ at-mark_row r side d p = go (sort_of side r.want) (is_asked r.kind r.name d)
 
     go : (o : Option Sort) (b : Bool) → Alike (at p (option_map_or (λ s. cond b (edit r.place (marked s) d) d) o d))
         (option_map (λ x. option_map_or (λ s. cond (b && fits_place r.place p) (marked s x) x) o x) (at p d))
-    go None b = ap (option_map top) (kept (at p d))
+    go None b = ap (option_map top) (option_itself (at p d))
     go (Some s) true = at-edit r.place s d p ∙ ap (option_map top) (either s (fits_place r.place p) (at p d))
-    go (Some s) false = ap (option_map top) (kept (at p d))
+    go (Some s) false = ap (option_map top) (option_itself (at p d))
 
 joined : (f g : Doc → Doc) (o : Option Doc) → option_map f (option_map g o) ≡ option_map (λ x. f (g x)) o
 joined f g None = refl
 joined f g (Some x) = refl
 
 pub at-mark : (rs : List ProfileRow) (side : Side) (d : Doc) (p : List Step) → Alike (at p (mark_rows rs side d)) (option_map (made rs side d p) (at p d))
-at-mark [] side d p = ap (option_map top) (same (at p d))
-  where
-    same : (o : Option Doc) → o ≡ option_map (λ x. x) o
-    same None = refl
-    same (Some x) = refl
+at-mark [] side d p = ap (option_map top) (option_itself (at p d))
 at-mark (r ∷ rs) side d p =
     let e = mark_row r side d in
     at-mark rs side e p

@@ -4,18 +4,19 @@ use Rattle.dap_tree.specs.Ids.{ids, items_ids, members_ids, id_count, with_ids, 
 use Rattle.dap_tree.specs.declared.sort.Sort.{Sort}
 use Rattle.dap_tree.specs.declared.sort.Sort.TheVariants.{ClientSeq, AdapterSeq, Frame, Reference}
 use Rattle.dap_tree.proofs.Booleans.{and_left, and_right, and_both}
-use Rattle.std.proofs.Common.{◌≡◌, ℕ, ℤ, pos, negsuc, Bool, true, false, cond, not, ◌&&◌, List, [], ◌∷◌, ◌++◌, drop, get_or, Ordering, Less, Equal, Greater, nat_cmp, refl, sym, ◌∙◌, ap, ap₂, bytes_eq, is_eq, arith}
+use Rattle.std.proofs.Common.{◌≡◌, ℕ, ℤ, pos, negsuc, Bool, true, false, cond, not, ◌&&◌, List, [], ◌∷◌, ◌++◌, drop, get_or, nat_cmp, refl, sym, ◌∙◌, ap, ap₂, bytes_eq, arith}
 use Rattle.std.proofs.lemmas.Bool.Decides.{nat_tests, Decides-int_eq}
 use Rattle.std.proofs.lemmas.List.Folds.{list_all-append}
 use Rattle.std.proofs.lemmas.Map.Text.{is_eq-slice_cmp}
 use Rattle.std.proofs.lemmas.Slice.Eq.{bytes_eq-Decides}
 use Rattle.std.specs.Cmp.Lexicographic.{slice_cmp}
 use Rattle.std.specs.List.{list_all}
-use Rattle.std.specs.Ordering.{match_ordering, int_eq}
+use Rattle.std.specs.Ordering.{int_eq}
 use Rattle.dap_message.specs.Marks.{is_id_of, marked, edit}
 use Rattle.dap_message.specs.Numbers.{is_small}
 use Rattle.dap_message.specs.Places.{PlaceStep, named, each}
 use Rattle.dap_message.specs.Rows.{is_id_number}
+use Rattle.dap_message.proofs.Choices.{equal_at, other_at}
 use Rattle.dap_message.proofs.Edits.{by_bool}
 
 -- places whose numbers become ids of a sort, in turn
@@ -76,16 +77,6 @@ edits-object done ms = refl
 edits-object (mark_at s [] es) ms = edits-object es ms
 edits-object (mark_at s (named k ∷ ps) es) ms = edits-object es (change_member k (edit ps (marked s)) ms)
 edits-object (mark_at s (each ∷ ps) es) ms = edits-object es ms
-
-equal_at : {X : Type 0} (o : Ordering) (a b : X) → is_eq o ≡ true → match_ordering o a b a ≡ b
-equal_at Less a b h = cc
-equal_at Equal a b h = refl
-equal_at Greater a b h = cc
-
-other_at : {X : Type 0} (o : Ordering) (a b : X) → is_eq o ≡ false → match_ordering o a b a ≡ a
-other_at Less a b h = refl
-other_at Equal a b h = cc
-other_at Greater a b h = refl
 
 change_member-here : (k l : List ℕ) (f : Doc → Doc) (d : Doc) (ms : Members) → bytes_eq k l ≡ true → change_member k f (member l d ms) ≡ member l (f d) ms
 change_member-here k l f d ms h = equal_at (slice_cmp nat_cmp k l) (member l d (change_member k f ms)) (member l (f d) ms) (is_eq-slice_cmp k l ∙ h)
@@ -204,7 +195,7 @@ agreed t (mark_at u [] es) s z a h =
 agreed t (mark_at u (named k ∷ ps) es) s z a h = agreed t es s z a.1 h
 agreed t (mark_at u (each ∷ ps) es) s z a h = agreed t es s z a.1 h
 
-small_number : (z : ℤ) → is_small z ≡ true → is_id_number z ≡ true
+pub small_number : (z : ℤ) → is_small z ≡ true → is_id_number z ≡ true
 small_number (pos n) h = grind (arith, nat_tests)
 small_number (negsuc n) h = cc
 

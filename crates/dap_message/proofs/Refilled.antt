@@ -6,9 +6,8 @@ use Rattle.dap_tree.specs.declared.side.Side.TheVariants.{Client, Adapter}
 use Rattle.dap_tree.specs.declared.sort.Sort.{Sort}
 use Rattle.dap_tree.proofs.Without.{plain_parts, without_plain}
 use Rattle.dap_tree.proofs.Paths.{get_member-change}
-use Rattle.std.proofs.Common.{◌≡◌, ℕ, Bool, true, false, cond, ◌&&◌, List, [], ◌∷◌, Option, Some, None, option_map, Ordering, Less, Equal, Greater, nat_cmp, codes, refl, sym, ◌∙◌, ap, ap₂, bytes_eq, is_eq}
+use Rattle.std.proofs.Common.{◌≡◌, ℕ, Bool, true, false, cond, ◌&&◌, List, [], ◌∷◌, Option, Some, None, option_map, Ordering, Less, Equal, Greater, nat_cmp, codes, refl, sym, ◌∙◌, ap, ap₂, bytes_eq}
 use Rattle.std.specs.Option.{option_map_or}
-use Rattle.std.proofs.lemmas.Map.Text.{is_eq-slice_cmp}
 use Rattle.std.proofs.lemmas.Slice.Eq.{bytes_eq-Decides}
 use Rattle.std.specs.Cmp.Lexicographic.{slice_cmp}
 use Rattle.std.specs.Ordering.{match_ordering}
@@ -17,9 +16,10 @@ use Rattle.dap_message.specs.Profile.{profile}
 use Rattle.dap_message.specs.Rows.{ProfileRow, is_asked, is_text, is_true}
 use Rattle.dap_message.specs.Capabilities.{filled, with_capabilities, default_to, default_member, is_given, false_members, false_at, capabilities, tells_capabilities}
 use Rattle.dap_message.specs.Marks.{marked, is_id_of, mark_rows, mark_row, edit, sort_of, mark}
+use Rattle.dap_message.proofs.Choices.{itself, equal_at}
 use Rattle.dap_message.proofs.Edits.{by_bool}
 use Rattle.dap_message.proofs.Envelopes.{get-filled, given_other, apart}
-use Rattle.dap_message.proofs.Keeps.{q_change, q_default, q_false}
+use Rattle.dap_message.proofs.PartTests.{DocTest, nameless, passes-filled}
 
 -- ---- the ids as numbers again
 
@@ -83,63 +83,24 @@ without-mark (r ∷ rs) side d = without-mark rs side (mark_row r side d) ∙ wi
 
 -- ---- no id comes in with the capabilities
 
-plain-default : (k : List ℕ) (e d : Doc) → all_plain e ≡ true → all_plain d ≡ true → all_plain (default_to k e d) ≡ true
-plain-default k e null j h = h
-plain-default k e (boolean b) j h = h
-plain-default k e (whole z) j h = h
-plain-default k e (text s) j h = h
-plain-default k e (list ds) j h = h
-plain-default k e (object ms) j h = q_default all_plain members_plain items_plain refl (λ l d es. refl) refl (λ d es. refl) k e ms j h
-plain-default k e (id s z) j h = h
-
-plain-false : (ks : List (List ℕ)) (d : Doc) → all_plain d ≡ true → all_plain (false_at ks d) ≡ true
-plain-false ks null h = h
-plain-false ks (boolean b) h = h
-plain-false ks (whole z) h = h
-plain-false ks (text s) h = h
-plain-false ks (list ds) h = h
-plain-false ks (object ms) h = q_false all_plain members_plain items_plain refl (λ l d es. refl) refl (λ d es. refl) ks ms refl h
-plain-false ks (id s z) h = h
-
-plain-change : (k : List ℕ) (f : Doc → Doc) → ((e : Doc) → all_plain e ≡ true → all_plain (f e) ≡ true) → (d : Doc) → all_plain d ≡ true → all_plain (change_child k f d) ≡ true
-plain-change k f step null h = h
-plain-change k f step (boolean b) h = h
-plain-change k f step (whole z) h = h
-plain-change k f step (text s) h = h
-plain-change k f step (list ds) h = h
-plain-change k f step (object ms) h = q_change all_plain members_plain items_plain refl (λ l d es. refl) refl (λ d es. refl) k f step ms h
-plain-change k f step (id s z) h = h
-
-pub plain-if : (b : Bool) (d : Doc) → all_plain d ≡ true → all_plain (cond b (with_capabilities d) d) ≡ true
-unfolding with_capabilities
-plain-if true d h =
-    plain-change (codes "body") (false_at capabilities) (λ e j. plain-false capabilities e j) (default_to (codes "body") (object no_members) d)
-    (plain-default (codes "body") (object no_members) d refl h)
-plain-if false d h = h
+abbrev plain_test : DocTest
+plain_test = record { parts = nameless all_plain members_plain items_plain refl (λ k d ms. refl) (λ d ds. refl); of_object = λ ms. refl; of_list = λ ds. refl; of_false = refl }
 
 -- a message's ids as numbers: its tree with the capabilities
 pub numbers-again : (side : Side) (d : Doc) → is_plain d ≡ true → without_ids (mark side (filled side d)) ≡ filled side d
 unfolding mark
-numbers-again side d h = without-mark profile side (filled side d) ∙ without_plain (filled side d) (plain-if (tells_capabilities side d) d (plain_parts d h))
+numbers-again side d h = without-mark profile side (filled side d) ∙ without_plain (filled side d) (passes-filled plain_test (tells_capabilities side d) d refl refl (plain_parts d h))
 
 -- ---- capabilities once filled in are given
 
-itself : (k : List ℕ) → is_eq (slice_cmp nat_cmp k k) ≡ true
-itself k = is_eq-slice_cmp k k ∙ (bytes_eq-Decides k k).1 refl
-
-picked : {X : Type 0} (o : Ordering) (a b : X) → is_eq o ≡ true → match_ordering o a b a ≡ b
-picked Less a b h = cc
-picked Equal a b h = refl
-picked Greater a b h = cc
-
 put_same : (o : Ordering) (k l : List ℕ) (d e : Doc) (ms rest : Members) → slice_cmp nat_cmp k l ≡ o → get_member k rest ≡ Some d
     → get_member k (match_ordering o (member k d (member l e ms)) (member l d ms) (member l e rest)) ≡ Some d
-put_same Less k l d e ms rest is later = picked (slice_cmp nat_cmp k k) (get_member k (member l e ms)) (Some d) (itself k)
+put_same Less k l d e ms rest is later = equal_at (slice_cmp nat_cmp k k) (get_member k (member l e ms)) (Some d) (itself k)
 put_same Equal k l d e ms rest is later = rw is refl
 put_same Greater k l d e ms rest is later = rw is later
 
 pub get_member-put : (k : List ℕ) (d : Doc) (ms : Members) → get_member k (put k d ms) ≡ Some d
-get_member-put k d no_members = picked (slice_cmp nat_cmp k k) None (Some d) (itself k)
+get_member-put k d no_members = equal_at (slice_cmp nat_cmp k k) None (Some d) (itself k)
 get_member-put k d (member l e ms) = put_same _ k l d e ms (put k d ms) refl (get_member-put k d ms)
 
 given-default : (k : List ℕ) (d : Doc) (ms : Members) → is_given (Some d) ≡ true → is_given (get_member k (default_member k d ms)) ≡ true

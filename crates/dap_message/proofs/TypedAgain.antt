@@ -12,7 +12,6 @@ use Rattle.std.proofs.Common.{◌≡◌, ℕ, ℤ, pos, negsuc, Bool, true, fals
 use Rattle.std.proofs.lemmas.Bool.Decides.{nat_tests}
 use Rattle.std.specs.Cmp.Lexicographic.{slice_cmp}
 use Rattle.std.specs.List.{list_all}
-use Rattle.std.specs.Option.{option_or}
 use Rattle.std.specs.Ordering.{match_ordering}
 use Rattle.dap_message.specs.Capabilities.{is_given, default_to, false_members, false_at, capabilities, tells_capabilities, with_capabilities, filled}
 use Rattle.dap_message.specs.Faults.{fault, Fits, has_kind, row_broken}
@@ -34,7 +33,7 @@ use Rattle.dap_message.proofs.Edits.{by_bool}
 use Rattle.dap_message.proofs.Envelopes.{fault_free, fault_parts, rows_free, free_at}
 use Rattle.dap_message.proofs.Keeps.{sound-message}
 use Rattle.dap_message.proofs.Names.{ordered-message, utf8-message}
-use Rattle.dap_message.proofs.Pending.{edits, edits-again, SmallIds, small_left, small_right}
+use Rattle.dap_message.proofs.Pending.{edits, edits-again, small_number, SmallIds, small_left, small_right}
 use Rattle.dap_message.proofs.FilledFits.{fault-filled, rows_broken, faultless, body-filled}
 use Rattle.dap_message.proofs.Shapes.{KeepsShape, without_keeps, skeleton_keeps, found-shape, asked-shape, asked_without, SmallAt, AllSmall, small_found}
 
@@ -43,10 +42,6 @@ abbrev zeroed : Doc → Doc
 zeroed d = without_ids (skeleton d)
 
 -- ---- what the rows judge
-
-small_is_id : (z : ℤ) → is_small z ≡ true → is_id_number z ≡ true
-small_is_id (pos n) h = grind (arith, nat_tests)
-small_is_id (negsuc n) h = cc
 
 abbrev Well : Want → Bool → Option Doc → Type 0
 Well w b o = judged w b o ≡ None
@@ -105,15 +100,7 @@ well_small w b (Some (whole z)) small h = h
 well_small w b (Some (text s)) small h = h
 well_small w b (Some (list ds)) small h = list_alike w b _ _ ∙ h
 well_small w b (Some (object ms)) small h = object_alike w b _ _ ∙ h
-well_small w b (Some (id s z)) small h = numbers_alike w b z (pos 0) (small_is_id z (and_left (is_small z) true small)) h
-
-no_cause : (a b : Option Cause) → option_or a b ≡ None → (a ≡ None) × (b ≡ None)
-no_cause None b h = (refl, h)
-no_cause (Some c) b h = cc
-
-no_causes : (a b : Option Cause) → a ≡ None → b ≡ None → option_or a b ≡ None
-no_causes None b h g = g
-no_causes (Some c) b h g = cc
+well_small w b (Some (id s z)) small h = numbers_alike w b z (pos 0) (small_number z (and_left (is_small z) true small)) h
 
 abbrev Free : Want → Bool → List (Option Doc) → Type 0
 Free w b os = first_cause (map (judged w b) os) ≡ None
@@ -121,14 +108,14 @@ Free w b os = first_cause (map (judged w b) os) ≡ None
 free_zeroed : (w : Want) (b : Bool) (os : List (Option Doc)) → Free w b (map (option_map without_ids) os) → Free w b (map (option_map without_ids) (map (option_map skeleton) os))
 free_zeroed w b [] h = refl
 free_zeroed w b (o ∷ os) h =
-    let p = no_cause (judged w b (option_map without_ids o)) (first_cause (map (judged w b) (map (option_map without_ids) os))) h in
-    no_causes (judged w b (option_map without_ids (option_map skeleton o))) _ (well_zeroed w b o p.0) (free_zeroed w b os p.1)
+    let p = fault_free (judged w b (option_map without_ids o)) (first_cause (map (judged w b) (map (option_map without_ids) os))) h in
+    both_free (judged w b (option_map without_ids (option_map skeleton o))) _ (well_zeroed w b o p.0) (free_zeroed w b os p.1)
 
 free_small : (w : Want) (b : Bool) (os : List (Option Doc)) → AllSmall os → Free w b (map (option_map without_ids) (map (option_map skeleton) os)) → Free w b (map (option_map without_ids) os)
 free_small w b [] small h = refl
 free_small w b (o ∷ os) small h =
-    let p = no_cause (judged w b (option_map without_ids (option_map skeleton o))) (first_cause (map (judged w b) (map (option_map without_ids) (map (option_map skeleton) os)))) h in
-    no_causes (judged w b (option_map without_ids o)) _ (well_small w b o small.0 p.0) (free_small w b os small.1 p.1)
+    let p = fault_free (judged w b (option_map without_ids (option_map skeleton o))) (first_cause (map (judged w b) (map (option_map without_ids) (map (option_map skeleton) os)))) h in
+    both_free (judged w b (option_map without_ids o)) _ (well_small w b o small.0 p.0) (free_small w b os small.1 p.1)
 
 found_without : (ps : List PlaceStep) (d : Doc) → found ps (without_ids d) ≡ map (option_map without_ids) (found ps d)
 found_without ps d = found-shape without_ids without_keeps ps d

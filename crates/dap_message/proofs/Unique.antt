@@ -4,13 +4,13 @@ use Rattle.dap_tree.specs.Path.{Step, name, place, at, get_item}
 use Rattle.dap_tree.specs.declared.side.Side.{Side}
 use Rattle.dap_tree.proofs.Paths.{skips}
 use Rattle.dap_tree.proofs.Booleans.{and_left, and_right}
-use Rattle.std.proofs.Common.{◌≡◌, ℕ, suc, true, ◌&&◌, List, [], ◌∷◌, Option, Some, None, option_map, option_and_then, Ordering, Less, Equal, Greater, nat_cmp, refl, sym, ◌∙◌, ap, ap₂, bytes_eq, is_eq}
-use Rattle.std.proofs.lemmas.Map.Text.{is_eq-slice_cmp}
+use Rattle.std.proofs.Common.{◌≡◌, ℕ, suc, true, ◌&&◌, List, [], ◌∷◌, Option, Some, None, option_map, option_and_then, Ordering, Less, Equal, Greater, nat_cmp, refl, sym, ◌∙◌, ap, ap₂, bytes_eq}
 use Rattle.std.proofs.lemmas.Slice.Eq.{bytes_eq-Decides}
 use Rattle.std.specs.Cmp.Lexicographic.{slice_cmp}
 use Rattle.std.specs.Ordering.{match_ordering, is_lt}
 use Rattle.dap_message.specs.Marks.{IsMarked, top, items_top, members_top, mark}
 use Rattle.dap_message.specs.Profile.{profile}
+use Rattle.dap_message.proofs.Choices.{itself, equal_at}
 use Rattle.dap_message.proofs.Edits.{Alike, by_bool}
 use Rattle.dap_message.proofs.Envelopes.{apart}
 use Rattle.dap_message.proofs.Marking.{mark_is_marked}
@@ -32,13 +32,8 @@ none_below k no_members h = refl
 none_below k (member l d ms) h =
     none_at (slice_cmp nat_cmp k l) (get_member k ms) (Some d) (and_left (is_lt (slice_cmp nat_cmp k l)) (is_below_all k ms) h) ∙ none_below k ms (and_right (is_lt (slice_cmp nat_cmp k l)) (is_below_all k ms) h)
 
-here_at : (o : Ordering) (a b : Option Doc) → is_eq o ≡ true → match_ordering o a b a ≡ b
-here_at Less a b h = cc
-here_at Equal a b h = refl
-here_at Greater a b h = cc
-
 get_first : (k : List ℕ) (d : Doc) (ms : Members) → get_member k (member k d ms) ≡ Some d
-get_first k d ms = here_at (slice_cmp nat_cmp k k) (get_member k ms) (Some d) (is_eq-slice_cmp k k ∙ (bytes_eq-Decides k k).1 refl)
+get_first k d ms = equal_at (slice_cmp nat_cmp k k) (get_member k ms) (Some d) (itself k)
 
 -- ---- what stands at each path tells the document
 

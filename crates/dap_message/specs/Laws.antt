@@ -10,7 +10,7 @@ use Rattle.dap_message.specs.Envelope.{kind_of, name_of, success_of, has_envelop
 use Rattle.dap_message.specs.Faults.{Fits}
 use Rattle.dap_message.specs.Marks.{IsMarked, mark}
 use Rattle.dap_message.specs.Message.{IsTyped, IsTypedAs, IsTypedContent, Refusal, HasRefusal, side_of}
-use Rattle.dap_message.specs.Numbers.{has_small_ids, renumbered}
+use Rattle.dap_message.specs.Numbers.{is_proper, has_small_ids, renumbered}
 use Rattle.dap_message.specs.Profile.{profile}
 use Rattle.dap_message.specs.declared.message.Message.{Message}
 
@@ -56,16 +56,27 @@ TypedOrdered = (side : Side) (d m : Doc) → is_ordered d ≡ true → IsTyped s
 abbrev pub TypedUtf8 : Type 0
 TypedUtf8 = (side : Side) (d m : Doc) → all_utf8 d ≡ true → IsTyped side d m → all_utf8 m ≡ true
 
+-- A well-formed document of a message (own): none of its ids is a variables reference of 0, it is sound, it has the members of its kind, its members stand in order, and its texts are UTF-8.
+pub record IsWellFormed (m : Doc) : Type 0 where
+  pub proper : is_proper m ≡ true
+  pub sound : is_sound m ≡ true
+  pub enveloped : has_envelope m ≡ true
+  pub ordered : is_ordered m ≡ true
+  pub utf8 : all_utf8 m ≡ true
+
+-- The document of a content's message is well-formed, with no premise on what was read.
+abbrev pub ContentWellFormed : Type 0
+ContentWellFormed = (side : Side) (bytes : List ℕ) (m : Doc) → IsTypedContent side bytes m → IsWellFormed m
+
 -- ---- typed again
 
 -- A document that differs from a message at the numbers of its ids alone, each from 1 to 2,147,483,647, is typed as itself with its ids as numbers.
 abbrev pub TypedAgain : Type 0
 TypedAgain = (side : Side) (d m n : Doc) → is_plain d ≡ true → IsTyped side d m → skeleton n ≡ skeleton m → has_small_ids n ≡ true → IsTyped side (without_ids n) n
 
--- Its text is the content of that very message.
+-- Where some content is that of the message, the text of such a document is the content of that very document.
 abbrev pub ContentTypedAgain : Type 0
-ContentTypedAgain = (side : Side) (d m n : Doc) → is_plain d ≡ true → is_ordered d ≡ true → all_utf8 d ≡ true → IsTyped side d m → skeleton n ≡ skeleton m → has_small_ids n ≡ true
-    → IsTypedContent side (text_of n) n
+ContentTypedAgain = (side : Side) (bytes : List ℕ) (m n : Doc) → IsTypedContent side bytes m → skeleton n ≡ skeleton m → has_small_ids n ≡ true → IsTypedContent side (text_of n) n
 
 -- A message with its own ids, whatever their numbers, is typed as itself too.
 abbrev pub OwnContentTypedAgain : Type 0

@@ -1,5 +1,5 @@
 //! Theorems on typed messages, which hold of all documents and contents. Each function does nothing: a call of it gives its clauses to a proof.
-ghost use Rattle.dap_message.specs.Laws.{OneMessage, OneRefusal, TypedNotRefused, SomeMessage, TypedSide, TypedProper, TypedSound, TypedEnveloped, TypedOrdered, TypedUtf8, TypedAgain, ContentTypedAgain, OwnContentTypedAgain, SkeletonTells, Renumbers, MarkedByPath, OneMarked, FilledFits, FilledOnce};
+ghost use Rattle.dap_message.specs.Laws.{OneMessage, OneRefusal, TypedNotRefused, SomeMessage, TypedSide, TypedProper, TypedSound, TypedEnveloped, TypedOrdered, TypedUtf8, ContentWellFormed, TypedAgain, ContentTypedAgain, OwnContentTypedAgain, SkeletonTells, Renumbers, MarkedByPath, OneMarked, FilledFits, FilledOnce};
 
 /// A content is one message, or is refused for one reason.
 pub fn one_outcome()
@@ -13,7 +13,7 @@ pub fn some_outcome()
     ensures { SomeMessage }
 {}
 
-/// What every message keeps.
+/// What every message keeps. That of a content keeps all of it, whatever the bytes were (`content`).
 pub fn typed_keeps()
     ensures side { TypedSide }
     ensures proper { TypedProper }
@@ -21,6 +21,7 @@ pub fn typed_keeps()
     ensures enveloped { TypedEnveloped }
     ensures ordered { TypedOrdered }
     ensures utf8 { TypedUtf8 }
+    ensures content { ContentWellFormed }
 {}
 
 /// A message is read and typed again from its own content, also with other small numbers at its ids.

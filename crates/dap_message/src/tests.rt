@@ -1,5 +1,5 @@
 use crate::{Kind, Message, MessageFault, Side, typed};
-use dap_tree::{Sort, read_tree};
+use dap_tree::{Sort, read_tree, write_tree};
 use std::alloc::Global;
 use std::test::Fail;
 
@@ -42,6 +42,14 @@ fn has_ids(alloc: Global, found: Result<Message, MessageFault>, expected: &[(Sor
         return false;
     };
     matches!(message.ids(alloc), Ok(ids) if ids.as_slice() == expected)
+}
+
+/// Whether a copy of its tree has the text.
+fn has_tree(alloc: Global, message: &Message, text: &str) -> bool {
+    let Ok(tree) = message.tree().copy(alloc) else {
+        return false;
+    };
+    tree.sound() && matches!(write_tree(alloc, &tree), Ok(written) if written.as_str() == text)
 }
 
 fn is_unchanged(alloc: Global, side: Side, text: &str) -> bool {
@@ -243,6 +251,44 @@ fn ids_in_the_order_of_the_text(rt: HostRuntime) -> Result<(), Fail> {
 }
 
 #[test]
+fn a_reference_of_zero_is_no_id(rt: HostRuntime) -> Result<(), Fail> {
+    let alloc = rt.alloc();
+    let text =
+        "{\"body\":{\"variables\":[{\"name\":\"a\",\"value\":\"1\",\"variablesReference\":0},{\"name\":\"b\",\"value\":\"1\",\"variablesReference\":5},{\"name\":\"c\",\"value\":\"1\",\"variablesReference\":0},{\"name\":\"d\",\"value\":\"1\",\"variablesReference\":5},{\"name\":\"e\",\"value\":\"1\",\"variablesReference\":3}]},\"command\":\"variables\",\"request_seq\":2,\"seq\":2,\"success\":true,\"type\":\"response\"}";
+    assert!(rt;
+        has_ids(
+            alloc,
+            from_adapter(alloc, text),
+            &[
+                (Sort::Reference, 5),
+                (Sort::Reference, 5),
+                (Sort::Reference, 3),
+                (Sort::ClientSeq, 2),
+                (Sort::AdapterSeq, 2)
+            ]
+        )
+    );
+    assert!(rt; is_unchanged(alloc, Side::Adapter, text));
+    Ok(())
+}
+
+#[test]
+fn the_least_sequence_number(rt: HostRuntime) -> Result<(), Fail> {
+    let alloc = rt.alloc();
+    let text =
+        "{\"arguments\":{\"adapterID\":\"mock\"},\"command\":\"initialize\",\"seq\":-9223372036854775808,\"type\":\"request\"}";
+    assert!(rt;
+        has_ids(
+            alloc,
+            from_client(alloc, text),
+            &[(Sort::ClientSeq, -9223372036854775808)]
+        )
+    );
+    assert!(rt; is_unchanged(alloc, Side::Client, text));
+    Ok(())
+}
+
+#[test]
 fn capabilities_of_an_adapter(rt: HostRuntime) -> Result<(), Fail> {
     let alloc = rt.alloc();
     assert!(rt;
@@ -363,6 +409,7 @@ fn parts_of_a_request(rt: HostRuntime) -> Result<(), Fail> {
     assert!(rt; request.seq() == 2);
     assert!(rt; request.request_seq().is_none() && request.success().is_none());
     assert!(rt; request.tree().child("arguments").is_some());
+    assert!(rt; has_tree(alloc, &request, text));
     assert!(rt; has_content(alloc, request.copy(alloc), text));
     Ok(())
 }
@@ -379,6 +426,7 @@ fn parts_of_a_response(rt: HostRuntime) -> Result<(), Fail> {
     assert!(rt;
         matches!(response.request_seq(), Some(2)) && matches!(response.success(), Some(true))
     );
+    assert!(rt; has_tree(alloc, &response, text));
     assert!(rt; has_content(alloc, response.copy(alloc), text));
     Ok(())
 }

@@ -9,3 +9,5 @@ pub mod Places
 pub mod Telling
 pub mod Grown
 pub mod Standing
+pub mod Carried
+pub mod Paired

@@ -1,11 +1,11 @@
 -- The normal form is there, grows message by message, and has small names.
-use Rattle.std.proofs.Common.{◌≡◌, ℕ, zero, suc, ◌+◌, ◌<◌, ◌≤◌, ◌^◌, ℤ, pos, Bool, true, false, ◌&&◌, cond, List, [], ◌∷◌, ◌++◌, length, map, inl, inr, refl, sym, ◌∙◌, ap, subst, arith, append_assoc, append-nil, length-append}
+use Rattle.std.proofs.Common.{◌≡◌, ℕ, suc, ◌+◌, ◌<◌, ◌≤◌, ◌^◌, ℤ, pos, true, List, [], ◌∷◌, ◌++◌, length, map, inl, inr, refl, sym, ◌∙◌, ap, subst, arith, append_assoc, append-nil}
 use Rattle.std.proofs.lemmas.Bool.{lt-ltb, and_from}
 use Rattle.std.proofs.lemmas.List.{map-append}
 use Rattle.std.specs.List.{list_any, list_all, position_or_len, AllByRecursion}
 use Rattle.std.specs.Ordering.{int_eq}
 use Rattle.std.proofs.lemmas.Bool.Decides.{Decides-int_eq}
-use Rattle.dap_tree.specs.Ids.{ids, sorts_of, numbers_of, skeleton, with_ids}
+use Rattle.dap_tree.specs.Ids.{ids, sorts_of, numbers_of, with_ids}
 use Rattle.dap_tree.specs.declared.side.Side.{Side}
 use Rattle.dap_tree.specs.Doc.{Doc}
 use Rattle.dap_tree.specs.declared.sort.Sort.{Sort}
@@ -14,12 +14,12 @@ use Rattle.dap_message.specs.Message.{Sent}
 use Rattle.dap_message.specs.Numbers.{is_small, has_small_ids}
 use Rattle.dap_rename.specs.Numbering.{add, add_all, numbers, table, name, named, IsFresh}
 use Rattle.dap_rename.specs.Renamings.{IsIn}
-use Rattle.dap_rename.specs.Messages.{Class, AreProper, HasFewIds, class_after, occurrence, occurrences, numbers_of_class, message_skeleton, same_class, stops_after, AreSame, IsNormal, IsRenamed, names_of, normal_from, normal_of, in_whole}
+use Rattle.dap_rename.specs.Messages.{Class, AreProper, class_after, occurrence, occurrences, message_skeleton, same_class, stops_after, IsNormal, names_of, normal_from, normal_of}
 use Rattle.dap_rename.specs.Laws.{IsToldBySkeleton, WholeIsTold, SomeNormal, NormalOfFront, NormalOfNext, NamesAreCounted, NamesAreSmall, SameCounts, FrontHasFewIds}
 use Rattle.dap_rename.proofs.Additions.{by_bool, numbers-append, add_all-append, any-table, up_to, length-up_to, place_up_to, place_below}
-use Rattle.dap_rename.proofs.Naming.{IsCounted, Counts, NextIsFresh, counted-push, counts-push, fresh-next, fresh-step, length-push}
-use Rattle.dap_rename.proofs.Occurring.{class_decides, class_sort, same_itself, each_left, each_right, occurrences-append, occurrences-push, stops_alike, seconds}
-use Rattle.dap_rename.proofs.Sameness.{Alike, alike, fresh_names, same_as_itself, same_is_proper, normal_is_unique, named_is_normal}
+use Rattle.dap_rename.proofs.Naming.{IsCounted, Counts, counted-push, counts-push, fresh-next, fresh-step, length-push}
+use Rattle.dap_rename.proofs.Occurring.{class_decides, class_sort, each_left, each_right, occurrences-append, occurrences-push, stops_alike, seconds}
+use Rattle.dap_rename.proofs.Sameness.{alike, fresh_names, same_as_itself, same_is_proper, normal_is_unique, named_is_normal}
 
 pub whole_is_told : WholeIsTold
 whole_is_told m n h = refl

@@ -1,5 +1,5 @@
 -- Laws of the ids of messages: their classes, their order, and that a list of messages is told by its skeletons and its ids.
-use Rattle.std.proofs.Common.{◌≡◌, ℕ, zero, suc, ◌+◌, ℤ, pos, Bool, true, false, ◌&&◌, List, [], ◌∷◌, ◌++◌, map, take, drop, length, refl, sym, ◌∙◌, ap, subst, arith, append_assoc, append-nil}
+use Rattle.std.proofs.Common.{◌≡◌, ℕ, ◌+◌, ℤ, true, List, [], ◌∷◌, ◌++◌, map, take, drop, length, refl, sym, ◌∙◌, ap, arith, append_assoc, append-nil}
 use Rattle.std.proofs.Math.Seq.{take-append_seam, drop-append_seam}
 use Rattle.std.proofs.lemmas.List.{length-append, length-map}
 use Rattle.std.proofs.lemmas.Bool.Decides.{Decides-and, Decides-eqb, Decides-like}
@@ -13,7 +13,7 @@ use Rattle.dap_tree.specs.declared.sort.Sort.TheVariants.{ClientSeq, AdapterSeq,
 use Rattle.dap_tree.proofs.Booleans.{and_left, and_right, and_both}
 use Rattle.dap_tree.proofs.Numbered.{count_alike, count_ids, with_own, with_others}
 use Rattle.dap_message.specs.Message.{Sent}
-use Rattle.dap_message.specs.Numbers.{is_proper_number, are_proper, is_proper}
+use Rattle.dap_message.specs.Numbers.{is_proper_number, are_proper}
 use Rattle.dap_rename.specs.Messages.{Class, IsProperId, AreProper, class_after, occurrence, occurrences, message_skeleton, same_class, sort_number, stops_after}
 use Rattle.dap_rename.specs.Laws.{IsToldBySkeleton}
 use Rattle.dap_rename.proofs.Related.{each-append}

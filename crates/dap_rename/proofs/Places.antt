@@ -1,6 +1,6 @@
 -- Places in a list.
-use Rattle.std.proofs.Common.{◌≡◌, ℕ, zero, suc, ◌+◌, ◌<◌, ◌≤◌, ℤ, pos, Bool, true, false, cond, List, [], ◌∷◌, ◌++◌, length, refl, sym, ◌∙◌, ap, arith, MatchOption, Some, None, Option}
-use Rattle.std.proofs.lemmas.Bool.{ltb-true, le-ltb, ltb-false}
+use Rattle.std.proofs.Common.{◌≡◌, ℕ, suc, ◌<◌, pos, Bool, true, false, List, length, refl, arith, MatchOption, Some, None, Option}
+use Rattle.std.proofs.lemmas.Bool.{le-ltb}
 use lib.Dec.{ltb}
 use Rattle.std.specs.List.{list_any, position_or_len, position}
 use Rattle.dap_rename.proofs.Additions.{by_bool, place_below, place_missing}

@@ -1,5 +1,5 @@
 -- What it is to be the same: one skeleton and one list of names. From it the laws of fresh lists and of the normal form.
-use Rattle.std.proofs.Common.{◌≡◌, ℕ, zero, suc, ◌+◌, ◌<◌, ◌≤◌, ℤ, pos, Bool, true, false, cond, List, [], ◌∷◌, ◌++◌, map, length, inl, inr, refl, sym, ◌∙◌, ap, subst, arith, append_assoc, true≢false}
+use Rattle.std.proofs.Common.{◌≡◌, ℕ, suc, ℤ, pos, true, false, cond, List, [], ◌∷◌, ◌++◌, map, length, inl, inr, refl, sym, ◌∙◌, ap, subst, arith, true≢false}
 use Rattle.std.proofs.lemmas.List.{length-map, map-append}
 use Rattle.std.proofs.lemmas.Bool.Decides.{Decides-int_eq}
 use Rattle.std.specs.List.{list_any, AllByRecursion}
@@ -10,9 +10,9 @@ use Rattle.dap_tree.specs.declared.sort.Sort.TheVariants.{ClientSeq, AdapterSeq,
 use Rattle.dap_message.specs.Message.{Sent}
 use Rattle.dap_message.specs.Numbers.{is_proper_number}
 use Rattle.dap_rename.specs.Numbering.{table, name, named, IsFresh}
-use Rattle.dap_rename.specs.Renamings.{IsIn, AreApart, IsRenaming, AreRelated, pairs}
-use Rattle.dap_rename.specs.Messages.{Class, IsProperId, AreProper, class_after, occurrence, occurrences, message_skeleton, same_class, sort_number, AreSame, AreFresh, IsNormal, Carries, in_whole, whole_classes, equal_places}
-use Rattle.dap_rename.specs.Laws.{SameAsItself, SameBothWays, SameAlong, SameIsProper, SameFronts, FreshIsUnique, NormalIsUnique, NormalIsComplete, NamedIsNormal, NormalIsItsOwn, EqualPlacesCarry}
+use Rattle.dap_rename.specs.Renamings.{IsIn, IsRenaming, AreRelated, pairs}
+use Rattle.dap_rename.specs.Messages.{Class, IsProperId, class_after, occurrence, occurrences, message_skeleton, same_class, sort_number, AreSame, IsNormal, Carries, in_whole, whole_classes}
+use Rattle.dap_rename.specs.Laws.{SameAsItself, SameBothWays, SameAlong, SameIsProper, SameFronts, FreshIsUnique, NormalIsUnique, NormalIsComplete, NamedIsNormal, NormalIsItsOwn, EqualPlacesRename, EqualPlacesCarry}
 use Rattle.dap_rename.proofs.Additions.{by_bool}
 use Rattle.dap_rename.proofs.Naming.{IsCounted, named-fresh, fresh_named}
 use Rattle.dap_rename.proofs.Related.{Tied, named-related, Distinct, each-append, each-more}
@@ -204,4 +204,8 @@ whole_occurrences [] = tt
 whole_occurrences (m ∷ ms) = each-append _ (map (occurrence 0) (ids m.doc)) (occurrences in_whole 0 ms) (whole_ids (ids m.doc)) (whole_occurrences ms)
 
 pub equal_places_carry : EqualPlacesCarry
-equal_places_carry ms ns s = carried in_whole whole_classes ms ns whole_distinct (whole_occurrences ms) (alike in_whole ms ns s)
+equal_places_carry ms ns s = (carried in_whole whole_classes ms ns whole_distinct (whole_occurrences ms) (alike in_whole ms ns s)).1
+
+pub equal_places_rename : EqualPlacesRename
+equal_places_rename ms ns p q =
+    pairs_renaming same_class class_decides IsProperId whole_classes (occurrences in_whole 0 ms) (occurrences in_whole 0 ns) whole_distinct (proper_occurrences in_whole 0 ms p) (proper_occurrences in_whole 0 ns q)

@@ -1,6 +1,6 @@
 -- What the four tables hold and give are the numbers of the classes and their names.
-use Rattle.std.proofs.Common.{◌≡◌, ◌≢◌, ℕ, zero, suc, ◌+◌, ◌<◌, ◌≤◌, ℤ, pos, Bool, true, false, cond, ◌&&◌, eqb, List, [], ◌∷◌, ◌++◌, length, map, zip, refl, sym, ◌∙◌, ap, subst, arith, append_assoc, append-nil}
-use Rattle.std.specs.List.{list_any, position_or_len}
+use Rattle.std.proofs.Common.{◌≡◌, ℕ, zero, suc, ◌≤◌, ℤ, pos, true, false, eqb, List, [], ◌∷◌, ◌++◌, length, map, zip, refl, sym, ◌∙◌, ap, arith, append_assoc, append-nil}
+use Rattle.std.specs.List.{position_or_len}
 use Rattle.std.specs.Ordering.{int_eq}
 use Rattle.std.proofs.lemmas.Bool.{and_right, ne_eqb}
 use Rattle.dap_tree.specs.Ids.{ids, sorts_of, skeleton}
@@ -11,10 +11,10 @@ use Rattle.dap_tree.specs.declared.sort.Sort.TheVariants.{ClientSeq, AdapterSeq,
 use Rattle.dap_tree.proofs.Booleans.{and_both}
 use Rattle.dap_message.specs.Message.{Sent}
 use Rattle.dap_message.specs.Numbers.{is_proper_number, are_proper}
-use Rattle.dap_rename.specs.Numbering.{add, add_all, numbers, table, name, named}
-use Rattle.dap_rename.specs.Messages.{Class, same_class, sort_number, class_after, occurrence, occurrences, numbers_of_class, stops_after, in_whole, message_skeleton, HasFewIds, HasTooManyIds, IsRenamed}
+use Rattle.dap_rename.specs.Numbering.{add, numbers, table, name, named}
+use Rattle.dap_rename.specs.Messages.{Class, same_class, sort_number, class_after, occurrence, occurrences, numbers_of_class, stops_after, in_whole, HasFewIds, HasTooManyIds, IsRenamed}
 use Rattle.dap_rename.specs.Table.{place}
-use Rattle.dap_rename.specs.Tables.{Lists, list_of, added, added_all, names_from, table_of, lists, Limits, limit_of, limits, AllFit, SomeIsOver}
+use Rattle.dap_rename.specs.Tables.{Lists, list_of, added, added_all, names_from, table_of, lists, limit_of, limits, AllFit, SomeIsOver}
 use Rattle.dap_rename.specs.declared.tables.Tables.{Tables}
 use Rattle.dap_rename.proofs.Additions.{table-push}
 use Rattle.dap_rename.proofs.Occurring.{class_sort, same_itself, occurrences-push}

@@ -1,5 +1,5 @@
 -- The laws that the functions of `laws` state. They hold whatever messages classes begin anew behind, and so in the whole of a recording.
-use Rattle.std.specs.Prelude.{◌≡◌, ℕ, suc, ◌≤◌, ◌<◌, ◌^◌, pos, ℤ, true, List, [], ◌∷◌, ◌++◌, length, map}
+use Rattle.std.specs.Prelude.{◌≡◌, ℕ, suc, ◌<◌, ◌^◌, pos, ℤ, true, List, [], ◌∷◌, ◌++◌, length, map}
 use Rattle.std.specs.List.{AllByRecursion}
 use Rattle.dap_tree.specs.declared.sort.Sort.{Sort}
 use Rattle.dap_message.specs.Message.{Sent}
@@ -93,6 +93,10 @@ NamesAreSmall = (stop : Sent → ℕ) (limit : Sort → ℕ) (ms n : List Sent) 
 
 -- ---- renamings
 
--- In the whole of a recording the pairs of equal places are a renaming that carries the one list to the other, if they are the same.
+-- In the whole of a recording the pairs of equal places are a renaming, whatever the two lists are.
+abbrev pub EqualPlacesRename : Type 0
+EqualPlacesRename = (ms ns : List Sent) → AreProper ms → AreProper ns → IsRenaming IsProperId (equal_places ms ns)
+
+-- They carry the one list to the other, if the two are the same.
 abbrev pub EqualPlacesCarry : Type 0
-EqualPlacesCarry = (ms ns : List Sent) → AreSame in_whole ms ns → IsRenaming IsProperId (equal_places ms ns) × Carries in_whole (equal_places ms ns) ms ns
+EqualPlacesCarry = (ms ns : List Sent) → AreSame in_whole ms ns → Carries in_whole (equal_places ms ns) ms ns

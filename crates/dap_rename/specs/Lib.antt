@@ -5,6 +5,9 @@ pub mod Table
 pub mod Tables
 pub mod Names
 pub mod PlainNames
+pub mod Pairs
+pub mod Renaming
+pub mod Carrying
 pub mod Entries
 pub mod SortedNames
 pub mod Laws

@@ -1,6 +1,7 @@
 -- What names are to their callers: the numbers that they have for each sort, and the messages that they stand for.
-use Rattle.std.specs.Prelude.{◌≡◌, ℕ, ℤ, List, []}
+use Rattle.std.specs.Prelude.{◌≡◌, ℕ, ℤ, List, [], length}
 use Rattle.dap_tree.specs.declared.sort.Sort.{Sort}
+use Rattle.dap_tree.specs.declared.sort.Sort.TheVariants.{ClientSeq, AdapterSeq, Frame, Reference}
 use Rattle.dap_message.specs.Message.{Sent}
 use Rattle.dap_rename.specs.Messages.{class_after, in_whole, stops_after, numbers_of_class}
 use Rattle.dap_rename.specs.Tables.{table_of}
@@ -26,3 +27,9 @@ StandFor numbers names ms = (s : Sort) → numbers_in numbers names s ≡ number
 -- The names are as before.
 abbrev pub AreUnchanged : {T : Type 0} → (T → List ℤ) → Names T → Names T → Type 0
 AreUnchanged numbers old new = (s : Sort) → numbers_in numbers new s ≡ numbers_in numbers old s
+
+-- For each sort there are as many numbers with names in the one as in the other.
+abbrev pub HaveEqualCounts : {T : Type 0} → (T → List ℤ) → Names T → Names T → Type 0
+HaveEqualCounts numbers a b =
+    (length (numbers_in numbers a ClientSeq) ≡ length (numbers_in numbers b ClientSeq)) × (length (numbers_in numbers a AdapterSeq) ≡ length (numbers_in numbers b AdapterSeq))
+    × (length (numbers_in numbers a Frame) ≡ length (numbers_in numbers b Frame)) × (length (numbers_in numbers a Reference) ≡ length (numbers_in numbers b Reference))

@@ -1,6 +1,6 @@
 //! Theorems on renamings and on the normal form, which hold of all lists of messages. Each function does nothing: a call of it gives its clauses to a proof.
 ghost use Rattle.dap_rename.specs.Laws.{WholeIsTold, SameAsItself, SameBothWays, SameAlong, SameIsProper, SameFronts, SameCounts, FrontHasFewIds};
-ghost use Rattle.dap_rename.specs.Laws.{FreshIsUnique, NormalIsUnique, NormalIsComplete, NamedIsNormal, SomeNormal, NormalIsItsOwn, NormalOfFront, NormalOfNext, NamesAreCounted, NamesAreSmall, EqualPlacesCarry};
+ghost use Rattle.dap_rename.specs.Laws.{FreshIsUnique, NormalIsUnique, NormalIsComplete, NamedIsNormal, SomeNormal, NormalIsItsOwn, NormalOfFront, NormalOfNext, NamesAreCounted, NamesAreSmall, EqualPlacesRename, EqualPlacesCarry};
 
 /// Being the same is an equivalence on the lists without a variables reference of 0.
 pub fn same_is_equivalence()
@@ -44,7 +44,8 @@ pub fn names_are_small()
     ensures small { NamesAreSmall }
 {}
 
-/// Of lists that are the same, the pairs of equal places carry the one to the other.
+/// The pairs of equal places are a renaming, which carries a list to each list that is the same.
 pub fn equal_places_carry()
-    ensures { EqualPlacesCarry }
+    ensures renaming { EqualPlacesRename }
+    ensures carry { EqualPlacesCarry }
 {}

@@ -5,10 +5,13 @@
 //! list is; [`laws`] has the theorems.
 #![tactic(auto)]
 
+mod carries;
 pub mod laws;
 mod name_table;
 mod names;
+mod pair;
 mod plain_names;
+mod renaming;
 mod sorted_names;
 #[cfg(test)]
 mod sorted_names_tests;
@@ -18,6 +21,8 @@ mod tests;
 
 pub use name_table::{NameFault, NameTable};
 pub use names::Names;
+pub use pair::{Pair, PairFault};
 pub use plain_names::PlainNames;
+pub use renaming::Renaming;
 pub use sorted_names::SortedNames;
 pub use tables::Tables;

@@ -1,7 +1,8 @@
-ghost use Rattle.std.specs.Prelude.{◌≡◌, ℕ, suc, ◌≤◌, ℤ, pos, ◌≤ℤ◌, ◌↔◌, true, false, List, length, take, slice_index_or, MatchOption, IfOk, OnErr, OnOk, IsOk};
+ghost use Rattle.std.specs.Prelude.{◌≡◌, ℕ, suc, ◌<◌, ◌≤◌, ◌^◌, ℤ, pos, ◌≤ℤ◌, ◌↔◌, true, false, List, length, take, slice_index_or, MatchOption, IfOk, OnErr, OnOk, IsOk};
 ghost use Rattle.dap_rename.specs.Numbering.{add};
 ghost use Rattle.dap_rename.specs.Table.{has, place, AllDiffer};
 
+use std::alloc::AllocError;
 use thiserror::Error;
 
 /// Why a number got no name.
@@ -15,7 +16,17 @@ pub enum NameFault {
     Memory,
 }
 
-/// A list of distinct numbers and a limit of its length.
+impl From<AllocError> for NameFault {
+    ghost use Rattle.dap_rename.specs.declared.name_table.NameFault.TheVariants.{Memory};
+
+    ghost from_gives = { λ _ f. f ≡ Memory };
+
+    fn from(_: AllocError) -> NameFault {
+        NameFault::Memory
+    }
+}
+
+/// A list of distinct numbers and a limit of its length, which is at most 2,147,483,647.
 ///
 /// The name of a number is its place in the list, counted from 1.
 pub trait NameTable {
@@ -63,4 +74,6 @@ pub trait NameTable {
     ghost distinct: { (t : Self) → AllDiffer (numbers t) };
 
     ghost bounded: { (t : Self) → length (numbers t) ≤ limit t };
+
+    ghost small: { (t : Self) → limit t < 2 ^ 31 };
 }

@@ -11,7 +11,7 @@ use std::alloc::Global;
 /// The names of the ids of the messages so far, each sort in a table of its own.
 #[derive(Drop)]
 pub struct Names<T> {
-    tables: Tables<T>,
+    pub(crate) tables: Tables<T>,
     alloc: Global,
 }
 
@@ -39,7 +39,8 @@ impl<T: NameTable> Names<T> {
             → StandFor T.numbers self.new (ms ++ sent message ∷ [])) }
         ensures few { OnOk result ((ms : List Sent) → StandFor T.numbers self.old ms
             → HasFewIds in_whole (limit_in T.limit self.old) (ms ++ sent message ∷ [])) }
-        ensures full { result ≡ Err NameFault.Full → (ms : List Sent) → StandFor T.numbers self.old ms
+        ensures full { result ≡ Err NameFault.Full → (ms : List Sent)
+            → StandFor T.numbers self.old ms
             → HasTooManyIds in_whole (limit_in T.limit self.old) (ms ++ sent message ∷ []) }
         ensures refused { OnErr result (AreUnchanged T.numbers self.old self.new) }
         ensures limits { (s : Sort) → limit_in T.limit self.new s ≡ limit_in T.limit self.old s }

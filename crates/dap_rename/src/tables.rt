@@ -32,10 +32,13 @@ impl<T: NameTable> Tables<T> {
         ids: &[(Sort, i64)],
     ) -> Result<Vec<i64>, NameFault>
         ensures named { IfOk result (λ v. v.items ≡ names_from (lists T.numbers self.old) ids.now) }
-        ensures grown { OnOk result (lists T.numbers self.new ≡ added_all (lists T.numbers self.old) ids.now) }
+        ensures grown { OnOk result
+            (lists T.numbers self.new ≡ added_all (lists T.numbers self.old) ids.now) }
         ensures refused { OnErr result (lists T.numbers self.new ≡ lists T.numbers self.old) }
-        ensures fits { OnOk result (AllFit (limits T.limit self.old) (added_all (lists T.numbers self.old) ids.now)) }
-        ensures full { result ≡ Err NameFault.Full → SomeIsOver (limits T.limit self.old) (added_all (lists T.numbers self.old) ids.now) }
+        ensures fits { OnOk result
+            (AllFit (limits T.limit self.old) (added_all (lists T.numbers self.old) ids.now)) }
+        ensures full { result ≡ Err NameFault.Full
+            → SomeIsOver (limits T.limit self.old) (added_all (lists T.numbers self.old) ids.now) }
         ensures same_limits { limits T.limit self.new ≡ limits T.limit self.old }
     {
         let marks = self.marks();
@@ -50,9 +53,11 @@ impl<T: NameTable> Tables<T> {
 
     fn name_all(&mut self, alloc: Global, ids: &[(Sort, i64)]) -> Result<Vec<i64>, NameFault>
         ensures named { IfOk result (λ v. v.items ≡ names_from (lists T.numbers self.old) ids.now) }
-        ensures grown { OnOk result (lists T.numbers self.new ≡ added_all (lists T.numbers self.old) ids.now) }
+        ensures grown { OnOk result
+            (lists T.numbers self.new ≡ added_all (lists T.numbers self.old) ids.now) }
         ensures begins { AllBegin (lists T.numbers self.old) (lists T.numbers self.new) }
-        ensures full { result ≡ Err NameFault.Full → SomeIsOver (limits T.limit self.old) (added_all (lists T.numbers self.old) ids.now) }
+        ensures full { result ≡ Err NameFault.Full
+            → SomeIsOver (limits T.limit self.old) (added_all (lists T.numbers self.old) ids.now) }
         ensures same_limits { limits T.limit self.new ≡ limits T.limit self.old }
     {
         let mut names = Vec::new(alloc);
@@ -67,11 +72,13 @@ impl<T: NameTable> Tables<T> {
 
     fn name(&mut self, id: (Sort, i64)) -> Result<i64, NameFault>
         ensures named { IfOk result (λ n. n ≡ place (list_of (lists T.numbers self.old) id.0) id.1) }
-        ensures grown { OnOk result (lists T.numbers self.new ≡ added (lists T.numbers self.old) id.0 id.1) }
+        ensures grown { OnOk result
+            (lists T.numbers self.new ≡ added (lists T.numbers self.old) id.0 id.1) }
         ensures refused { OnErr result (lists T.numbers self.new ≡ lists T.numbers self.old) }
         ensures full { result ≡ Err NameFault.Full
             → (has (list_of (lists T.numbers self.old) id.0) id.1 ≡ false)
-            × (limit_of (limits T.limit self.old) id.0 ≤ length (list_of (lists T.numbers self.old) id.0)) }
+            × (limit_of (limits T.limit self.old) id.0
+            ≤ length (list_of (lists T.numbers self.old) id.0)) }
         ensures same_limits { limits T.limit self.new ≡ limits T.limit self.old }
     {
         match id.0 {
@@ -101,10 +108,13 @@ impl<T: NameTable> Tables<T> {
         requires adapter_seq { marks.adapter_seq ≤ length (T.numbers self.old.adapter_seq) }
         requires frame { marks.frame ≤ length (T.numbers self.old.frame) }
         requires reference { marks.reference ≤ length (T.numbers self.old.reference) }
-        ensures client_seq { T.numbers self.new.client_seq ≡ take marks.client_seq (T.numbers self.old.client_seq) }
-        ensures adapter_seq { T.numbers self.new.adapter_seq ≡ take marks.adapter_seq (T.numbers self.old.adapter_seq) }
+        ensures client_seq { T.numbers self.new.client_seq
+            ≡ take marks.client_seq (T.numbers self.old.client_seq) }
+        ensures adapter_seq { T.numbers self.new.adapter_seq
+            ≡ take marks.adapter_seq (T.numbers self.old.adapter_seq) }
         ensures frame { T.numbers self.new.frame ≡ take marks.frame (T.numbers self.old.frame) }
-        ensures reference { T.numbers self.new.reference ≡ take marks.reference (T.numbers self.old.reference) }
+        ensures reference { T.numbers self.new.reference
+            ≡ take marks.reference (T.numbers self.old.reference) }
         ensures same_limits { limits T.limit self.new ≡ limits T.limit self.old }
     {
         self.client_seq.cut(marks.client_seq);

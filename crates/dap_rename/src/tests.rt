@@ -1,4 +1,4 @@
-use crate::{NameFault, NameTable, Names, PlainNames, Tables, laws};
+use crate::{NameFault, NameTable, Names, Pair, PairFault, PlainNames, Renaming, Tables, laws};
 use dap_message::{Message, MessageFault, Side, typed};
 use dap_tree::{Sort, read_tree};
 use std::alloc::Global;
@@ -204,11 +204,171 @@ fn frames_apart_from_references(rt: HostRuntime) -> Result<(), Fail> {
     Ok(())
 }
 
+const fn pair(sort: Sort, from: i64, to: i64) -> Pair {
+    Pair { sort, from, to }
+}
+
+fn is_refused(alloc: Global, pairs: &[Pair], expected: PairFault) -> bool {
+    matches!(Renaming::new(alloc, pairs), Err(fault) if fault == expected)
+}
+
+#[test]
+fn pairs_that_are_a_renaming(rt: HostRuntime) -> Result<(), Fail> {
+    let alloc = rt.alloc();
+    let exchanged = [pair(Sort::Frame, 5, 6), pair(Sort::Frame, 6, 5)];
+    assert!(rt;
+        matches!(Renaming::new(alloc, &exchanged), Ok(renaming) if renaming.pairs() == exchanged.as_slice())
+    );
+    let of_two_sorts = [
+        pair(Sort::Frame, 5, 6),
+        pair(Sort::Reference, 5, 6),
+        pair(Sort::ClientSeq, 0, 0),
+    ];
+    assert!(rt;
+        matches!(Renaming::new(alloc, &of_two_sorts), Ok(renaming) if renaming.pairs() == of_two_sorts.as_slice())
+    );
+    assert!(rt; matches!(Renaming::new(alloc, &[]), Ok(renaming) if renaming.pairs().is_empty()));
+    Ok(())
+}
+
+#[test]
+fn pairs_that_are_none(rt: HostRuntime) -> Result<(), Fail> {
+    let alloc = rt.alloc();
+    let first = pair(Sort::Frame, 5, 6);
+    assert!(rt;
+        is_refused(
+            alloc,
+            &[first, pair(Sort::Frame, 5, 7)],
+            PairFault::FromTwice(2)
+        )
+    );
+    assert!(rt;
+        is_refused(
+            alloc,
+            &[first, pair(Sort::Frame, 7, 6)],
+            PairFault::ToTwice(2)
+        )
+    );
+    assert!(rt; is_refused(alloc, &[first, first], PairFault::FromTwice(2)));
+    assert!(rt;
+        is_refused(
+            alloc,
+            &[pair(Sort::Reference, 0, 0)],
+            PairFault::ZeroReference(1)
+        )
+    );
+    assert!(rt;
+        is_refused(
+            alloc,
+            &[first, pair(Sort::Reference, 1, 0), first],
+            PairFault::ZeroReference(2)
+        )
+    );
+    Ok(())
+}
+
+// The messages of a session with those frames.
+fn session(alloc: Global, frames: &str) -> Result<[Message; 4], MessageFault> {
+    Ok([
+        message(alloc, Side::Client, INITIALIZE)?,
+        message(alloc, Side::Adapter, INITIALIZED)?,
+        message(alloc, Side::Client, STACK_TRACE)?,
+        message(alloc, Side::Adapter, frames)?,
+    ])
+}
+
+// The names of the messages of a session with those frames.
+fn session_names(alloc: Global, frames: &str) -> Result<Names<PlainNames>, NameFault> {
+    let mut names = plain_names(alloc, 100);
+    let Ok([first, second, third, last]) = session(alloc, frames) else {
+        return Err(NameFault::Memory);
+    };
+    drop(names.rename(first)?);
+    drop(names.rename(second)?);
+    drop(names.rename(third)?);
+    drop(names.rename(last)?);
+    Ok(names)
+}
+
+#[test]
+fn renaming_between_sessions(rt: HostRuntime) -> Result<(), Fail> {
+    let alloc = rt.alloc();
+    let from = session_names(alloc, TWO_FRAMES)?;
+    let to = session_names(alloc, FRAMES_EXCHANGED)?;
+    assert!(rt; from.len(Sort::ClientSeq) == to.len(Sort::ClientSeq));
+    assert!(rt; from.len(Sort::AdapterSeq) == to.len(Sort::AdapterSeq));
+    assert!(rt; from.len(Sort::Frame) == to.len(Sort::Frame));
+    assert!(rt; from.len(Sort::Reference) == to.len(Sort::Reference));
+    let renaming = Renaming::between(alloc, &from, &to)?;
+    let expected = [
+        pair(Sort::ClientSeq, 1, 1),
+        pair(Sort::ClientSeq, 2, 2),
+        pair(Sort::AdapterSeq, 1, 1),
+        pair(Sort::AdapterSeq, 2, 2),
+        pair(Sort::Frame, 1000, 1001),
+        pair(Sort::Frame, 1001, 1000),
+    ];
+    assert!(rt; renaming.pairs() == expected.as_slice());
+    let messages = session(alloc, TWO_FRAMES)?;
+    let others = session(alloc, FRAMES_EXCHANGED)?;
+    assert!(rt; renaming.carries(&messages, &others));
+    assert!(rt; !renaming.carries(&messages, &messages));
+    assert!(rt; !renaming.carries(&messages, &others[..3]));
+    assert!(rt; !renaming.carries(&messages[..3], &others));
+    assert!(rt; renaming.carries(&messages[..3], &others[..3]));
+    assert!(rt; renaming.carries(&[], &[]));
+    Ok(())
+}
+
+#[test]
+fn carried_only_where_all_else_is_equal(rt: HostRuntime) -> Result<(), Fail> {
+    let alloc = rt.alloc();
+    let renaming = Renaming::new(
+        alloc,
+        &[pair(Sort::ClientSeq, 2, 7), pair(Sort::AdapterSeq, 2, 7)],
+    )?;
+    let threads = [message(alloc, Side::Client, THREADS)?];
+    let seven = [message(
+        alloc,
+        Side::Client,
+        "{\"command\":\"threads\",\"seq\":7,\"type\":\"request\"}",
+    )?];
+    assert!(rt; renaming.carries(&threads, &seven));
+    let of_adapter = [message(
+        alloc,
+        Side::Adapter,
+        "{\"command\":\"threads\",\"seq\":7,\"type\":\"request\"}",
+    )?];
+    assert!(rt; !renaming.carries(&threads, &of_adapter));
+    let with_member = [message(
+        alloc,
+        Side::Client,
+        "{\"command\":\"threads\",\"seq\":7,\"type\":\"request\",\"x\":1}",
+    )?];
+    assert!(rt; !renaming.carries(&threads, &with_member));
+    let other_command = [message(
+        alloc,
+        Side::Client,
+        "{\"command\":\"launch\",\"seq\":7,\"type\":\"request\"}",
+    )?];
+    assert!(rt; !renaming.carries(&threads, &other_command));
+    Ok(())
+}
+
 #[test]
 fn texts_of_faults(rt: HostRuntime) -> Result<(), Fail> {
-    let full = format!(in rt.alloc(); "{}", NameFault::Full);
+    let alloc = rt.alloc();
+    let full = format!(in alloc; "{}", NameFault::Full);
     assert!(rt; matches!(&full, Ok(text) if text.as_str() == "Full"));
-    let memory = format!(in rt.alloc(); "{}", NameFault::Memory);
+    let memory = format!(in alloc; "{}", NameFault::Memory);
+    assert!(rt; matches!(&memory, Ok(text) if text.as_str() == "Memory"));
+    let zero = format!(in alloc; "{}", PairFault::ZeroReference(1));
+    assert!(rt; matches!(&zero, Ok(text) if text.as_str() == "ZeroReference 1"));
+    let from = format!(in alloc; "{}", PairFault::FromTwice(2));
+    assert!(rt; matches!(&from, Ok(text) if text.as_str() == "FromTwice 2"));
+    let to = format!(in alloc; "{}", PairFault::ToTwice(3));
+    assert!(rt; matches!(&to, Ok(text) if text.as_str() == "ToTwice 3"));
+    let memory = format!(in alloc; "{}", PairFault::Memory);
     assert!(rt; matches!(&memory, Ok(text) if text.as_str() == "Memory"));
     Ok(())
 }

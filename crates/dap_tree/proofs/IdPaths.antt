@@ -14,6 +14,7 @@ use Rattle.dap_tree.specs.Doc.{Doc, null, boolean, whole, text, list, object, id
 use Rattle.dap_tree.specs.Ids.{ids, items_ids, members_ids}
 use Rattle.dap_tree.specs.Path.{Step, name, place, step, get_item, at, StandsBefore, IsBefore, AreIdPaths}
 use Rattle.dap_tree.proofs.Booleans.{and_left, and_right}
+use Rattle.dap_tree.proofs.Orderings.{less}
 use Rattle.dap_tree.proofs.Paths.{skips}
 
 abbrev Path : Type 0
@@ -47,11 +48,6 @@ hit Greater a b e = cc
 
 found_first : (k : List ℕ) (d : Doc) (ms : Members) → get_member k (member k d ms) ≡ Some d
 found_first k d ms = hit (slice_cmp nat_cmp k k) (get_member k ms) (Some d) (is_eq-slice_cmp k k ∙ (bytes_eq-Decides k k).1 refl)
-
-less : (o : Ordering) → is_lt o ≡ true → o ≡ Less
-less Less h = refl
-less Equal h = cc
-less Greater h = cc
 
 below_first : (k l : List ℕ) (e : Doc) (ms : Members) → is_below_all k (member l e ms) ≡ true → slice_cmp nat_cmp k l ≡ Less
 below_first k l e ms h = less (slice_cmp nat_cmp k l) (and_left (is_lt (slice_cmp nat_cmp k l)) (is_below_all k ms) h)

@@ -1,4 +1,5 @@
 pub mod Booleans
+pub mod Orderings
 pub mod Views
 pub mod Depths
 pub mod Without
@@ -11,4 +12,7 @@ pub mod Numbered
 pub mod Texts
 pub mod Outcomes
 pub mod Ordered
+pub mod Strings
+pub mod Tokens
+pub mod Utf8
 pub mod IdPaths

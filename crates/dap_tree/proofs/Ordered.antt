@@ -11,6 +11,7 @@ use Rattle.dap_tree.specs.Doc.{Doc, null, boolean, whole, text, list, object, id
 use Rattle.dap_tree.specs.Json.{data_of, items_data, members_data, IsRead}
 use Rattle.dap_tree.proofs.Booleans.{and_left, and_right, and_both}
 use Rattle.dap_tree.proofs.Numbers.{Passes, Passes-map, Passes-and_then}
+use Rattle.dap_tree.proofs.Orderings.{less}
 
 abbrev data_below_all : List ℕ → json.Members → Bool
 data_below_all k json.no_members = true
@@ -34,11 +35,6 @@ abbrev mutual
   members_data_ordered (json.member k d ms) = data_below_all k ms && (data_ordered d && members_data_ordered ms)
 
 -- ---- a member that is put among the others
-
-less : (o : Ordering) → is_lt o ≡ true → o ≡ Less
-less Less h = refl
-less Equal h = cc
-less Greater h = cc
 
 below_lower : (k l : List ℕ) (ms : json.Members) → slice_cmp nat_cmp k l ≡ Less → data_below_all l ms ≡ true → data_below_all k ms ≡ true
 below_lower k l json.no_members low h = refl

@@ -1,5 +1,5 @@
 -- The text of a document is UTF-8, and is read as the document.
-use Rattle.std.proofs.Common.{◌≡◌, ℕ, ◌^◌, ℤ, pos, negsuc, List, [], ◌∷◌, ◌++◌, Bool, true, ◌&&◌, Some, option_map, option_and_then, Ordering, Less, Equal, Greater, nat_cmp, IsUtf8, refl, sym, ap, ◌∙◌, subst, leb}
+use Rattle.std.proofs.Common.{◌≡◌, ℕ, ◌^◌, ℤ, pos, negsuc, List, [], ◌∷◌, ◌++◌, Bool, true, ◌&&◌, Some, option_map, option_and_then, Greater, nat_cmp, IsUtf8, refl, sym, ap, ◌∙◌, subst, leb}
 use Rattle.std.proofs.lemmas.Bool.{ltb-true}
 use Rattle.std.proofs.lemmas.Cmp.{nat_list_cmp_total}
 use Rattle.std.proofs.lemmas.Fmt.{IsAscii-decimal, IsAscii-signed}
@@ -26,6 +26,7 @@ use Rattle.dap_tree.specs.Ids.{without_ids, ids_in_range, items_ids_in_range, me
 use Rattle.dap_tree.specs.Json.{data_of, items_data, members_data, text_of, IsRead}
 use Rattle.dap_tree.specs.Written.{json_of, items_json, members_json, WritesDoc}
 use Rattle.dap_tree.proofs.Booleans.{and_left, and_right}
+use Rattle.dap_tree.proofs.Orderings.{less}
 use Rattle.dap_tree.proofs.Without.{data-without, no_id_without}
 use Rattle.dap_tree.proofs.Writing.{depth_from_sound, tokens_read_back}
 
@@ -136,13 +137,8 @@ abbrev stand_before : json.Members → Members → Bool
 stand_before json.no_members ms = true
 stand_before (json.member l v found) ms = is_below_all l ms && stand_before found ms
 
-reversed : (o : Ordering) → is_lt o ≡ true → ordering_reverse o ≡ Greater
-reversed Less h = refl
-reversed Equal h = cc
-reversed Greater h = cc
-
 greater : (k l : List ℕ) → is_lt (slice_cmp nat_cmp l k) ≡ true → slice_cmp nat_cmp k l ≡ Greater
-greater k l h = nat_list_cmp_total.antisymm k l ∙ reversed (slice_cmp nat_cmp l k) h
+greater k l h = nat_list_cmp_total.antisymm k l ∙ ap ordering_reverse (less (slice_cmp nat_cmp l k) h)
 
 put_behind : (k : List ℕ) (d : Doc) (ms : Members) (found : json.Members) → stand_before found (member k d ms) ≡ true → json.put k (data_of d) found ≡ join found (json.member k (data_of d) json.no_members)
 put_behind k d ms json.no_members h = refl

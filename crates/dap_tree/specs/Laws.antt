@@ -22,6 +22,10 @@ ReadIsPlain = (bytes : List ℕ) (d : Doc) → IsRead bytes d → is_plain d ≡
 abbrev pub ReadIsOrdered : Type 0
 ReadIsOrdered = (bytes : List ℕ) (d : Doc) → IsRead bytes d → is_ordered d ≡ true
 
+-- The texts and the names of what is read are UTF-8.
+abbrev pub ReadIsUtf8 : Type 0
+ReadIsUtf8 = (bytes : List ℕ) (d : Doc) → IsRead bytes d → all_utf8 d ≡ true
+
 -- A change at a name puts f of the member there.
 abbrev pub ChangesMember : Type 0
 ChangesMember = (k : List ℕ) (f : Doc → Doc) (d : Doc) → get k (change_child k f d) ≡ option_map f (get k d)

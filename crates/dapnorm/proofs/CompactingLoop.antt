@@ -9,7 +9,7 @@ use Rattle.dapnorm.specs.declared.limits.Limits.{Limits}
 use Rattle.dapnorm.specs.declared.reading.Stop.{Stop}
 use Rattle.dapnorm.specs.declared.refused.Refused.{Refused}
 use Rattle.dapnorm.specs.declared.refused.Refused.TheVariants.{Record}
-use Rattle.dapnorm.specs.declared.refused.RecordCause.TheVariants.{Cut}
+use Rattle.dap_recording.specs.declared.record_fault.RecordCause.TheVariants.{Cut}
 use Rattle.dapnorm.specs.declared.compacting.ContentFault.{ContentFault}
 use Rattle.dapnorm.specs.declared.compacting.ContentFault.TheVariants.{Json, Fraction, Grew, Memory}
 use Rattle.dapnorm.specs.Limits.{AreSound}

@@ -1,8 +1,15 @@
+pub mod AcceptingFacts
 pub mod CompactingFacts
 pub mod CompactingLoop
 pub mod Deciding
 pub mod Filled
 pub mod FrameFacts
 pub mod Going
+pub mod InputAnswers
+pub mod JudgedRecords
+pub mod JudgingLoop
+pub mod NormalTexts
 pub mod Outcomes
+pub mod RecordingFacts
 pub mod Runs
+pub mod Standing

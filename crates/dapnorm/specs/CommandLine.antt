@@ -1,13 +1,25 @@
 -- The program's command line, as `clap` reads it, and the job that it names. Source: own.
-use Rattle.std.specs.Prelude.{List, Option, Some, None, codes, if◌then◌else◌, option_and_then, true}
+use Rattle.std.specs.Prelude.{◌≡◌, Bool, false, List, Option, Some, None, codes, if◌then◌else◌, option_map, option_and_then, true}
+use Rattle.std.specs.Borrow.{Bor}
 use Rattle.std.specs.Str.{bytes_eq}
-use Rattle.clap.specs.Words.{App, Row, Text, new_app, with_subcommand}
+use Rattle.clap.specs.Words.{App, Row, Rule, Text, app_of, first_of, new_app, new_rule, with_rule, with_subcommand}
+use Rattle.clap.specs.declared.Command.{Command}
+use Rattle.clap.specs.declared.Command.TheViews.{out-Command as fields_of}
+use Rattle.clap.specs.declared.builder.ArgAction.TheVariants.{SetTrue}
 use Rattle.dapnorm.specs.declared.jobs.Job.{Job}
 use Rattle.dapnorm.specs.declared.jobs.Job.TheVariants as job
 
 -- a subcommand that takes no words
 abbrev pub plain : Text → App
 plain name = new_app name
+
+-- the flag `--complete`
+abbrev pub complete_flag : Rule
+complete_flag = record (new_rule (codes "complete")) { long = Some (codes "complete"); action = Some SetTrue }
+
+-- the subcommand `check`, with its flag
+abbrev pub checker : App
+checker = with_rule (new_app (codes "check")) complete_flag
 
 -- the command, which wants a subcommand
 abbrev pub bare : App
@@ -17,18 +29,39 @@ bare = record (new_app (codes "dapnorm")) {
 
 -- what a parse reads of the program's command
 abbrev pub program : App
-program = with_subcommand bare (plain (codes "compact")).top
+program = with_subcommand (with_subcommand (with_subcommand bare (plain (codes "compact")).top) (plain (codes "normalise")).top) checker.top
+
+-- The command is this one, and its subcommands inherit no argument.
+abbrev pub IsCommand : App → Command → Type 0
+IsCommand app command = (app_of command ≡ app) × ((fields_of command).has_globals ≡ false)
 
 -- a job by the texts that it was given
 pub data Told : Type 0 where
   compact : Told
+  normalise : Told
+  check : Bool → Told
 
 abbrev pub told : Job → Told
 told job.Compact = compact
+told job.Normalise = normalise
+told (job.Check complete) = check complete
+
+-- the text behind a reference that may be there
+abbrev pub text_in : Option (Bor Text) → Option Text
+text_in = option_map (λ text. text.now)
+
+-- a flag is set
+abbrev pub is_set : Option Text → Bool
+is_set None = false
+is_set (Some text) = bytes_eq text (codes "true")
 
 -- the job of a subcommand with the words that it was given
 abbrev pub job_of : Text → List Row → Option Told
-job_of name rows = if bytes_eq name (codes "compact") then Some compact else None
+job_of name rows =
+    if bytes_eq name (codes "compact") then Some compact
+    else if bytes_eq name (codes "normalise") then Some normalise
+    else if bytes_eq name (codes "check") then Some (check (is_set (first_of (codes "complete") rows)))
+    else None
 
 abbrev pub job_named : Option (Text × List Row) → Option Told
 job_named = option_and_then (λ p. job_of p.0 p.1)

@@ -3,12 +3,12 @@ use Rattle.std.specs.Prelude.{◌≡◌, ℕ, ◌≤◌, List, [], ◌∷◌, �
 use Rattle.std.specs.List.{flat_map, AllByRecursion}
 use Rattle.dap_frame.specs.declared.fault.FrameFault.{FrameFault}
 use Rattle.dap_frame.specs.Frame.{AreFrames, IsFrame, IsOpen, Shows, frame_text}
+use Rattle.dap_recording.specs.declared.record_fault.RecordCause.TheVariants as cause
 use Rattle.dap_tree.specs.Doc.{Doc}
 use Rattle.dap_tree.specs.Json.{IsRead, HasFraction, HasNoReading, text_of}
 use Rattle.dapnorm.specs.declared.limits.Limits.{Limits}
 use Rattle.dapnorm.specs.declared.refused.Refused.{Refused}
-use Rattle.dapnorm.specs.declared.refused.Refused.TheVariants.{InputTooLong, Record, Json, Fraction, Grew, ReadFault, WriteFault, Memory}
-use Rattle.dapnorm.specs.declared.refused.RecordCause.TheVariants as cause
+use Rattle.dapnorm.specs.declared.refused.Refused.TheVariants.{InputTooLong, Record, Json, Fraction, Message, Rule, TooManyIds, Grew, Incomplete, ReadFault, WriteFault, Memory}
 use Rattle.dapnorm.specs.Limits.{AreSound}
 use Rattle.dapnorm.specs.Judging.{Judging, faulty, input_too_long, cut, objected, IsFirstRefusal, HasOneOutcome, RefusalStays}
 
@@ -77,7 +77,11 @@ IsRefused limits whole (Record n cause.NoLineEnd) = ⊥
 IsRefused limits whole (Record n cause.Memory) = ⊥
 IsRefused limits whole (Json n) = IsFirstRefusal (compacting limits) whole n (objected no_reading)
 IsRefused limits whole (Fraction n) = IsFirstRefusal (compacting limits) whole n (objected fraction)
+IsRefused limits whole (Message n fault) = ⊥
+IsRefused limits whole (Rule n rule) = ⊥
+IsRefused limits whole (TooManyIds n) = ⊥
 IsRefused limits whole (Grew n) = IsFirstRefusal (compacting limits) whole n (objected grown)
+IsRefused limits whole (Incomplete client adapter) = ⊥
 IsRefused limits whole ReadFault = ⊥
 IsRefused limits whole WriteFault = ⊥
 IsRefused limits whole Memory = ⊥

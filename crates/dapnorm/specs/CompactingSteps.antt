@@ -2,6 +2,7 @@
 use Rattle.std.specs.Prelude.{◌≡◌, ◌⊎◌, ℕ, ◌+◌, List, [], ◌∷◌, ◌++◌, Option, Some, None, Result, Ok, Err}
 use Rattle.std.specs.declared.vec.Vec.{Vec}
 use Rattle.std.specs.declared.alloc.Global.{Global}
+use Rattle.dap_recording.specs.declared.record_fault.RecordCause.TheVariants.{Cut}
 use Rattle.dap_tree.specs.Doc.{Doc}
 use Rattle.dap_tree.specs.Json.{IsRead, HasFraction, HasNoReading}
 use Rattle.dapnorm.specs.declared.limits.Limits.{Limits}
@@ -9,7 +10,6 @@ use Rattle.dapnorm.specs.declared.reading.Stop.{Stop}
 use Rattle.dapnorm.specs.declared.reading.Stop.TheVariants.{End, Failed}
 use Rattle.dapnorm.specs.declared.refused.Refused.{Refused}
 use Rattle.dapnorm.specs.declared.refused.Refused.TheVariants as refused
-use Rattle.dapnorm.specs.declared.refused.RecordCause.TheVariants.{Cut}
 use Rattle.dapnorm.specs.declared.compacting.ContentFault.{ContentFault}
 use Rattle.dapnorm.specs.declared.compacting.ContentFault.TheVariants.{Json, Fraction, Grew, Memory}
 use Rattle.dapnorm.specs.Compacting.{Compacts, Fits, IsRefused, text}

@@ -1,11 +1,17 @@
+pub mod Accepting
+pub mod Checking
 pub mod Counts
 pub mod CompactingSteps
 pub mod CommandLine
 pub mod Compacting
 pub mod Device
 pub mod Engine
+pub mod InputJudging
 pub mod Judging
+pub mod JudgingSteps
 pub mod Limits
 pub mod Memory
+pub mod Normalised
+pub mod Normalising
 pub mod Reading
 pub mod Run

@@ -1,5 +1,5 @@
 -- What reading a whole input takes of a source. Source: own.
-use Rattle.std.specs.Prelude.{◌≡◌, ℕ, ◌+◌, ◌≤◌, List, length, Option}
+use Rattle.std.specs.Prelude.{◌≡◌, ℕ, ◌+◌, ◌<◌, ◌≤◌, List, length, Option}
 use Rattle.std.specs.Io.KnownBytes.{Consumes, IsAtEnd}
 use Rattle.dapnorm.specs.declared.reading.Stop.{Stop}
 use Rattle.dapnorm.specs.declared.reading.Stop.TheVariants.{End, Full, Failed}
@@ -9,6 +9,12 @@ abbrev pub HasLength : ℕ → List ℕ → Stop → Type 0
 HasLength limit bytes End = length bytes ≤ limit
 HasLength limit bytes Full = length bytes ≡ limit + 1
 HasLength limit bytes Failed = length bytes ≤ limit
+
+-- so many bytes are taken up to the limit where it stops so
+abbrev pub FitsStop : ℕ → List ℕ → Stop → Type 0
+FitsStop limit bytes End = length bytes ≤ limit
+FitsStop limit bytes Full = limit < length bytes
+FitsStop limit bytes Failed = length bytes ≤ limit
 
 module _ {S : Type 0} (left : S → Option (List ℕ)) (failures : S → ℕ) (old new : S) where
   -- why no more was read: nothing is left; a byte past the limit has come; the source failed

@@ -1,9 +1,12 @@
 -- What the program tells of a job. Source: own.
-use Rattle.std.specs.Prelude.{◌≡◌, ◌⊎◌, ℕ, List, Option, Result, Ok, Err, string_bytes}
+use Rattle.std.specs.Prelude.{◌≡◌, ◌⊎◌, ℕ, Bool, List, Option, Result, Ok, Err, string_bytes}
+use Rattle.dapnorm.specs.declared.checked.Checked.{Checked}
 use Rattle.dapnorm.specs.declared.jobs.UsageFault.{UsageFault}
 use Rattle.dapnorm.specs.declared.jobs.UsageFault.TheVariants as usage
+use Rattle.dapnorm.specs.declared.limits.Limits.{Limits}
 use Rattle.dapnorm.specs.declared.refused.Refused.{Refused}
 use Rattle.dapnorm.specs.declared.refused.Refused.TheVariants.{ReadFault, WriteFault, Memory}
+use Rattle.dapnorm.specs.Checking.{Checks, accepted_line}
 use Rattle.dapnorm.specs.Device.{AllWritten, FrontWritten}
 use Rattle.dapnorm.specs.Engine.{Answers}
 
@@ -22,6 +25,24 @@ module _ {R W : Type 0} (left : R → Option (List ℕ)) (read_failures : R → 
     pub answer : Result (Unit {0}) Refused
     pub answers : Answers left read_failures out write_failures input Gives IsRefused old new before after answer
     pub status_is : status ≡ status_of answer
+
+-- An answer of `check` is printed: the line of an accepted recording goes out, or a front of it and the writer failed; of a
+-- refusal nothing goes out.
+abbrev pub HasPrinted : {W U : Type 0} → (W → Option (List ℕ)) → (W → ℕ) → Result Checked Refused → W → W → Result U Refused → Type 0
+HasPrinted out failures (Ok checked) before after (Ok done) = AllWritten out failures before after (accepted_line checked)
+HasPrinted out failures (Ok checked) before after (Err refused) = (refused ≡ WriteFault) × FrontWritten out failures before after (accepted_line checked)
+HasPrinted out failures (Err because) before after (Ok done) = ⊥
+HasPrinted out failures (Err because) before after (Err refused) = (refused ≡ because) × (after ≡ before)
+
+module _ {R W : Type 0} (left : R → Option (List ℕ)) (read_failures : R → ℕ) (out : W → Option (List ℕ)) (write_failures : W → ℕ)
+    (limits : Limits) (complete : Bool) where
+  -- What `check` answers of the reader is printed, and the status is that of the answer or of the writer that failed.
+  pub record CheckIsTold (old new : R) (before after : W) (status : ℕ) : Type 0 where
+    pub answer : Result Checked Refused
+    pub checks : Checks left read_failures limits complete old new answer
+    pub told : Result (Unit {0}) Refused
+    pub printed : HasPrinted out write_failures answer before after told
+    pub status_is : status ≡ status_of told
 
 module _ {S : Type 0} (out : S → Option (List ℕ)) (failures : S → ℕ) where
   -- The text went out, or a front of it and the device failed.

@@ -1,12 +1,13 @@
 //! Reads the words of a command line with `clap`.
-ghost use Rattle.std.specs.Prelude.{[], ◌≡◌, IfOk, IfErr, Some, true, is_some, map, option_map};
+ghost use Rattle.std.specs.Prelude.{[], ◌≡◌, IfOk, IfErr, Some, true, false, is_some, map, option_map};
 ghost use Rattle.clap.specs.Words.{fault_of as faults_of, app_of, found_of, rows_of, subcommand_of, subcommand_rows_of, takes, kind_of, with_subcommand};
-ghost use Rattle.dapnorm.specs.CommandLine.{bare, plain, job_named, job_of, program, told};
+ghost use Rattle.clap.specs.declared.Command.TheViews.{out-Command as fields_of};
+ghost use Rattle.dapnorm.specs.CommandLine.{IsCommand, bare, checker, is_set, plain, job_named, job_of, program, text_in, told};
 ghost use Rattle.dapnorm.specs.declared.jobs.UsageFault.TheVariants.{Memory};
 
 use crate::jobs::{Job, UsageFault};
 use clap::error::ErrorKind;
-use clap::{ArgMatches, Command, Error};
+use clap::{Arg, ArgAction, ArgMatches, Command, Error};
 use std::alloc::{AllocError, Global};
 
 /// The program's command before its subcommands.
@@ -30,16 +31,55 @@ fn with_plain<'a>(
     command.subcommand(Command::new(alloc, name).about(about))
 }
 
+/// The subcommand `check`.
+fn check_command<'a>(alloc: Global) -> Result<Command<'a>, AllocError>
+    ensures { IfOk result (IsCommand checker) }
+{
+    let complete = Arg::new(alloc, "complete")
+        .long("complete")
+        .action(ArgAction::SetTrue)
+        .help("Refuses a recording in which some request has no response");
+    Command::new(alloc, "check")
+        .about("Judges a recording from standard input")
+        .arg(complete)
+}
+
+/// A subcommand is added to `command`.
+fn with_other<'a>(command: Command<'a>, other: Command<'a>) -> Result<Command<'a>, AllocError>
+    requires { (fields_of other).has_globals ≡ false }
+    ensures { IfOk result (λ c. app_of c ≡ with_subcommand (app_of command.entry) (app_of other.entry).top) }
+{
+    command.subcommand(other)
+}
+
 /// The definition of the command line.
 fn command<'a>(alloc: Global) -> Result<Command<'a>, AllocError>
     ensures { IfOk result (λ c. app_of c ≡ program) }
 {
-    with_plain(
+    let check = check_command(alloc)?;
+    let compact = with_plain(
         bare_command(alloc),
         alloc,
         "compact",
         "Makes the contents of frames canonical, from standard input to standard output",
-    )
+    )?;
+    let normalise = with_plain(
+        compact,
+        alloc,
+        "normalise",
+        "Writes the normal form of a recording, from standard input to standard output",
+    )?;
+    with_other(normalise, check)
+}
+
+/// Whether a flag's value is there and set.
+fn is_true(value: Option<&str>) -> bool
+    ensures { result ≡ is_set (text_in value.entry) }
+{
+    match value {
+        Some(text) => text == "true",
+        None => false,
+    }
 }
 
 /// The job of a subcommand with its matches.
@@ -48,6 +88,11 @@ fn job_by(name: &str, rows: &ArgMatches<'_>) -> Option<Job>
 {
     match name {
         "compact" => Some(Job::Compact),
+        "normalise" => Some(Job::Normalise),
+        "check" => {
+            let complete = is_true(rows.get_str("complete"));
+            Some(Job::Check { complete })
+        }
         _ => None,
     }
 }

@@ -10,9 +10,10 @@ ghost use Rattle.dapnorm.specs.Limits.{AreSound};
 use crate::device::{Sink, Source};
 use crate::limits::Limits;
 use crate::reading::{Input, Stop, read_all};
-use crate::refused::{RecordCause, Refused};
+use crate::refused::Refused;
 use crate::writing::write_and_flush;
 use dap_frame::{Content, FrameFault, Framer, write_frame};
+use dap_recording::RecordCause;
 use dap_tree::{TreeFault, read_tree, write_tree};
 use std::alloc::Global;
 

@@ -5,6 +5,10 @@
 pub enum Job {
     /// Make the contents of frames canonical.
     Compact,
+    /// Write the normal form of a recording.
+    Normalise,
+    /// Judge a recording; with `complete` each request must have a response.
+    Check { complete: bool },
 }
 
 /// Why the words name no job.

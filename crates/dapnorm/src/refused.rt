@@ -1,26 +1,8 @@
 //! Why an engine gave up.
-use dap_frame::FrameFault;
+use dap_message::MessageFault;
+use dap_recording::RecordCause;
+use dap_session::Rule;
 use thiserror::Error;
-
-/// Why the bytes of a record are no record.
-#[derive(Clone, Copy, Debug, PartialEq, Eq, Error)]
-pub enum RecordCause {
-    /// It does not begin with `>` or `<`.
-    #[error("BadMarker")]
-    BadMarker,
-    /// Its frame is faulty. A frame that ends too early is `Cut`, and want of memory is `Memory`.
-    #[error(transparent)]
-    Frame(FrameFault),
-    /// No LF stands behind its frame.
-    #[error("NoLineEnd")]
-    NoLineEnd,
-    /// The input ends inside it.
-    #[error("Cut")]
-    Cut,
-    /// Memory was refused.
-    #[error("Memory")]
-    Memory,
-}
 
 /// Why an engine gave up, and at which record, counted from 1. The fault inside it is never for want of memory.
 ///
@@ -39,9 +21,21 @@ pub enum Refused {
     /// The content of this record has a number that is not whole, or not from -2^63 to 2^64 - 1.
     #[error("record {0}: Fraction")]
     Fraction(u64),
+    /// The content of this record is no message of the profile.
+    #[error("record {0}: {1}")]
+    Message(u64, MessageFault),
+    /// The message of this record breaks a rule of its session.
+    #[error("record {0}: {1}")]
+    Rule(u64, Rule),
+    /// With this record, some sort has more distinct ids than the limit.
+    #[error("record {0}: TooManyIds")]
+    TooManyIds(u64),
     /// With this record, the text to be written would pass a limit.
     #[error("record {0}: Grew")]
     Grew(u64),
+    /// The recording is accepted, and so many requests of the client and of the adapter have no response.
+    #[error("incomplete: {0} client, {1} adapter")]
+    Incomplete(usize, usize),
     /// The reader failed.
     #[error("read fault")]
     ReadFault,

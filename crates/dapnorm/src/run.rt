@@ -1,13 +1,18 @@
 //! Does a job, and tells of it what the program tells: lines and a status.
-ghost use Rattle.std.specs.Prelude.{◌≡◌, ◌+◌, ◌<◌, ◌≤◌, ◌^◌};
+ghost use Rattle.std.specs.Prelude.{◌≡◌, ◌+◌, ◌<◌, ◌≤◌, ◌^◌, Bool};
 ghost use Rattle.dapnorm.specs.Compacting.{Compacts, IsRefused};
+ghost use Rattle.dapnorm.specs.Accepting.{IsRefused as IsRecordingRefused};
 ghost use Rattle.dapnorm.specs.Limits.{AreSound};
-ghost use Rattle.dapnorm.specs.Run.{Answered, TellsUsage, status_of};
+ghost use Rattle.dapnorm.specs.Normalising.{Normalises};
+ghost use Rattle.dapnorm.specs.Run.{Answered, CheckIsTold, HasPrinted, TellsUsage, status_of};
 
+use crate::checked::Checked;
+use crate::checking::check;
 use crate::compacting::compact;
 use crate::device::{Sink, Source};
 use crate::jobs::{Job, UsageFault};
 use crate::limits::Limits;
+use crate::normalising::normalise;
 use crate::refused::Refused;
 use crate::writing::write_and_flush;
 use arrayvec::ArrayString;
@@ -53,7 +58,22 @@ fn tell<E: Sink>(errors: &mut E, refused: Refused)
     let _ = write_and_flush(errors, line.as_bytes());
 }
 
+/// Prints the line of an accepted recording.
+fn print<W: Sink>(writer: &mut W, answer: Result<Checked, Refused>) -> Result<(), Refused>
+    requires { W.failures writer.old < 2 ^ 62 }
+    ensures { HasPrinted W.out W.failures answer writer.old writer.new result }
+{
+    let line = answer?.line();
+    match write_and_flush(writer, line.as_bytes()) {
+        Ok(()) => Ok(()),
+        Err(_) => Err(Refused::WriteFault),
+    }
+}
+
 /// Does a job over a reader and a writer, and answers the program's status. A refusal is told on `errors`, in one line.
+///
+/// Of a recording that `check` accepts the numbers go to `writer`: `accepted records=R open=C,A` and LF, with the open
+/// requests of the client and of the adapter.
 ///
 /// The status is 0 where the job was done, 2 where the input is refused, 4 where a device failed and 5 for want of
 /// memory.
@@ -74,11 +94,19 @@ pub fn run_stream<R: Source, W: Sink, E: Sink>(
     // The output is what the engine writes, and the status that of its answer.
     ensures compact { job.now ≡ Job.Compact → Answered R.left R.failures W.out W.failures limits.input (Compacts limits) (IsRefused limits) reader.old reader.new writer.old writer.new result }
 
+    // The output is the normal text that `normalise` writes, and the status that of its answer.
+    ensures normalise { job.now ≡ Job.Normalise → Answered R.left R.failures W.out W.failures limits.input (Normalises limits) (IsRecordingRefused limits) reader.old reader.new writer.old writer.new result }
+
+    // The output is the line of what `check` accepts, and the status that of its answer or of a writer that failed.
+    ensures check { (complete : Bool) → job.now ≡ Job.Check complete → CheckIsTold R.left R.failures W.out W.failures limits complete reader.old reader.new writer.old writer.new result }
+
     // It takes at most one byte past the limit.
     ensures taken { R.given reader.new ≤ R.given reader.old + limits.input + 1 }
 {
     let answer = match *job {
         Job::Compact => compact(alloc, reader, writer, limits),
+        Job::Normalise => normalise(alloc, reader, writer, limits),
+        Job::Check { complete } => print(writer, check(alloc, reader, limits, complete)),
     };
     if let Err(refused) = answer {
         tell(errors, refused);

@@ -1,4 +1,4 @@
-use Rattle.dap_message.proofs.Contents.{typed_proper, typed_sound, typed_enveloped, typed_ordered, typed_utf8}
+use Rattle.dap_message.proofs.Contents.{typed_proper, typed_sound, typed_enveloped, typed_ordered, typed_utf8, content_well_formed}
 use Rattle.dap_message.proofs.laws.typed_keeps.Goals as goal
 
 pub returns-clause-side : goal.returns-clause-side
@@ -18,3 +18,6 @@ returns-clause-ordered c = typed_ordered
 
 pub returns-clause-utf8 : goal.returns-clause-utf8
 returns-clause-utf8 c = typed_utf8
+
+pub returns-clause-content : goal.returns-clause-content
+returns-clause-content c = content_well_formed

@@ -1,5 +1,5 @@
-use Rattle.std.proofs.Common.{rules, ◌≡◌, ◌∙◌, ap, sym, Err, take, ◌+◌, ◌++◌, ◌∷◌, []}
-use Rattle.dap_rename.specs.Tables.{lists, list_of, added, added_all, names_from, AllBegin, limits}
+use Rattle.std.proofs.Common.{rules, ◌≡◌, ◌∙◌, ap, Err, take, ◌+◌, ◌++◌, ◌∷◌, []}
+use Rattle.dap_rename.specs.Tables.{lists, limits}
 use Rattle.dap_rename.specs.declared.name_table.NameFault.TheVariants.{Full}
 use Rattle.std.proofs.lemmas.Result.{err_from_is_err_and}
 use Rattle.dap_rename.proofs.Grown.{all_begin, grown_step, named_step, over_step}

@@ -1,0 +1,8 @@
+use Rattle.std.proofs.Common.{take}
+use Rattle.dap_rename.specs.Messages.{IsProperId}
+use Rattle.dap_rename.specs.Pairs.{entries}
+use Rattle.dap_rename.specs.Renamings.{IsRenaming}
+use Rattle.dap_rename.proofs.renaming.first_fault.Given as goal
+
+abbrev pub invariant-loop-index : goal.invariant-loop-index
+invariant-loop-index l = IsRenaming IsProperId (entries (take l.index l.pairs))

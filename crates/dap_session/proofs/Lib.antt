@@ -1,0 +1,16 @@
+pub mod Sides
+pub mod Keeping
+pub mod Entries
+pub mod Firsts
+pub mod Asked
+pub mod Pushed
+pub mod Noted
+pub mod Judging
+pub mod Requested
+pub mod Initializing
+pub mod Standing
+pub mod Positions
+pub mod Related
+pub mod Alike
+pub mod Renaming
+pub mod Numbered

@@ -1,0 +1,8 @@
+use Rattle.std.proofs.Common.{◌≡◌, drop}
+use Rattle.dap_message.specs.Message.{sent}
+use Rattle.dap_session.specs.Rules.{rules, first_of}
+use Rattle.dap_session.specs.Judged.{tells}
+use Rattle.dap_session.proofs.session.Session.broken_by.Given as goal
+
+abbrev pub invariant-loop-rule : goal.invariant-loop-rule
+invariant-loop-rule l = first_of (λ r. tells r l.self (sent l.message)) rules ≡ first_of (λ r. tells r l.self (sent l.message)) (drop l.rule-index rules)

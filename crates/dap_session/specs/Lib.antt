@@ -1,0 +1,11 @@
+pub mod Messages
+pub mod Rules
+pub mod Positions
+pub mod Renamed
+pub mod Laws
+pub mod Kept
+pub mod Judged
+pub mod Standing
+pub mod View
+pub mod Noting
+pub mod SessionView

@@ -1,0 +1,21 @@
+-- What the fields of `Requests` keep.
+use Rattle.std.specs.Prelude.{◌≡◌, ℤ, map, string_bytes}
+use Rattle.dap_session.specs.declared.requests.Request.{Request}
+use Rattle.dap_session.specs.declared.requests.Requests.TheInside.{Inside}
+use Rattle.dap_session.specs.Kept.{Requests, Noted, unanswered}
+
+-- What is kept of a request.
+abbrev pub noted_of : Request → Noted
+noted_of r = (string_bytes r.command, r.answered)
+
+-- It beside its number.
+abbrev pub entry_of : ℤ × Request → ℤ × Noted
+entry_of e = (e.0, noted_of e.1)
+
+-- The requests of the map.
+abbrev pub listed : Inside → Requests
+listed a = map entry_of a.seen.entries
+
+-- The counter tells how many of them have no response.
+abbrev pub IsCounted : Inside → Type 0
+IsCounted a = a.open ≡ unanswered (listed a)

@@ -1,0 +1,59 @@
+ghost use Rattle.std.specs.Prelude.{◌≡◌};
+ghost use Rattle.dap_message.specs.Message.{sent};
+ghost use Rattle.dap_session.specs.Judged as tells;
+ghost use Rattle.dap_session.specs.Kept as kept;
+
+use crate::message::{is_client_initialize, is_from, is_response, request_seq_of, seq_of};
+use dap_message::{Message, Side};
+
+/// How far the client's `initialize` request has come.
+#[derive(Clone, Copy)]
+pub enum Phase {
+    /// It has not come.
+    Waiting,
+    /// It has this number, and no response.
+    Asked(i64),
+    /// The adapter has responded to it.
+    Answered,
+}
+
+impl Phase {
+    pub fn is_waiting(&self) -> bool
+        ensures { result ≡ tells.is_waiting self.now }
+    {
+        matches!(self, Phase::Waiting)
+    }
+
+    pub fn is_asked(&self) -> bool
+        ensures { result ≡ tells.is_asked self.now }
+    {
+        matches!(self, Phase::Asked(_))
+    }
+
+    /// Whether the message answers the request.
+    fn is_answered_by(&self, message: &Message) -> bool
+        ensures { result ≡ kept.answers_asked self.now (sent message.now) }
+    {
+        match self {
+            Phase::Asked(number) => {
+                is_response(message)
+                    && is_from(message, Side::Adapter)
+                    && request_seq_of(message) == Some(*number)
+            }
+            _ => false,
+        }
+    }
+
+    /// How far it has come after one more message.
+    pub fn after(&self, message: &Message) -> Phase
+        ensures { result ≡ kept.phase_after self.now (sent message.now) }
+    {
+        if is_client_initialize(message) {
+            Phase::Asked(seq_of(message))
+        } else if self.is_answered_by(message) {
+            Phase::Answered
+        } else {
+            *self
+        }
+    }
+}

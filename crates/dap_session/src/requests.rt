@@ -1,0 +1,114 @@
+//! The requests of one side.
+ghost use Rattle.std.specs.Prelude.{◌≡◌, ℤ, [], OnOk, OnErr, option_map, false, true, None, Some, IfOk, IsOk, ◌&&◌};
+ghost use Rattle.dap_message.specs.Message.{sent};
+ghost use Rattle.dap_session.specs.Kept.{found, unanswered, with_request, with_answer, requests_after};
+ghost use Rattle.dap_session.specs.Noting.{MayFollow, adds_to};
+
+use crate::message::{is_from, is_request, is_response, name_of, request_seq_of, seq_of};
+use dap_message::{Message, Side};
+use std::alloc::{AllocError, Global};
+use std::collections::BTreeMap;
+use std::marker::Model;
+
+/// A request that was taken.
+#[derive(Drop)]
+pub struct Request {
+    command: String,
+    answered: bool,
+}
+
+/// The requests of one side by their numbers, and how many of them have no answer.
+#[derive(Drop)]
+pub struct Requests {
+    alloc: Global,
+    seen: BTreeMap<i64, Request>,
+    open: usize,
+}
+
+impl Model for Requests {
+    ghost use Rattle.dap_session.specs.Kept.{Requests};
+
+    ghost Value = { Requests };
+
+    ghost use Rattle.dap_session.specs.View.{listed, IsCounted};
+
+    ghost view = { listed };
+
+    ghost invariant = { IsCounted };
+}
+
+impl Requests {
+    pub fn new(alloc: Global) -> Requests
+        ensures { result ≡ [] }
+    {
+        Requests {
+            alloc,
+            seen: BTreeMap::new(alloc),
+            open: 0,
+        }
+    }
+
+    /// How many have no answer.
+    pub fn open(&self) -> usize
+        ensures { result ≡ unanswered self.now }
+    {
+        self.open
+    }
+
+    /// The command of the request of this number, and whether it is answered.
+    pub fn find(&self, number: i64) -> Option<(&str, bool)>
+        ensures { option_map (λ a. (a.0.now, a.1)) result ≡ found number self.now }
+    {
+        match self.seen.get(&number) {
+            Some(request) => Some((request.command.as_str(), request.answered)),
+            None => None,
+        }
+    }
+
+    /// Keeps a request with a new number.
+    pub fn ask(&mut self, number: i64, command: &str) -> Result<(), AllocError>
+        requires { found number self.old ≡ None }
+        ensures ok { OnOk result (self.new ≡ with_request number command.now self.old) }
+        ensures err { OnErr result (self.new ≡ self.old) }
+    {
+        prove!(self.open <= self.seen.len());
+        let command = String::from_str(self.alloc, command)?;
+        self.seen.insert(
+            number,
+            Request {
+                command,
+                answered: false,
+            },
+        )?;
+        self.open += 1;
+        Ok(())
+    }
+
+    /// Marks the request of this number, which has this command and no response, as answered.
+    fn answer(&mut self, number: i64, command: &str)
+        requires { found number self.old ≡ Some (command.now, false) }
+        ensures { self.new ≡ with_answer number command.now self.old }
+    {
+        if let Some(request) = self.seen.get_mut(&number) {
+            request.answered = true;
+            self.open -= 1;
+        }
+    }
+
+    /// Keeps what a message asks or answers here.
+    pub fn note(&mut self, side: Side, message: &Message) -> Result<(), AllocError>
+        requires { MayFollow side self.old (sent message.now) }
+        ensures ok { OnOk result (self.new ≡ requests_after side self.old (sent message.now)) }
+        ensures err { OnErr result (self.new ≡ self.old) }
+        ensures memory { OnErr result (adds_to side (sent message.now) ≡ true) }
+    {
+        if is_request(message) && is_from(message, side) {
+            self.ask(seq_of(message), name_of(message))?;
+        } else if is_response(message) && !is_from(message, side) {
+            if let Some(number) = request_seq_of(message) {
+                self.answer(number, name_of(message));
+            }
+        }
+        Ok(())
+    }
+}

@@ -1,0 +1,14 @@
+use Rattle.std.proofs.Common.{ap, ap₂, codes, ◌∙◌}
+use Rattle.std.proofs.lemmas.Result.{IfOk-weaker}
+use Rattle.clap.specs.Words.{App, with_subcommand}
+use Rattle.dapnorm.specs.CommandLine.{plain}
+use Rattle.dapnorm.proofs.command_line.command.Goals as goal
+
+pub returns : goal.returns
+returns c =
+    let top = λ (a : App). a.top in
+    let compact = c.in_ok-compact.ensures ∙ ap (λ a. with_subcommand a (plain (codes "compact")).top) c.bare_command.ensures in
+    let normalise = c.in_ok-normalise.ensures ∙ ap (λ a. with_subcommand a (plain (codes "normalise")).top) compact in
+    IfOk-weaker c.with_other.result _ _
+    (λ d h. h ∙ ap₂ with_subcommand normalise (ap top c.in_ok-check.ensures.0))
+    c.with_other.ensures

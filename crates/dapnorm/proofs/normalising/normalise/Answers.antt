@@ -1,0 +1,15 @@
+use Rattle.std.proofs.Common.{Err, subst}
+use Rattle.std.proofs.lemmas.Result.{err_from_is_err_and}
+use Rattle.dapnorm.specs.InputJudging.{JudgesInput}
+use Rattle.dapnorm.specs.declared.judging_input.Keep.TheVariants.{Text}
+use Rattle.dapnorm.proofs.InputAnswers.{normalise_refuses}
+use Rattle.dapnorm.proofs.normalising.normalise.Goals as goal
+
+pub returns-in_err-accepted-clause-answer : goal.returns-in_err-accepted-clause-answer
+returns-in_err-accepted-clause-answer g c =
+    let because = err_from_is_err_and c.from_residual.result c.from_residual.ensures.1 in
+    let refused = c.in_err-accepted.field-0.0 in
+    let told = subst (λ bytes. JudgesInput c.args.limits Text bytes c.in-Ok.input.stop (Err refused)) c.as_slice.ensures.value c.in_err-accepted.ensures in
+    rw (because.1, because.2)
+    (normalise_refuses g.R.Source.left g.R.Source.failures c.args.limits Text c.args.reader.now c.read_all.new.reader c.in-Ok.input.bytes.items c.in-Ok.input.stop
+    c.in-Ok.ensures.came c.requires.limits (Unit {0}) g.W.Sink.out g.W.Sink.failures c.args.writer.now refused told)

@@ -1,0 +1,48 @@
+-- What `check` answers. Source: own.
+use Rattle.std.specs.Prelude.{◌≡◌, ℕ, ◌++◌, Bool, true, List, length, Option, Result, Ok, Err, codes, decimal}
+use Rattle.dap_tree.specs.declared.side.Side.TheVariants.{Client, Adapter}
+use Rattle.dap_message.specs.Message.{Sent}
+use Rattle.dap_session.specs.Rules.{open_requests}
+use Rattle.dapnorm.specs.declared.checked.Checked.{Checked}
+use Rattle.dapnorm.specs.declared.limits.Limits.{Limits}
+use Rattle.dapnorm.specs.declared.refused.Refused.{Refused}
+use Rattle.dapnorm.specs.declared.refused.Refused.TheVariants.{Incomplete, ReadFault, WriteFault, Memory}
+use Rattle.dapnorm.specs.Accepting.{IsAccepted, IsRefused}
+use Rattle.dapnorm.specs.Engine.{Accepts, FailsToRead, RefusesInput}
+
+-- The numbers of accepted messages: how many they are, and how many requests of each side have no response.
+pub record AreCounted (checked : Checked) (messages : List Sent) : Type 0 where
+  pub records : checked.records ≡ length messages
+  pub client : checked.client_open ≡ open_requests Client messages
+  pub adapter : checked.adapter_open ≡ open_requests Adapter messages
+
+-- the line that tells them
+abbrev pub accepted_line : Checked → List ℕ
+accepted_line checked =
+    codes "accepted records=" ++ decimal checked.records ++ codes " open=" ++ decimal checked.client_open ++ codes "," ++ decimal checked.adapter_open ++ codes "\n"
+
+-- `check` over a reader, by what this tells of its bytes and its failures, with limits, and with whether each request must have a response.
+module _ {R : Type 0} (left : R → Option (List ℕ)) (failures : R → ℕ) (limits : Limits) (complete : Bool) where
+  -- The input is accepted, with these numbers; where that is asked for, each request has a response.
+  pub record HasChecked (old new : R) (checked : Checked) : Type 0 where
+    pub messages : List Sent
+    pub accepts : Accepts left failures limits.input (IsAccepted limits) old new messages
+    pub counted : AreCounted checked messages
+    pub answered : complete ≡ true → (checked.client_open ≡ 0) × (checked.adapter_open ≡ 0)
+
+  -- The input is accepted, but so many requests of the client and of the adapter have no response, and that is asked for.
+  pub record IsIncomplete (old new : R) (client adapter : ℕ) : Type 0 where
+    pub asked : complete ≡ true
+    pub messages : List Sent
+    pub accepts : Accepts left failures limits.input (IsAccepted limits) old new messages
+    pub client_is : client ≡ open_requests Client messages
+    pub adapter_is : adapter ≡ open_requests Adapter messages
+    pub some : client ≡ 0 → adapter ≡ 0 → ⊥
+
+  abbrev pub Checks : R → R → Result Checked Refused → Type 0
+  Checks old new (Ok checked) = HasChecked old new checked
+  Checks old new (Err (Incomplete client adapter)) = IsIncomplete old new client adapter
+  Checks old new (Err ReadFault) = FailsToRead left failures limits.input (IsAccepted limits) (IsRefused limits) old new
+  Checks old new (Err WriteFault) = ⊥
+  Checks old new (Err Memory) = Unit {0}
+  Checks old new (Err refused) = RefusesInput left failures limits.input (IsRefused limits) old new refused

@@ -1,0 +1,77 @@
+-- What the judging of a record does.
+use Rattle.std.specs.Prelude.{◌≡◌, ◌⊎◌, ℕ, ◌+◌, ◌<◌, ◌≤◌, List, [], ◌∷◌, ◌++◌, length, Option, Some, None, Result, Ok, Err}
+use Rattle.dap_tree.specs.Json.{text_of}
+use Rattle.dap_tree.specs.declared.sort.Sort.{Sort}
+use Rattle.dap_message.specs.Message.{Sent, no_reading, fraction, faulty as profile_fault}
+use Rattle.dap_recording.specs.Recording.{record_text}
+use Rattle.dap_recording.specs.declared.record.Record.{Record as WholeRecord}
+use Rattle.dap_rename.specs.Messages.{AreProper, IsNormal, in_whole}
+use Rattle.dap_rename.specs.Names.{StandFor, limit_in}
+use Rattle.dap_rename.specs.SortedNames.{sorted_limit, sorted_numbers}
+use Rattle.dap_session.specs.Standing.{Stands}
+use Rattle.dapnorm.specs.declared.judging.Judge.{Judge}
+use Rattle.dapnorm.specs.declared.limits.Limits.{Limits}
+use Rattle.dapnorm.specs.declared.refused.Refused.{Refused}
+use Rattle.dapnorm.specs.declared.refused.Refused.TheVariants.{Json, Fraction, Message, Rule, TooManyIds, Grew, Memory}
+use Rattle.dapnorm.specs.Accepting.{Held, Fits, IsNext, Objects, no_message, broken, too_many_ids, grew, text}
+
+-- what a record holds
+abbrev pub held_of : WholeRecord → Held
+held_of whole = (whole.side, whole.content)
+
+abbrev pub judge_limits : Judge → Limits
+judge_limits judge = judge.limits
+
+-- The judge stands for these messages, with this normal form: its session and its names do, and it knows how long the text is.
+pub record StandsFor (judge : Judge) (messages normal : List Sent) : Type 0 where
+  pub session : Stands judge.session messages
+  pub names : StandFor sorted_numbers judge.names messages
+  pub name_limits : (s : Sort) → limit_in sorted_limit judge.names s ≡ judge.limits.ids
+  pub proper : AreProper messages
+  pub is_normal : IsNormal in_whole messages normal
+  pub fits : Fits judge.limits normal
+  pub written : judge.written ≡ length (text normal)
+
+-- the record of a message
+abbrev pub record_of : Sent → List ℕ
+record_of message = record_text message.side (text_of message.doc)
+
+-- Behind a text of so many bytes the message's record is appended to what was there before, and the whole text is so long; or it passes a limit.
+abbrev pub Writes : Limits → Sent → ℕ → ℕ → List ℕ → List ℕ → Result ℕ Refused → Type 0
+Writes limits message n written old new (Ok after) =
+    (length (text_of message.doc) ≤ limits.frame.content) × (new ≡ old ++ record_of message) × (after ≡ written + length (record_of message)) × (after ≤ limits.input)
+Writes limits message n written old new (Err (Grew m)) =
+    (m ≡ n) × ((limits.frame.content < length (text_of message.doc)) ⊎ (limits.input < written + length (record_of message)))
+Writes limits message n written old new (Err Memory) = Unit {0}
+Writes limits message n written old new (Err _) = ⊥
+
+-- Record n, which holds this, is refused for this behind these messages. Memory that was refused tells nothing.
+abbrev pub RefusesRecord : Limits → List Sent → Held → ℕ → Refused → Type 0
+RefusesRecord limits messages held n (Json m) = (m ≡ n) × Objects limits messages held (no_message no_reading)
+RefusesRecord limits messages held n (Fraction m) = (m ≡ n) × Objects limits messages held (no_message fraction)
+RefusesRecord limits messages held n (Message m fault) = (m ≡ n) × Objects limits messages held (no_message (profile_fault fault))
+RefusesRecord limits messages held n (Rule m rule) = (m ≡ n) × Objects limits messages held (broken rule)
+RefusesRecord limits messages held n (TooManyIds m) = (m ≡ n) × Objects limits messages held too_many_ids
+RefusesRecord limits messages held n (Grew m) = (m ≡ n) × Objects limits messages held grew
+RefusesRecord limits messages held n Memory = Unit {0}
+RefusesRecord limits messages held n _ = ⊥
+
+-- The message of the record is accepted behind these, the judge stands for it too, and the record of its normal form was appended.
+pub record IsTaken (messages normal : List Sent) (held : Held) (judge : Judge) (old new : List ℕ) : Type 0 where
+  pub message : Sent
+  pub is_next : IsNext judge.limits messages held message
+  pub named : Sent
+  pub stands : StandsFor judge (messages ++ message ∷ []) (normal ++ named ∷ [])
+  pub appended : new ≡ old ++ record_of named
+
+-- Record n, which holds this, is taken or refused.
+abbrev pub JudgesRecord : List Sent → List Sent → Held → ℕ → Judge → Judge → List ℕ → List ℕ → Result (Unit {0}) Refused → Type 0
+JudgesRecord messages normal held n before after old new (Ok done) = IsTaken messages normal held after old new
+JudgesRecord messages normal held n before after old new (Err because) = RefusesRecord before.limits messages held n because
+
+-- Where a record has come, it is taken and record n has ended, or it is refused.
+abbrev pub HasGoneOn : List Sent → List Sent → ℕ → Option WholeRecord → Judge → Judge → List ℕ → List ℕ → Result ℕ Refused → Type 0
+HasGoneOn messages normal n None before after old new (Ok next) = (next ≡ n) × (after ≡ before) × (new ≡ old)
+HasGoneOn messages normal n None before after old new (Err because) = ⊥
+HasGoneOn messages normal n (Some whole) before after old new (Ok next) = (next ≡ n + 1) × IsTaken messages normal (held_of whole) after old new
+HasGoneOn messages normal n (Some whole) before after old new (Err because) = RefusesRecord before.limits messages (held_of whole) n because

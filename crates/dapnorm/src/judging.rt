@@ -1,0 +1,102 @@
+//! Judges the records of a recording, each behind those before it. `check` and `normalise` both judge so.
+ghost use Rattle.std.specs.Prelude.{◌≡◌, ◌<◌, ◌≤◌, ◌^◌, List, []};
+ghost use Rattle.dap_message.specs.Message.{Sent};
+ghost use Rattle.dap_session.specs.Rules.{open_requests};
+ghost use Rattle.dapnorm.specs.Limits.{AreSound};
+
+use crate::limits::Limits;
+use crate::messages::{append_record, read_message};
+use crate::refused::Refused;
+use dap_message::Side;
+use dap_recording::Record;
+use dap_rename::{NameFault, Names, SortedNames, Tables};
+use dap_session::{Session, SessionFault};
+use std::alloc::Global;
+
+/// What the records so far leave behind for the judging of the next one.
+#[derive(Drop)]
+pub struct Judge {
+    session: Session,
+    names: Names<SortedNames>,
+    /// How many bytes the text of the normal form has so far.
+    written: u64,
+    limits: Limits,
+    ghost sound: { AreSound limits },
+    ghost short: { written ≤ limits.input },
+}
+
+impl Judge {
+    ghost use Rattle.dapnorm.specs.JudgingSteps.{HasGoneOn, JudgesRecord, StandsFor, held_of, judge_limits};
+
+    /// A judge before the first record.
+    pub fn new(alloc: Global, limits: Limits) -> Judge
+        requires { AreSound limits }
+        ensures stands { StandsFor result [] [] }
+        ensures limits { judge_limits result ≡ limits }
+    {
+        let tables = Tables {
+            client_seq: SortedNames::new(alloc, limits.ids),
+            adapter_seq: SortedNames::new(alloc, limits.ids),
+            frame: SortedNames::new(alloc, limits.ids),
+            reference: SortedNames::new(alloc, limits.ids),
+        };
+        Judge {
+            session: Session::new(alloc),
+            names: Names::new(alloc, tables),
+            written: 0,
+            limits,
+        }
+    }
+
+    /// Judges the record of that number, and appends the record of its normal form to `out`.
+    fn judge(
+        &mut self,
+        alloc: Global,
+        number: u64,
+        whole: &Record,
+        out: &mut Vec<u8>,
+    ) -> Result<(), Refused>
+        ensures judges { (messages normal : List Sent) → StandsFor self.old messages normal → JudgesRecord messages normal (held_of whole.now) number self.old self.new out.old.items out.new.items result }
+        ensures limits { judge_limits self.new ≡ judge_limits self.old }
+    {
+        let message = read_message(alloc, number, whole.side, whole.content.as_slice())?;
+        match self.session.accept(&message) {
+            Ok(()) => {}
+            Err(SessionFault::Broken(rule)) => return Err(Refused::Rule(number, rule)),
+            Err(SessionFault::Memory) => return Err(Refused::Memory),
+        }
+        let renamed = match self.names.rename(message) {
+            Ok(renamed) => renamed,
+            Err(NameFault::Full) => return Err(Refused::TooManyIds(number)),
+            Err(NameFault::Memory) => return Err(Refused::Memory),
+        };
+        self.written = append_record(alloc, number, &renamed, self.written, self.limits, out)?;
+        Ok(())
+    }
+
+    /// Judges a record that has come, and answers the number of the next one.
+    pub fn judge_next(
+        &mut self,
+        alloc: Global,
+        number: u64,
+        whole: &Option<Record>,
+        out: &mut Vec<u8>,
+    ) -> Result<u64, Refused>
+        requires { number < 2 ^ 63 }
+        ensures judged { (messages normal : List Sent) → StandsFor self.old messages normal → HasGoneOn messages normal number whole.now self.old self.new out.old.items out.new.items result }
+        ensures limits { judge_limits self.new ≡ judge_limits self.old }
+    {
+        let Some(record) = whole else {
+            return Ok(number);
+        };
+        self.judge(alloc, number, record, out)?;
+        Ok(number + 1)
+    }
+
+    /// How many requests of that side have no response.
+    pub fn open(&self, side: Side) -> usize
+        ensures { (messages normal : List Sent) → StandsFor self.now messages normal → result ≡ open_requests side messages }
+    {
+        self.session.open(side)
+    }
+}
