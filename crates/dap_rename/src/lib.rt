@@ -13,6 +13,8 @@ mod pair;
 mod plain_names;
 mod renaming;
 mod sorted_names;
+#[cfg(test)]
+mod sorted_names_tests;
 mod tables;
 #[cfg(test)]
 mod tests;

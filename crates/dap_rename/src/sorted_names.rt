@@ -84,6 +84,8 @@ impl NameTable for SortedNames {
 
     ghost bounded = { λ t. t.fits };
 
+    ghost small = { λ t. t.small };
+
     fn name(&mut self, number: i64) -> Result<i64, NameFault> {
         if let Some(index) = self.place_of(number) {
             return Ok(index as i64 + 1);
