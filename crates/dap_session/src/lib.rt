@@ -12,6 +12,8 @@ mod requests;
 mod rule;
 mod session;
 #[cfg(test)]
+mod test_lines;
+#[cfg(test)]
 mod tests;
 
 pub use rule::{Rule, SessionFault};
