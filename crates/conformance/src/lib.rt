@@ -32,6 +32,8 @@ mod refused_growths;
 #[cfg(test)]
 mod refused_growths_of_messages;
 #[cfg(test)]
+mod refused_growths_of_sessions;
+#[cfg(test)]
 mod session_rules;
 #[cfg(test)]
 mod typed_recordings;
