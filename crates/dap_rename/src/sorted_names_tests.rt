@@ -6,8 +6,8 @@ fn is_named(table: &mut SortedNames, number: i64, expected: i64) -> bool {
 }
 
 // A number for each index, in neither order, of both signs, and no two equal.
-fn scattered(index: i64) -> i64 {
-    (index * 7919) % 100_003 - 50_000
+fn scattered(index: i32) -> i64 {
+    (index as i64 * 7919) % 100_003 - 50_000
 }
 
 #[test]
@@ -26,8 +26,8 @@ fn names_by_first_appearance(rt: HostRuntime) -> Result<(), Fail> {
     assert!(rt; matches!(table.find(-3), None));
     assert!(rt; matches!(table.find(70), Some(1)));
     assert!(rt; is_named(&mut table, 0, 2));
-    assert!(rt; table.at(2) == 0);
     assert!(rt; table.len() == 2);
+    assert!(rt; table.at(2) == 0);
     Ok(())
 }
 
@@ -55,23 +55,24 @@ fn numbers_at_both_ends(rt: HostRuntime) -> Result<(), Fail> {
 #[test]
 fn many_numbers_and_a_cut(rt: HostRuntime) -> Result<(), Fail> {
     let mut table = SortedNames::new(rt.alloc(), 100_000);
-    for index in 0..100_000i64 {
-        assert!(rt; is_named(&mut table, scattered(index), index + 1));
+    for index in 0..100_000i32 {
+        assert!(rt; is_named(&mut table, scattered(index), index as i64 + 1));
     }
     assert!(rt; table.len() == 100_000);
     assert!(rt; matches!(table.name(60_000), Err(NameFault::Full)));
-    for index in 0..100_000i64 {
-        assert!(rt; matches!(table.find(scattered(index)), Some(name) if name == index + 1));
+    for index in 0..100_000i32 {
+        assert!(rt; matches!(table.find(scattered(index)), Some(name) if name == index as i64 + 1));
     }
     table.cut(10);
     assert!(rt; table.len() == 10);
-    for index in 0..10i64 {
-        assert!(rt; matches!(table.find(scattered(index)), Some(name) if name == index + 1));
+    for index in 0..10i32 {
+        assert!(rt; matches!(table.find(scattered(index)), Some(name) if name == index as i64 + 1));
     }
-    for index in 10..100_000i64 {
+    for index in 10..100_000i32 {
         assert!(rt; matches!(table.find(scattered(index)), None));
     }
     assert!(rt; is_named(&mut table, scattered(99_999), 11));
+    assert!(rt; table.len() == 11);
     assert!(rt; table.at(11) == scattered(99_999));
     Ok(())
 }
