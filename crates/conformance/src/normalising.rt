@@ -334,16 +334,29 @@ fn normal_forms(rt: HostRuntime) -> Result<(), Fail> {
 
 /// The answer of `normalise`, which must be that of `normalise_bytes` and of `check`, with no byte written.
 fn refusal(alloc: Global, input: &[u8], limits: Limits) -> Result<Refused, Fail> {
-    let mut sink = MemorySink::new(alloc, 4096)?;
-    let written = normalise(alloc, &mut MemorySource::new(input), &mut sink, limits);
-    let checked = check(alloc, &mut MemorySource::new(input), limits, false);
-    match (written, normalise_bytes(alloc, input, limits), checked) {
-        (Err(refused), Err(of_bytes), Err(of_check))
-            if refused == of_bytes && refused == of_check && sink.bytes().is_empty() => {
-            Ok(refused)
-        }
-        _ => Err("not refused alike".into()),
+    if !limits.frame.sound() || limits.ids > 2_147_483_647 || limits.input > 1 << 62 {
+        return Err("no limits".into());
     }
+    let mut sink = MemorySink::new(alloc, 4096)?;
+    let written = match normalise(alloc, &mut MemorySource::new(input), &mut sink, limits) {
+        Ok(()) => return Err("it is normalised".into()),
+        Err(refused) => refused,
+    };
+    if !sink.bytes().is_empty() {
+        return Err("something was written".into());
+    }
+    let of_bytes = match normalise_bytes(alloc, input, limits) {
+        Ok(_) => return Err("its bytes are normalised".into()),
+        Err(refused) => refused,
+    };
+    let checked = match check(alloc, &mut MemorySource::new(input), limits, false) {
+        Ok(_) => return Err("it is accepted".into()),
+        Err(refused) => refused,
+    };
+    if of_bytes != written || checked != written {
+        return Err("refused for different reasons".into());
+    }
+    Ok(written)
 }
 
 #[test]
