@@ -19,7 +19,7 @@ need-python:
 	@command -v python3 > /dev/null || { echo "python3 is not found: it runs the tests around the gate and the benchmarks"; exit 1; }
 
 bin/dapnorm: $(SOURCES) | need-rt
-	@echo "Proves every crate and builds bin/dapnorm: some 10 minutes from nothing, seconds where little changed."
+	@echo "Proves every crate and builds bin/dapnorm: some 20 minutes from nothing, seconds where little changed."
 	rt all check
 	cd crates/dapnorm_main && rt run -- --help > /dev/null
 	@mkdir -p bin
@@ -28,7 +28,7 @@ bin/dapnorm: $(SOURCES) | need-rt
 
 test: need-rt need-python
 	@command -v git > /dev/null || { echo "git is not found: the gate asks it which files there are"; exit 1; }
-	@echo "Proves every crate from nothing, tries the must-fail edits, and runs the tests: half an hour or more."
+	@echo "Proves every crate from nothing, tries the must-fail edits, and runs the tests: an hour or more."
 	@python3 tests/all.py
 
 try: need-rt
