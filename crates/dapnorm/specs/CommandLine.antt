@@ -5,7 +5,7 @@ use Rattle.std.specs.Str.{bytes_eq}
 use Rattle.clap.specs.Words.{App, Row, Rule, Text, app_of, first_of, new_app, new_rule, with_rule, with_subcommand}
 use Rattle.clap.specs.declared.Command.{Command}
 use Rattle.clap.specs.declared.Command.TheViews.{out-Command as fields_of}
-use Rattle.clap.specs.declared.builder.ArgAction.TheVariants.{SetTrue}
+use Rattle.clap.specs.declared.builder.ArgAction.TheVariants.{Set, SetTrue}
 use Rattle.dapnorm.specs.declared.jobs.Job.{Job}
 use Rattle.dapnorm.specs.declared.jobs.Job.TheVariants as job
 
@@ -21,6 +21,14 @@ complete_flag = record (new_rule (codes "complete")) { long = Some (codes "compl
 abbrev pub checker : App
 checker = with_rule (new_app (codes "check")) complete_flag
 
+-- the name of a file, which is needed
+abbrev pub file : Text → Rule
+file name = record (new_rule name) { required = true; action = Some Set }
+
+-- the subcommand `compare`, with its two files
+abbrev pub comparer : App
+comparer = with_rule (with_rule (new_app (codes "compare")) (file (codes "A"))) (file (codes "B"))
+
 -- the command, which wants a subcommand
 abbrev pub bare : App
 bare = record (new_app (codes "dapnorm")) {
@@ -29,7 +37,7 @@ bare = record (new_app (codes "dapnorm")) {
 
 -- what a parse reads of the program's command
 abbrev pub program : App
-program = with_subcommand (with_subcommand (with_subcommand bare (plain (codes "compact")).top) (plain (codes "normalise")).top) checker.top
+program = with_subcommand (with_subcommand (with_subcommand (with_subcommand bare (plain (codes "compact")).top) (plain (codes "normalise")).top) checker.top) comparer.top
 
 -- The command is this one, and its subcommands inherit no argument.
 abbrev pub IsCommand : App → Command → Type 0
@@ -40,11 +48,13 @@ pub data Told : Type 0 where
   compact : Told
   normalise : Told
   check : Bool → Told
+  compare : Text → Text → Told
 
 abbrev pub told : Job → Told
 told job.Compact = compact
 told job.Normalise = normalise
 told (job.Check complete) = check complete
+told (job.Compare a b) = compare a.now b.now
 
 -- the text behind a reference that may be there
 abbrev pub text_in : Option (Bor Text) → Option Text
@@ -55,12 +65,18 @@ abbrev pub is_set : Option Text → Bool
 is_set None = false
 is_set (Some text) = bytes_eq text (codes "true")
 
+-- the comparison of two files, where both are named
+abbrev pub two_files : Option Text → Option Text → Option Told
+two_files (Some a) (Some b) = Some (compare a b)
+two_files _ _ = None
+
 -- the job of a subcommand with the words that it was given
 abbrev pub job_of : Text → List Row → Option Told
 job_of name rows =
     if bytes_eq name (codes "compact") then Some compact
     else if bytes_eq name (codes "normalise") then Some normalise
     else if bytes_eq name (codes "check") then Some (check (is_set (first_of (codes "complete") rows)))
+    else if bytes_eq name (codes "compare") then two_files (first_of (codes "A") rows) (first_of (codes "B") rows)
     else None
 
 abbrev pub job_named : Option (Text × List Row) → Option Told

@@ -4,8 +4,12 @@ pub mod Counts
 pub mod CompactingSteps
 pub mod CommandLine
 pub mod Compacting
+pub mod Comparing
+pub mod ComparingRun
+pub mod ComparingSteps
 pub mod Device
 pub mod Engine
+pub mod HeldMessages
 pub mod InputJudging
 pub mod Judging
 pub mod JudgingSteps
@@ -15,3 +19,4 @@ pub mod Normalised
 pub mod Normalising
 pub mod Reading
 pub mod Run
+pub mod Verdicts

@@ -2,7 +2,7 @@
 ghost use Rattle.std.specs.Prelude.{[], ◌≡◌, IfOk, IfErr, Some, true, false, is_some, map, option_map};
 ghost use Rattle.clap.specs.Words.{fault_of as faults_of, app_of, found_of, rows_of, subcommand_of, subcommand_rows_of, takes, kind_of, with_subcommand};
 ghost use Rattle.clap.specs.declared.Command.TheViews.{out-Command as fields_of};
-ghost use Rattle.dapnorm.specs.CommandLine.{IsCommand, bare, checker, is_set, plain, job_named, job_of, program, text_in, told};
+ghost use Rattle.dapnorm.specs.CommandLine.{IsCommand, bare, checker, comparer, is_set, plain, job_named, job_of, program, text_in, told, two_files};
 ghost use Rattle.dapnorm.specs.declared.jobs.UsageFault.TheVariants.{Memory};
 
 use crate::jobs::{Job, UsageFault};
@@ -44,6 +44,24 @@ fn check_command<'a>(alloc: Global) -> Result<Command<'a>, AllocError>
         .arg(complete)
 }
 
+/// The subcommand `compare`.
+fn compare_command<'a>(alloc: Global) -> Result<Command<'a>, AllocError>
+    ensures { IfOk result (IsCommand comparer) }
+{
+    let first = Arg::new(alloc, "A")
+        .required(true)
+        .action(ArgAction::Set)
+        .help("The file of a recording");
+    let second = Arg::new(alloc, "B")
+        .required(true)
+        .action(ArgAction::Set)
+        .help("The file of another");
+    Command::new(alloc, "compare")
+        .about("Tells how the recordings of two files are the same, or where they differ")
+        .arg(first)?
+        .arg(second)
+}
+
 /// A subcommand is added to `command`.
 fn with_other<'a>(command: Command<'a>, other: Command<'a>) -> Result<Command<'a>, AllocError>
     requires { (fields_of other).has_globals ≡ false }
@@ -57,6 +75,7 @@ fn command<'a>(alloc: Global) -> Result<Command<'a>, AllocError>
     ensures { IfOk result (λ c. app_of c ≡ program) }
 {
     let check = check_command(alloc)?;
+    let compare = compare_command(alloc)?;
     let compact = with_plain(
         bare_command(alloc),
         alloc,
@@ -69,7 +88,8 @@ fn command<'a>(alloc: Global) -> Result<Command<'a>, AllocError>
         "normalise",
         "Writes the normal form of a recording, from standard input to standard output",
     )?;
-    with_other(normalise, check)
+    let judged = with_other(normalise, check)?;
+    with_other(judged, compare)
 }
 
 /// Whether a flag's value is there and set.
@@ -82,8 +102,18 @@ fn is_true(value: Option<&str>) -> bool
     }
 }
 
+/// The comparison of two files, where both are named.
+fn both<'a>(first: Option<&'a str>, second: Option<&'a str>) -> Option<Job<'a>>
+    ensures { option_map told result ≡ two_files (text_in first.entry) (text_in second.entry) }
+{
+    match (first, second) {
+        (Some(a), Some(b)) => Some(Job::Compare { a, b }),
+        _ => None,
+    }
+}
+
 /// The job of a subcommand with its matches.
-fn job_by(name: &str, rows: &ArgMatches<'_>) -> Option<Job>
+fn job_by<'a>(name: &str, rows: &ArgMatches<'a>) -> Option<Job<'a>>
     ensures { option_map told result ≡ job_of name.now (rows_of (found_of rows.now)) }
 {
     match name {
@@ -93,12 +123,13 @@ fn job_by(name: &str, rows: &ArgMatches<'_>) -> Option<Job>
             let complete = is_true(rows.get_str("complete"));
             Some(Job::Check { complete })
         }
+        "compare" => both(rows.get_str("A"), rows.get_str("B")),
         _ => None,
     }
 }
 
 /// The job that a parse's matches name.
-fn told_by(matches: &ArgMatches<'_>) -> Option<Job>
+fn told_by<'a>(matches: &ArgMatches<'a>) -> Option<Job<'a>>
     ensures { option_map told result ≡ job_named (subcommand_rows_of matches.now) }
 {
     match matches.subcommand() {
@@ -134,7 +165,7 @@ fn no_job(alloc: Global) -> UsageFault {
 /// # Errors
 ///
 /// `Help` where help is asked for, `Usage` with `clap`'s text where the words are wrong, `Memory`.
-pub fn job(alloc: Global, words: &[&str]) -> Result<Job, UsageFault>
+pub fn job<'a>(alloc: Global, words: &'a [&'a str]) -> Result<Job<'a>, UsageFault>
     // The job is the one that clap's own definition of the command finds in the words.
     ensures ok { IfOk result (λ j. job_named (subcommand_of program (map (λ w. w.now) words.entry.now)) ≡ Some (told j)) }
     ensures taken { IfOk result (λ _. faults_of program (map (λ w. w.now) words.entry.now) ≡ []) }

@@ -2,13 +2,15 @@
 
 /// What the program was asked to do.
 #[derive(Clone, Copy, Debug, PartialEq, Eq)]
-pub enum Job {
+pub enum Job<'a> {
     /// Make the contents of frames canonical.
     Compact,
     /// Write the normal form of a recording.
     Normalise,
     /// Judge a recording; with `complete` each request must have a response.
     Check { complete: bool },
+    /// Compare the recordings of two files, by their names.
+    Compare { a: &'a str, b: &'a str },
 }
 
 /// Why the words name no job.

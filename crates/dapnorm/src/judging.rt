@@ -93,6 +93,13 @@ impl Judge {
         Ok(number + 1)
     }
 
+    /// The names of the messages so far.
+    pub fn names(&self) -> &Names<SortedNames>
+        ensures { result.now ≡ self.now.names }
+    {
+        &self.names
+    }
+
     /// How many requests of that side have no response.
     pub fn open(&self, side: Side) -> usize
         ensures { (messages normal : List Sent) → StandsFor self.now messages normal → result ≡ open_requests side messages }

@@ -1,6 +1,7 @@
 //! Theorems on inputs, which hold of all bytes. Each function does nothing: a call of it gives its clauses to a proof.
 ghost use Rattle.dapnorm.specs.Accepting.{RecordingHasOneOutcome, RecordingRefusalStays};
 ghost use Rattle.dapnorm.specs.Normalising.{HasOneNormalForm, NormalIsAccepted, AcceptedIsNormalised, OneNormalText, NormalStandsStill, EqualTextsTell};
+ghost use Rattle.dapnorm.specs.Verdicts.{RecordingsHaveOneVerdict, SameIsCarried, SameIsToldExactly};
 ghost use Rattle.dapnorm.specs.Compacting.{CompactHasOneOutcome, CompactRefusalStays};
 
 /// `compact` accepts an input as one list of values, or has one first refusal of it, and not both. A refusal stays when
@@ -31,4 +32,13 @@ pub fn normal_form_stands()
 /// of frame ids and of variables references other than 0 turn the messages of the one, in order, into those of the other.
 pub fn equal_texts_tell()
     ensures { EqualTextsTell }
+{}
+
+/// Two inputs have one verdict: how their recordings are the same, the first record where they differ, or the first that is
+/// refused of one. It is that they are the same exactly where both are accepted and their messages are the same, and then
+/// its pairs of numbers are a renaming that carries the messages of the one to those of the other.
+pub fn two_recordings_have_one_verdict()
+    ensures one { RecordingsHaveOneVerdict }
+    ensures same { SameIsToldExactly }
+    ensures carried { SameIsCarried }
 {}

@@ -70,7 +70,7 @@ fn print<W: Sink>(writer: &mut W, answer: Result<Checked, Refused>) -> Result<()
     }
 }
 
-/// Does a job over a reader and a writer, and answers the program's status. A refusal is told on `errors`, in one line.
+/// Does a job over a reader and a writer, which a comparison is not, and answers the program's status. A refusal is told on `errors`, in one line.
 ///
 /// Of a recording that `check` accepts the numbers go to `writer`: `accepted records=R open=C,A` and LF, with the open
 /// requests of the client and of the adapter.
@@ -85,6 +85,7 @@ pub fn run_stream<R: Source, W: Sink, E: Sink>(
     errors: &mut E,
     limits: Limits,
 ) -> u8
+    requires stream { (a b : _) → job.now ≡ Job.Compare a b → ⊥ }
     requires limits { AreSound limits }
     requires given { R.given reader.old < 2 ^ 62 }
     requires read_failures { R.failures reader.old < 2 ^ 62 }
@@ -107,6 +108,7 @@ pub fn run_stream<R: Source, W: Sink, E: Sink>(
         Job::Compact => compact(alloc, reader, writer, limits),
         Job::Normalise => normalise(alloc, reader, writer, limits),
         Job::Check { complete } => print(writer, check(alloc, reader, limits, complete)),
+        Job::Compare { .. } => unreachable!(),
     };
     if let Err(refused) = answer {
         tell(errors, refused);

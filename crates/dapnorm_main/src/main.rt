@@ -1,12 +1,16 @@
 //! The program `dapnorm`.
 #![tactic(auto)]
 
+ghost use Rattle.std.specs.Prelude.{◌≡◌};
+
 use dap_frame::FrameLimits;
-use dapnorm::{Job, Limits, StdSink, StdSource, UsageFault, job, run_stream, run_usage};
+use dapnorm::{
+    Job, Limits, StdSink, StdSource, UsageFault, Which, job, run_compare, run_stream, run_usage,
+};
 use std::alloc::Global;
-use std::env;
-use std::io::ErrorKind;
+use std::io::{Error, ErrorKind};
 use std::process::ExitCode;
+use std::{env, fs};
 
 /// The limits of the program.
 const LIMITS: Limits = Limits {
@@ -18,11 +22,13 @@ const LIMITS: Limits = Limits {
     input: 4_294_967_296,
 };
 
-/// The status where the arguments cannot be had.
+/// The status where the arguments cannot be had, or a file does not open.
 const FAULT: u8 = 4;
 
 /// Does the job over the standard streams.
-fn perform(rt: &HostRuntime, job: &Job) -> u8 {
+fn perform(rt: &HostRuntime, job: &Job) -> u8
+    requires { (a b : _) → job.now ≡ Job.Compare a b → ⊥ }
+{
     let mut reader = StdSource::new(rt.stdin());
     let mut writer = StdSink::new(rt.stdout());
     let mut errors = StdSink::new(rt.stderr());
@@ -34,6 +40,39 @@ fn perform(rt: &HostRuntime, job: &Job) -> u8 {
         &mut errors,
         LIMITS,
     )
+}
+
+/// Compares the recordings of two files. A file that does not open is a read fault of that input.
+fn compare_files(rt: &HostRuntime, a: &str, b: &str) -> u8 {
+    let file_a = match fs::open(rt, a) {
+        Ok(file) => file,
+        Err(error) => return tell_unopened(rt, Which::A, &error),
+    };
+    let file_b = match fs::open(rt, b) {
+        Ok(file) => file,
+        Err(error) => return tell_unopened(rt, Which::B, &error),
+    };
+    let mut reader_a = StdSource::new(file_a);
+    let mut reader_b = StdSource::new(file_b);
+    let mut writer = StdSink::new(rt.stdout());
+    let mut errors = StdSink::new(rt.stderr());
+    run_compare(
+        rt.alloc(),
+        &mut reader_a,
+        &mut reader_b,
+        &mut writer,
+        &mut errors,
+        LIMITS,
+    )
+}
+
+/// Tells that a file does not open.
+fn tell_unopened(rt: &HostRuntime, which: Which, error: &Error) -> u8 {
+    if error.kind() == ErrorKind::OutOfMemory {
+        return tell_usage(rt, &UsageFault::Memory);
+    }
+    let _ = eprintln!(rt; "dapnorm: {which}: read fault");
+    FAULT
 }
 
 /// Tells why the words are no job.
@@ -53,6 +92,7 @@ fn run_words(rt: &HostRuntime, alloc: Global, words: &[String]) -> u8 {
         return tell_usage(rt, &UsageFault::Memory);
     };
     match job(alloc, words.as_slice()) {
+        Ok(Job::Compare { a, b }) => compare_files(rt, a, b),
         Ok(job) => perform(rt, &job),
         Err(fault) => tell_usage(rt, &fault),
     }

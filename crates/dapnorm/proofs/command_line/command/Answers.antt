@@ -9,6 +9,7 @@ returns c =
     let top = λ (a : App). a.top in
     let compact = c.in_ok-compact.ensures ∙ ap (λ a. with_subcommand a (plain (codes "compact")).top) c.bare_command.ensures in
     let normalise = c.in_ok-normalise.ensures ∙ ap (λ a. with_subcommand a (plain (codes "normalise")).top) compact in
-    IfOk-weaker c.with_other.result _ _
-    (λ d h. h ∙ ap₂ with_subcommand normalise (ap top c.in_ok-check.ensures.0))
-    c.with_other.ensures
+    let judged = c.in_ok-judged.ensures ∙ ap₂ with_subcommand normalise (ap top c.in_ok-check.ensures.0) in
+    IfOk-weaker c.with_other-2.result _ _
+    (λ d h. h ∙ ap₂ with_subcommand judged (ap top c.in_ok-compare.ensures.0))
+    c.with_other-2.ensures

@@ -1,0 +1,62 @@
+-- What the program tells of comparing. Source: own.
+use Rattle.std.specs.Prelude.{◌≡◌, ◌⊎◌, ℕ, List, [], ◌++◌, Option, Result, Ok, Err, codes, decimal}
+use Rattle.std.specs.Fmt.{signed_decimal}
+use Rattle.std.specs.List.{flat_map}
+use Rattle.dap_tree.specs.declared.sort.Sort.{Sort}
+use Rattle.dap_tree.specs.declared.sort.Sort.TheVariants.{ClientSeq, AdapterSeq, Frame, Reference}
+use Rattle.dap_rename.specs.declared.pair.Pair.{Pair}
+use Rattle.dap_rename.specs.Renaming.{pairs_of}
+use Rattle.dapnorm.specs.declared.limits.Limits.{Limits}
+use Rattle.dapnorm.specs.declared.verdict.CompareRefused.{CompareRefused}
+use Rattle.dapnorm.specs.declared.verdict.CompareRefused.TheVariants.{Input, Memory}
+use Rattle.dapnorm.specs.declared.verdict.Verdict.{Verdict}
+use Rattle.dapnorm.specs.declared.verdict.Verdict.TheVariants.{Same, Differ}
+use Rattle.dapnorm.specs.Device.{AllWritten, FrontWritten}
+use Rattle.dapnorm.specs.Run.{status_of}
+use Rattle.dapnorm.specs.Verdicts.{Compares}
+
+-- how a sort is written
+abbrev pub sort_word : Sort → List ℕ
+sort_word ClientSeq = codes "client-seq"
+sort_word AdapterSeq = codes "adapter-seq"
+sort_word Frame = codes "frame"
+sort_word Reference = codes "reference"
+
+-- the line of a pair
+abbrev pub pair_line : Pair → List ℕ
+pair_line pair = sort_word pair.sort ++ codes " " ++ signed_decimal pair.from ++ codes " " ++ signed_decimal pair.to ++ codes "\n"
+
+-- the first line of a verdict, and the pairs whose lines stand behind it
+abbrev pub first_line : Verdict → List ℕ
+first_line (Same renaming) = codes "same\n"
+first_line (Differ number) = codes "differ " ++ decimal number ++ codes "\n"
+
+abbrev pub pairs_in : Verdict → List Pair
+pairs_in (Same renaming) = pairs_of renaming
+pairs_in (Differ number) = []
+
+-- what the program prints of a verdict
+abbrev pub verdict_text : Verdict → List ℕ
+verdict_text verdict = first_line verdict ++ flat_map pair_line (pairs_in verdict)
+
+-- the status of the program: same, different, or what the refusal of an input asks for
+abbrev pub verdict_status : Verdict → ℕ
+verdict_status (Same renaming) = 0
+verdict_status (Differ number) = 1
+
+abbrev pub refusal_status : CompareRefused → ℕ
+refusal_status (Input which refused) = status_of {U = Unit {0}} (Err refused)
+refusal_status Memory = 5
+
+-- An answer is told: the lines of a verdict go out, or a front of them and the writer failed; of a refusal nothing goes out.
+abbrev pub IsPrinted : {W : Type 0} → (W → Option (List ℕ)) → (W → ℕ) → Result Verdict CompareRefused → W → W → ℕ → Type 0
+IsPrinted out failures (Ok verdict) before after status =
+    (AllWritten out failures before after (verdict_text verdict) × (status ≡ verdict_status verdict)) ⊎ (FrontWritten out failures before after (verdict_text verdict) × (status ≡ 4))
+IsPrinted out failures (Err refused) before after status = (after ≡ before) × (status ≡ refusal_status refused)
+
+-- What `compare` answers of the readers is told.
+pub record CompareIsTold {R S W : Type 0} (left_a : R → Option (List ℕ)) (failures_a : R → ℕ) (left_b : S → Option (List ℕ)) (failures_b : S → ℕ)
+    (out : W → Option (List ℕ)) (write_failures : W → ℕ) (limits : Limits) (old_a new_a : R) (old_b new_b : S) (before after : W) (status : ℕ) : Type 0 where
+  pub answer : Result Verdict CompareRefused
+  pub compares : Compares left_a failures_a left_b failures_b limits old_a new_a old_b new_b answer
+  pub printed : IsPrinted out write_failures answer before after status

@@ -1,0 +1,123 @@
+-- The verdict on two recordings: how they are the same, the first record where they differ, or the first that is refused of one. Source: own.
+use Rattle.std.specs.Prelude.{◌≡◌, ℕ, ℤ, Bool, true, false, List, Option, Result, Ok, Err}
+use Rattle.dap_message.specs.Message.{Sent}
+use Rattle.dap_rename.specs.Messages.{Class, IsProperId, AreSame, Carries, in_whole, equal_places}
+use Rattle.dap_rename.specs.Pairs.{entries}
+use Rattle.dap_rename.specs.Renaming.{pairs_of}
+use Rattle.dap_rename.specs.Renamings.{IsRenaming}
+use Rattle.dap_message.specs.Message.{no_reading, fraction, faulty as profile_fault}
+use Rattle.dap_recording.specs.declared.record_fault.RecordCause.TheVariants as cause
+use Rattle.dapnorm.specs.declared.limits.Limits.{Limits}
+use Rattle.dapnorm.specs.declared.reading.Stop.{Stop}
+use Rattle.dapnorm.specs.declared.reading.Stop.TheVariants.{End, Full, Failed}
+use Rattle.dapnorm.specs.declared.refused.Refused.{Refused}
+use Rattle.dapnorm.specs.declared.refused.Refused.TheVariants.{InputTooLong, Record, Json, Fraction, Message, Rule, TooManyIds, Grew, Incomplete, ReadFault, WriteFault, Memory}
+use Rattle.dapnorm.specs.declared.verdict.CompareRefused.{CompareRefused}
+use Rattle.dapnorm.specs.declared.verdict.CompareRefused.TheVariants as because
+use Rattle.dapnorm.specs.declared.verdict.Verdict.{Verdict as CodeVerdict}
+use Rattle.dapnorm.specs.declared.verdict.Verdict.TheVariants as code
+use Rattle.dapnorm.specs.declared.verdict.Which.TheVariants.{A, B}
+use Rattle.dapnorm.specs.Limits.{AreSound}
+use Rattle.dapnorm.specs.Accepting.{accepting, no_message, broken, too_many_ids, grew}
+use Rattle.dapnorm.specs.Judging.{Reason, faulty, input_too_long, cut, objected}
+use Rattle.dapnorm.specs.Reading.{HasCome}
+use Rattle.dapnorm.specs.Comparing.{Input, Fault, refused, read_fault, IsTaken, IsRefusedAt, Verdict, IsVerdict, are_same, differ, refused_a, refused_b, HasOneVerdict}
+
+-- the reader has failed
+abbrev pub has_failed : Stop → Bool
+has_failed End = false
+has_failed Full = false
+has_failed Failed = true
+
+-- The input whose bytes came, and no more for this reason.
+abbrev pub as_came : List ℕ → Stop → Input
+as_came bytes stop = record { bytes = bytes; failed = has_failed stop }
+
+-- Two recordings are the same if a renaming carries the messages of the one to those of the other, and then by the pairs of equal places.
+abbrev pub RecordingVerdict : Limits → Type 0
+RecordingVerdict limits = Verdict (accepting limits) (AreSame in_whole) equal_places
+
+abbrev pub IsRecordingVerdict : (limits : Limits) → Input → Input → RecordingVerdict limits → Type 0
+IsRecordingVerdict limits a b verdict = IsVerdict (accepting limits) (AreSame in_whole) equal_places a b verdict
+
+-- The refusal is that of this record, for this fault.
+abbrev pub Tells : (limits : Limits) → Refused → ℕ → Fault (accepting limits) → Type 0
+Tells limits (InputTooLong n) number fault = (n ≡ number) × (fault ≡ refused input_too_long)
+Tells limits (Record n cause.BadMarker) number fault = (n ≡ number) × (fault ≡ refused (faulty cause.BadMarker))
+Tells limits (Record n (cause.Frame f)) number fault = (n ≡ number) × (fault ≡ refused (faulty (cause.Frame f)))
+Tells limits (Record n cause.NoLineEnd) number fault = (n ≡ number) × (fault ≡ refused (faulty cause.NoLineEnd))
+Tells limits (Record n cause.Cut) number fault = (n ≡ number) × (fault ≡ refused cut)
+Tells limits (Record n cause.Memory) number fault = ⊥
+Tells limits (Json n) number fault = (n ≡ number) × (fault ≡ refused (objected (no_message no_reading)))
+Tells limits (Fraction n) number fault = (n ≡ number) × (fault ≡ refused (objected (no_message fraction)))
+Tells limits (Message n f) number fault = (n ≡ number) × (fault ≡ refused (objected (no_message (profile_fault f))))
+Tells limits (Rule n rule) number fault = (n ≡ number) × (fault ≡ refused (objected (broken rule)))
+Tells limits (TooManyIds n) number fault = (n ≡ number) × (fault ≡ refused (objected too_many_ids))
+Tells limits (Grew n) number fault = (n ≡ number) × (fault ≡ refused (objected grew))
+Tells limits (Incomplete client adapter) number fault = ⊥
+Tells limits ReadFault number fault = fault ≡ read_fault
+Tells limits WriteFault number fault = ⊥
+Tells limits Memory number fault = ⊥
+
+-- The input is refused at this record, and the refusal tells it.
+pub record RefusesAt (limits : Limits) (input : Input) (number : ℕ) (why : Refused) : Type 0 where
+  pub fault : Fault (accepting limits)
+  pub tells : Tells limits why number fault
+  pub is_refused : IsRefusedAt (accepting limits) input number fault
+
+-- The verdict on the inputs is a refusal of the one or of the other, and it is told. Memory that was refused tells nothing.
+pub record IsRefusalOf (limits : Limits) (number : ℕ) (why : Refused) (verdict : Fault (accepting limits) → RecordingVerdict limits) (a b : Input) : Type 0 where
+  pub fault : Fault (accepting limits)
+  pub tells : Tells limits why number fault
+  pub is_verdict : IsRecordingVerdict limits a b (verdict fault)
+
+abbrev pub TellsRefusal : Limits → Input → Input → CompareRefused → Type 0
+TellsRefusal limits a b (because.Input A why) = (number : ℕ) × IsRefusalOf limits number why (refused_a number) a b
+TellsRefusal limits a b (because.Input B why) = (number : ℕ) × IsRefusalOf limits number why (refused_b number) a b
+TellsRefusal limits a b because.Memory = Unit {0}
+
+-- The verdict is answered.
+abbrev pub TellsVerdict : Limits → Input → Input → Result CodeVerdict CompareRefused → Type 0
+TellsVerdict limits a b (Ok (code.Same renaming)) = IsRecordingVerdict limits a b (are_same (entries (pairs_of renaming)))
+TellsVerdict limits a b (Ok (code.Differ number)) = IsRecordingVerdict limits a b (differ number)
+TellsVerdict limits a b (Err refusal) = TellsRefusal limits a b refusal
+
+-- Two readers, by what they tell of their bytes and their failures.
+module _ {R S : Type 0} (left_a : R → Option (List ℕ)) (failures_a : R → ℕ) (left_b : S → Option (List ℕ)) (failures_b : S → ℕ) (limits : Limits) where
+  -- These bytes came from the readers, and no more for these reasons, and the verdict on them is answered.
+  pub record HasCompared (old_a new_a : R) (old_b new_b : S) (answer : Result CodeVerdict CompareRefused) : Type 0 where
+    pub bytes_a : List ℕ
+    pub stop_a : Stop
+    pub came_a : HasCome left_a failures_a old_a new_a limits.input bytes_a stop_a
+    pub bytes_b : List ℕ
+    pub stop_b : Stop
+    pub came_b : HasCome left_b failures_b old_b new_b limits.input bytes_b stop_b
+    pub tells : TellsVerdict limits (as_came bytes_a stop_a) (as_came bytes_b stop_b) answer
+
+  abbrev pub Compares : R → R → S → S → Result CodeVerdict CompareRefused → Type 0
+  Compares old_a new_a old_b new_b (Err because.Memory) = Unit {0}
+  Compares old_a new_a old_b new_b answer = HasCompared old_a new_a old_b new_b answer
+
+-- Two inputs have one verdict; where they differ, they do so at no earlier record.
+abbrev pub RecordingsHaveOneVerdict : Type 0
+RecordingsHaveOneVerdict = (limits : Limits) → AreSound limits → HasOneVerdict (accepting limits) (AreSame in_whole) equal_places
+
+-- Where both inputs are accepted, the verdict is that they are the same exactly where their messages are.
+pub record SameIsTold (limits : Limits) (a b : Input) (of_a of_b : List Sent) : Type 0 where
+  pub if_same : AreSame in_whole of_a of_b → IsRecordingVerdict limits a b (are_same (equal_places of_a of_b))
+  pub only_if : (how : List (Class × ℤ × ℤ)) → IsRecordingVerdict limits a b (are_same how) → AreSame in_whole of_a of_b
+
+abbrev pub SameIsToldExactly : Type 0
+SameIsToldExactly = (limits : Limits) → AreSound limits → (a b : Input) (of_a of_b : List Sent) → IsTaken (accepting limits) a of_a → IsTaken (accepting limits) b of_b → SameIsTold limits a b of_a of_b
+
+-- Where the verdict is that they are the same, both inputs are accepted, and the pairs are a renaming that carries the messages of the one to those of the other.
+pub record IsCarried (limits : Limits) (a b : Input) (how : List (Class × ℤ × ℤ)) : Type 0 where
+  pub of_a : List Sent
+  pub of_b : List Sent
+  pub taken_a : IsTaken (accepting limits) a of_a
+  pub taken_b : IsTaken (accepting limits) b of_b
+  pub is_renaming : IsRenaming IsProperId how
+  pub carries : Carries in_whole how of_a of_b
+
+abbrev pub SameIsCarried : Type 0
+SameIsCarried = (limits : Limits) → AreSound limits → (a b : Input) (how : List (Class × ℤ × ℤ)) → IsRecordingVerdict limits a b (are_same how) → IsCarried limits a b how

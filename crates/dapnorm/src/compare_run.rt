@@ -1,0 +1,190 @@
+//! Compares two inputs, and tells of it what the program tells: lines and a status.
+ghost use Rattle.std.specs.Prelude.{◌≡◌, ◌+◌, ◌<◌, ◌≤◌, ◌^◌};
+ghost use Rattle.std.specs.List.{flat_map};
+ghost use Rattle.dapnorm.specs.ComparingRun.{CompareIsTold, first_line, pair_line, pairs_in, refusal_status, sort_word, verdict_status, verdict_text};
+ghost use Rattle.dapnorm.specs.Device.{HasWrittenAll};
+ghost use Rattle.dapnorm.specs.Limits.{AreSound};
+
+use crate::comparing::compare;
+use crate::device::{DeviceFault, Sink, Source};
+use crate::limits::Limits;
+use crate::refused::Refused;
+use crate::verdict::{CompareRefused, Verdict};
+use crate::writing::{write_all, write_and_flush};
+use arrayvec::ArrayString;
+use dap_rename::Pair;
+use dap_tree::Sort;
+use itoa::Buffer;
+use std::alloc::Global;
+use std::fmt::Write;
+
+/// The status of two recordings that are the same.
+const SAME: u8 = 0;
+
+/// The status of two recordings that differ.
+const DIFFERENT: u8 = 1;
+
+/// The status of an input that is refused.
+const REFUSED: u8 = 2;
+
+/// The status of a device that failed.
+const FAULT: u8 = 4;
+
+/// The status of want of memory.
+const MEMORY: u8 = 5;
+
+/// How long a line may be. The longest, of a fault, has 63 bytes.
+const LINE: usize = 128;
+
+/// How a sort is written.
+fn word(sort: Sort) -> &'static str
+    ensures { result.now ≡ sort_word sort }
+{
+    match sort {
+        Sort::ClientSeq => "client-seq",
+        Sort::AdapterSeq => "adapter-seq",
+        Sort::Frame => "frame",
+        Sort::Reference => "reference",
+    }
+}
+
+/// The line of a pair, with its LF.
+fn line_of(pair: Pair) -> ArrayString<LINE>
+    ensures { result.bytes ≡ pair_line pair }
+{
+    let mut number = Buffer::new();
+    let mut line = ArrayString::new();
+    line.push_str(word(pair.sort));
+    line.push_str(" ");
+    line.push_str(number.format(pair.from));
+    line.push_str(" ");
+    line.push_str(number.format(pair.to));
+    line.push_str("\n");
+    line
+}
+
+/// The first line of a verdict, with its LF.
+fn first_line_of(verdict: &Verdict) -> ArrayString<LINE>
+    ensures { result.bytes ≡ first_line verdict.now }
+{
+    let mut line = ArrayString::new();
+    match verdict {
+        Verdict::Same(_) => line.push_str("same\n"),
+        Verdict::Differ(record) => {
+            let mut number = Buffer::new();
+            line.push_str("differ ");
+            line.push_str(number.format(*record));
+            line.push_str("\n");
+        }
+    }
+    line
+}
+
+/// The pairs of a verdict that has some.
+fn pairs(verdict: &Verdict) -> &[Pair]
+    ensures { result.now ≡ pairs_in verdict.now }
+{
+    match verdict {
+        Verdict::Same(renaming) => renaming.pairs(),
+        Verdict::Differ(_) => &[],
+    }
+}
+
+/// Sends the lines of pairs out.
+fn write_pairs<W: Sink>(writer: &mut W, pairs: &[Pair]) -> Result<(), DeviceFault>
+    requires { W.failures writer.old < 2 ^ 63 }
+    ensures { HasWrittenAll W.out W.failures writer.old writer.new result (flat_map pair_line pairs.now) }
+{
+    for pair in pairs {
+        write_all(writer, line_of(*pair).as_bytes())?;
+    }
+    Ok(())
+}
+
+/// Sends the lines of a verdict out and flushes.
+fn print<W: Sink>(writer: &mut W, verdict: &Verdict) -> Result<(), DeviceFault>
+    requires { W.failures writer.old < 2 ^ 62 }
+    ensures { HasWrittenAll W.out W.failures writer.old writer.new result (verdict_text verdict.now) }
+{
+    write_all(writer, first_line_of(verdict).as_bytes())?;
+    write_pairs(writer, pairs(verdict))?;
+    writer.flush()
+}
+
+/// Tells a fault in one line, without memory. A failure to write the line is not told.
+fn tell<E: Sink>(errors: &mut E, refused: CompareRefused)
+    requires { E.failures errors.old < 2 ^ 63 }
+{
+    let mut line = ArrayString::<LINE>::new();
+    let _ = writeln!(line, "dapnorm: {refused}");
+    let _ = write_and_flush(errors, line.as_bytes());
+}
+
+/// The status of the program for a verdict.
+fn status(verdict: &Verdict) -> u8
+    ensures { result ≡ verdict_status verdict.now }
+{
+    match verdict {
+        Verdict::Same(_) => SAME,
+        Verdict::Differ(_) => DIFFERENT,
+    }
+}
+
+/// The status of the program where the inputs were not compared to the end.
+fn refused_status(refused: CompareRefused) -> u8
+    ensures { result ≡ refusal_status refused }
+{
+    match refused {
+        CompareRefused::Input(_, Refused::ReadFault | Refused::WriteFault) => FAULT,
+        CompareRefused::Input(_, Refused::Memory) => MEMORY,
+        CompareRefused::Input(_, _) => REFUSED,
+        CompareRefused::Memory => MEMORY,
+    }
+}
+
+/// Compares two recordings, and answers the program's status. What is wrong is told on `errors`, in one line.
+///
+/// Of recordings that are the same `same` goes to `writer`, and then a line for each pair of ids, `W FROM TO`, where W is
+/// `client-seq`, `adapter-seq`, `frame` or `reference`. Of others `differ K` goes there, with the number of the first record
+/// where they differ.
+///
+/// The status is 0 where they are the same, 1 where they differ, 2 where an input is refused, 4 where a device failed and 5
+/// for want of memory.
+pub fn run_compare<A: Source, B: Source, W: Sink, E: Sink>(
+    alloc: Global,
+    reader_a: &mut A,
+    reader_b: &mut B,
+    writer: &mut W,
+    errors: &mut E,
+    limits: Limits,
+) -> u8
+    requires limits { AreSound limits }
+    requires given_a { A.given reader_a.old < 2 ^ 62 }
+    requires given_b { B.given reader_b.old < 2 ^ 62 }
+    requires failures_a { A.failures reader_a.old < 2 ^ 62 }
+    requires failures_b { B.failures reader_b.old < 2 ^ 62 }
+    requires write_failures { W.failures writer.old < 2 ^ 62 }
+    requires error_failures { E.failures errors.old < 2 ^ 62 }
+
+    // The output is the lines of the verdict, and the status is that of `compare`'s answer or of a writer that failed.
+    ensures told { CompareIsTold A.left A.failures B.left B.failures W.out W.failures limits reader_a.old reader_a.new reader_b.old reader_b.new writer.old writer.new result }
+
+    // It takes at most one byte past the limit of each.
+    ensures taken_a { A.given reader_a.new ≤ A.given reader_a.old + limits.input + 1 }
+    ensures taken_b { B.given reader_b.new ≤ B.given reader_b.old + limits.input + 1 }
+{
+    let verdict = match compare(alloc, reader_a, reader_b, limits) {
+        Ok(verdict) => verdict,
+        Err(refused) => {
+            tell(errors, refused);
+            return refused_status(refused);
+        }
+    };
+    match print(writer, &verdict) {
+        Ok(()) => status(&verdict),
+        Err(_) => {
+            let _ = write_and_flush(errors, b"dapnorm: write fault\n");
+            FAULT
+        }
+    }
+}
