@@ -1,7 +1,9 @@
 -- What the engines over recordings answer of an input that was judged.
-use Rattle.std.proofs.Common.{◌≡◌, ◌⊎◌, inl, inr, ℕ, Bool, List, [], ◌∷◌, Option, Err, refl, sym, subst}
+use Rattle.std.proofs.Common.{◌≡◌, ◌⊎◌, inl, inr, ℕ, Bool, List, [], ◌∷◌, Option, Ok, Err, refl, sym, subst}
 use Rattle.dap_message.specs.Message.{Sent, IsTypedContent}
+use Rattle.dapnorm.specs.declared.judging_input.Accepted.{Accepted}
 use Rattle.dapnorm.specs.declared.judging_input.Keep.{Keep}
+use Rattle.dapnorm.specs.declared.judging_input.Keep.TheVariants.{Text}
 use Rattle.dapnorm.specs.declared.limits.Limits.{Limits}
 use Rattle.dapnorm.specs.declared.reading.Stop.{Stop}
 use Rattle.dapnorm.specs.declared.reading.Stop.TheVariants.{End}
@@ -9,13 +11,13 @@ use Rattle.dapnorm.specs.declared.refused.Refused.{Refused}
 use Rattle.dapnorm.specs.declared.refused.Refused.TheVariants.{InputTooLong, Record, Json, Fraction, Message, Rule, TooManyIds, Grew, Incomplete, ReadFault, WriteFault, Memory}
 use Rattle.dapnorm.specs.Accepting.{Held, AreMessages, IsAccepted, IsRefused}
 use Rattle.dapnorm.specs.Checking.{Checks}
-use Rattle.dapnorm.specs.Engine.{Answers, RefusesInput}
+use Rattle.dapnorm.specs.Engine.{Accepts, Answers, RefusesInput}
 use Rattle.dapnorm.specs.InputJudging.{JudgesInput}
 use Rattle.dapnorm.specs.Limits.{AreSound}
 use Rattle.dapnorm.specs.Normalised.{AreTyped, HoldsSome}
-use Rattle.dapnorm.specs.Normalising.{Normalises}
+use Rattle.dapnorm.specs.Normalising.{Normalises, IsCanonical}
 use Rattle.dapnorm.specs.Reading.{HasCome}
-use Rattle.dapnorm.proofs.Standing.{normalised}
+use Rattle.dapnorm.proofs.Standing.{canonical, normalised}
 use Rattle.dap_recording.specs.declared.record_fault.RecordCause.TheVariants.{Cut}
 
 are_typed : (records : List Held) (messages : List Sent) → AreMessages records messages → AreTyped messages
@@ -51,13 +53,18 @@ module _ {R : Type 0} (left : R → Option (List ℕ)) (failures : R → ℕ) (l
 
   -- the reader failed behind an accepted recording, which has a normal text, or inside a record
   not_refused : AreSound limits → ((messages : List Sent) × IsAccepted limits bytes messages) ⊎ ((n : ℕ) × IsRefused limits bytes (Record n Cut))
-      → ((written : List ℕ) × Normalises limits bytes written) ⊎ ((n : ℕ) × IsRefused limits bytes (Record n Cut))
-  not_refused sound (inl accepted) = inl (_, normalised limits sound bytes accepted.0 accepted.1)
+      → ((written : List ℕ) × IsCanonical limits bytes written) ⊎ ((n : ℕ) × IsRefused limits bytes (Record n Cut))
+  not_refused sound (inl accepted) = inl (_, canonical limits sound bytes _ (normalised limits sound bytes accepted.0 accepted.1))
   not_refused sound (inr ended) = inr ended
+
+  pub normalise_accepts : keep ≡ Text → (given : Accepted) → JudgesInput limits keep bytes stop (Ok given)
+      → Accepts left failures limits.input (IsCanonical limits) old new given.text.items
+  normalise_accepts all given judged =
+      record { whole = bytes; came = subst (HasCome left failures old new limits.input bytes) judged.0 came; gives = judged.1.text all }
 
   module _ (sound : AreSound limits) {W : Type 0} (U : Type 0) (out : W → Option (List ℕ)) (write_failures : W → ℕ) (writer : W) where
     abbrev Answer : Refused → Type 0
-    Answer because = Answers left failures out write_failures limits.input (Normalises limits) (IsRefused limits) {U = U} old new writer writer (Err because)
+    Answer because = Answers left failures out write_failures limits.input (IsCanonical limits) (IsRefused limits) {U = U} old new writer writer (Err because)
 
     pub normalise_refuses : (because : Refused) → JudgesInput limits keep bytes stop (Err because) → Answer because
     normalise_refuses (InputTooLong n) told = (refuses (InputTooLong n) told, refl)

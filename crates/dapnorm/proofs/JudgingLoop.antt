@@ -23,11 +23,13 @@ use Rattle.dapnorm.specs.declared.refused.Refused.TheVariants.{InputTooLong, Rec
 use Rattle.dapnorm.specs.Judging.{IsFirstRefusal, faulty, cut, input_too_long, objected}
 use Rattle.dapnorm.specs.Accepting.{IsAccepted, IsRefused, Objection, Objects, IsNext, accepting, no_message, broken, too_many_ids, grew, text}
 use Rattle.dapnorm.specs.InputJudging.{AcceptsInput, JudgesInput}
+use Rattle.dapnorm.specs.Limits.{AreSound}
 use Rattle.dapnorm.specs.JudgingSteps.{HasGoneOn, RefusesRecord, StandsFor, held_of, judge_limits, record_of}
 use Rattle.dapnorm.proofs.AcceptingFacts.{accepted_facts, value_laws}
 use Rattle.dapnorm.proofs.Going.{Going, going_start, going_fed, going_record, going_accepted, going_shown, going_objected, going_cut, going_too_long}
 use Rattle.dapnorm.proofs.JudgedRecords.{text_push}
 use Rattle.dapnorm.proofs.RecordingFacts.{record_laws, fault_laws}
+use Rattle.dapnorm.proofs.Standing.{canonical}
 
 -- The judge stands for the messages of the records so far, and the reader for what came behind them; the text is that of the normal form, where it is kept.
 pub record Judging (limits : Limits) (keep : Keep) (whole rest : List ℕ) (reader : RecordReading) (judge : Judge) (out : List ℕ) (number : ℕ) : Type 0 where
@@ -187,11 +189,11 @@ module _ (limits : Limits) (keep : Keep) (whole rest : List ℕ) (reader : Recor
         cut_there : was.held ≢ [] → IsFirstRefusal (accepting limits) bytes n cut
         cut_there some = going_cut (record_laws limits) (value_laws limits) (accepted_facts limits) bytes was.going taken ended some short
 
-        pub accepted : (given : Accepted) → ((number : ℕ) (held : List ℕ) → Reads reader number held → held ≡ []) → given.checked.records + 1 ≡ n → given.text.items ≡ out
+        pub accepted : AreSound limits → (given : Accepted) → ((number : ℕ) (held : List ℕ) → Reads reader number held → held ≡ []) → given.checked.records + 1 ≡ n → given.text.items ≡ out
             → ((messages names : List Sent) → StandsFor judge messages names → given.checked.client_open ≡ open_requests Client messages)
             → ((messages names : List Sent) → StandsFor judge messages names → given.checked.adapter_open ≡ open_requests Adapter messages)
             → AcceptsInput limits keep bytes given
-        accepted given none records text_given client adapter =
+        accepted sound given none records text_given client adapter =
             let accepts = whole_accepted (none was.place was.held was.reads) in
             record {
               messages = was.messages;
@@ -201,7 +203,9 @@ module _ (limits : Limits) (keep : Keep) (whole rest : List ℕ) (reader : Recor
                 client = client was.messages was.names was.stands;
                 adapter = adapter was.messages was.names was.stands;
               };
-              text = λ all. record { messages = was.messages; accepts = accepts; normal = was.names; is_normal = was.stands.is_normal; text_is = text_given ∙ was.text_is all };
+              text =
+                λ all. canonical limits sound bytes given.text.items
+                    (record { messages = was.messages; accepts = accepts; normal = was.names; is_normal = was.stands.is_normal; text_is = text_given ∙ was.text_is all });
             }
 
         pub is_cut : ((number : ℕ) (held : List ℕ) → Reads reader number held → held ≢ []) → IsFirstRefusal (accepting limits) bytes n cut

@@ -23,7 +23,7 @@ use Rattle.dap_session.proofs.Renaming.{keeps_renamed}
 use Rattle.dapnorm.specs.declared.limits.Limits.{Limits}
 use Rattle.dapnorm.specs.Limits.{AreSound}
 use Rattle.dapnorm.specs.Accepting.{Held, AreMessages, IsAccepted, accepting, id_limit, text}
-use Rattle.dapnorm.specs.Normalising.{Normalises, HasOneNormalForm, NormalIsAccepted, AcceptedIsNormalised, OneNormalText, NormalStandsStill, EqualTextsTell}
+use Rattle.dapnorm.specs.Normalising.{Normalises, IsCanonical, HasOneNormalForm, NormalIsAccepted, AcceptedIsNormalised, OneNormalText, NormalStandsStill, EqualTextsTell}
 use Rattle.dapnorm.proofs.AcceptingFacts.{accepted_facts, messages_proper, value_laws}
 use Rattle.dapnorm.proofs.NormalTexts.{normal, normal_fits, one_normal}
 use Rattle.dapnorm.proofs.Outcomes.{one_list}
@@ -202,3 +202,18 @@ normal_stands_still limits sound bytes written a = stands_still limits sound byt
 
 pub equal_texts_tell : EqualTextsTell
 equal_texts_tell limits sound bytes others written other a b = (equal_texts limits sound bytes others written other a b, same_texts limits sound bytes others written other a b)
+
+-- ---- all that is promised of a normal text
+
+pub canonical : (limits : Limits) → AreSound limits → (bytes written : List ℕ) → Normalises limits bytes written → IsCanonical limits bytes written
+canonical limits sound bytes written a =
+    let form = normal_accepted limits sound bytes a.messages a.normal a.accepts a.is_normal in
+    let again = stands_still limits sound bytes written a in
+    record {
+      normalises = a;
+      accepted = subst (λ t. IsAccepted limits t a.normal) (sym a.text_is) form.0;
+      renamed = form.1;
+      again = again;
+      only = λ other is. one_text limits sound written other written is again;
+      tells = λ others other b. equal_texts_tell limits sound bytes others written other a b;
+    }

@@ -12,14 +12,14 @@ use Rattle.dapnorm.specs.declared.refused.Refused.{Refused}
 use Rattle.dapnorm.specs.declared.refused.Refused.TheVariants.{Record, ReadFault, WriteFault, Memory}
 use Rattle.dapnorm.specs.Accepting.{IsAccepted, IsRefused}
 use Rattle.dapnorm.specs.Checking.{AreCounted}
-use Rattle.dapnorm.specs.Normalising.{Normalises}
+use Rattle.dapnorm.specs.Normalising.{IsCanonical}
 
 -- The recording is accepted, with these numbers, and with the text of its normal form where that is kept.
 pub record AcceptsInput (limits : Limits) (keep : Keep) (bytes : List ℕ) (accepted : Accepted) : Type 0 where
   pub messages : List Sent
   pub accepts : IsAccepted limits bytes messages
   pub counted : AreCounted accepted.checked messages
-  pub text : keep ≡ Text → Normalises limits bytes accepted.text.items
+  pub text : keep ≡ Text → IsCanonical limits bytes accepted.text.items
 
 -- The bytes that were read are accepted; or the reader failed, and they are not refused but for where they end; or they are refused.
 abbrev pub JudgesInput : Limits → Keep → List ℕ → Stop → Result Accepted Refused → Type 0

@@ -16,6 +16,18 @@ pub record Normalises (limits : Limits) (bytes written : List ℕ) : Type 0 wher
   pub is_normal : IsNormal in_whole messages normal
   pub text_is : written ≡ text normal
 
+-- What a recording is normalised to, and all that is promised of it.
+pub record IsCanonical (limits : Limits) (bytes written : List ℕ) : Type 0 where
+  pub normalises : Normalises limits bytes written
+  -- It is accepted itself, and its messages are a renaming of those of the recording.
+  pub accepted : IsAccepted limits written normalises.normal
+  pub renamed : AreSame in_whole normalises.messages normalises.normal
+  -- Normalised again, it is what it was.
+  pub again : Normalises limits written written
+  pub only : (other : List ℕ) → Normalises limits written other → other ≡ written
+  -- Another recording is normalised to equal bytes exactly where some renaming carries the messages of the one to those of the other.
+  pub tells : (others other : List ℕ) (b : Normalises limits others other) → (written ≡ other) ↔ AreSame in_whole normalises.messages b.messages
+
 -- The bytes are refused for this, or memory was. Readers and writers do not come into it.
 abbrev pub RefusesBytes : Limits → List ℕ → Refused → Type 0
 RefusesBytes limits bytes Memory = Unit {0}

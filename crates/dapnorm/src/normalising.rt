@@ -3,7 +3,7 @@ ghost use Rattle.std.specs.Prelude.{◌+◌, ◌<◌, ◌≤◌, ◌^◌, IfErr,
 ghost use Rattle.dapnorm.specs.Accepting.{IsRefused};
 ghost use Rattle.dapnorm.specs.Engine.{Answers};
 ghost use Rattle.dapnorm.specs.Limits.{AreSound};
-ghost use Rattle.dapnorm.specs.Normalising.{Normalises, RefusesBytes};
+ghost use Rattle.dapnorm.specs.Normalising.{IsCanonical, RefusesBytes};
 
 use crate::device::{Sink, Source};
 use crate::judging_input::{Keep, judge_input};
@@ -26,7 +26,7 @@ pub fn normalise_bytes(alloc: Global, bytes: &[u8], limits: Limits) -> Result<No
     requires limits { AreSound limits }
 
     // The text is answered exactly where the recording is accepted, and its first refusal exactly where it is not.
-    ensures ok { IfOk result (λ text. Normalises limits bytes.now text) }
+    ensures ok { IfOk result (λ text. IsCanonical limits bytes.now text) }
     ensures err { IfErr result (λ refused. RefusesBytes limits bytes.now refused) }
 {
     let stop = if limits.input < bytes.len() as u64 {
@@ -60,7 +60,7 @@ pub fn normalise<R: Source, W: Sink>(
 
     // The normal text of the input goes out, or its first refusal is answered and nothing goes out. A fault of a device is
     // answered exactly where that device failed.
-    ensures answer { Answers R.left R.failures W.out W.failures limits.input (Normalises limits) (IsRefused limits) reader.old reader.new writer.old writer.new result }
+    ensures answer { Answers R.left R.failures W.out W.failures limits.input (IsCanonical limits) (IsRefused limits) reader.old reader.new writer.old writer.new result }
 
     // It takes at most one byte past the limit.
     ensures taken { R.given reader.new ≤ R.given reader.old + limits.input + 1 }

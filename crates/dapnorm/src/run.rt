@@ -3,7 +3,7 @@ ghost use Rattle.std.specs.Prelude.{◌≡◌, ◌+◌, ◌<◌, ◌≤◌, ◌^
 ghost use Rattle.dapnorm.specs.Compacting.{Compacts, IsRefused};
 ghost use Rattle.dapnorm.specs.Accepting.{IsRefused as IsRecordingRefused};
 ghost use Rattle.dapnorm.specs.Limits.{AreSound};
-ghost use Rattle.dapnorm.specs.Normalising.{Normalises};
+ghost use Rattle.dapnorm.specs.Normalising.{IsCanonical};
 ghost use Rattle.dapnorm.specs.Run.{Answered, CheckIsTold, HasPrinted, TellsUsage, status_of};
 
 use crate::checked::Checked;
@@ -96,7 +96,7 @@ pub fn run_stream<R: Source, W: Sink, E: Sink>(
     ensures compact { job.now ≡ Job.Compact → Answered R.left R.failures W.out W.failures limits.input (Compacts limits) (IsRefused limits) reader.old reader.new writer.old writer.new result }
 
     // The output is the normal text that `normalise` writes, and the status that of its answer.
-    ensures normalise { job.now ≡ Job.Normalise → Answered R.left R.failures W.out W.failures limits.input (Normalises limits) (IsRecordingRefused limits) reader.old reader.new writer.old writer.new result }
+    ensures normalise { job.now ≡ Job.Normalise → Answered R.left R.failures W.out W.failures limits.input (IsCanonical limits) (IsRecordingRefused limits) reader.old reader.new writer.old writer.new result }
 
     // The output is the line of what `check` accepts, and the status that of its answer or of a writer that failed.
     ensures check { (complete : Bool) → job.now ≡ Job.Check complete → CheckIsTold R.left R.failures W.out W.failures limits complete reader.old reader.new writer.old writer.new result }

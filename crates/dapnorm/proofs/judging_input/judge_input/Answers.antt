@@ -75,7 +75,7 @@ returns-in-Ok-finish c =
     let short = subst (FitsStop c.args.limits.input c.args.bytes.now) c.in-End.is c.requires.fits in (
       c.in-End.is,
       accepted c.args.limits c.args.keep _ c.loop-rest.rest.now c.loop-rest.reader c.loop-rest.judge c.loop-rest.text.items c.loop-rest.number c.loop-rest.invariant c.args.bytes.now is c.args.stop
-          (ended c.loop-rest.rest.now c.loop-rest-test.ensures) short _ (λ number held reads. (c.in-Ok-finish.ensures.ok number held reads).0 refl)
+          (ended c.loop-rest.rest.now c.loop-rest-test.ensures) short c.requires.sound _ (λ number held reads. (c.in-Ok-finish.ensures.ok number held reads).0 refl)
           (let one = c.loop-rest.invariant.going.number_is in omega (arith, one)) refl c.open.ensures c.open-in-Ok-finish.ensures,
     )
 
