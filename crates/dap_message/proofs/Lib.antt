@@ -16,3 +16,4 @@ pub mod TypedAgain
 pub mod Names
 pub mod Unique
 pub mod Contents
+pub mod Listed

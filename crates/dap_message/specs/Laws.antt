@@ -4,7 +4,7 @@ use Rattle.dap_tree.specs.Ids.{ids, with_ids, skeleton, without_ids}
 use Rattle.dap_tree.specs.Json.{text_of}
 use Rattle.dap_tree.specs.declared.side.Side.{Side}
 use Rattle.dap_tree.specs.declared.sort.Sort.TheVariants.{Reference}
-use Rattle.std.specs.Prelude.{◌≡◌, ◌⊎◌, ℕ, ℤ, pos, List, Contains, true, length}
+use Rattle.std.specs.Prelude.{◌≡◌, ◌⊎◌, ℕ, ℤ, pos, List, Contains, true, length, map, Some}
 use Rattle.dap_message.specs.Capabilities.{filled}
 use Rattle.dap_message.specs.Envelope.{kind_of, name_of, success_of, has_envelope}
 use Rattle.dap_message.specs.Faults.{Fits}
@@ -12,6 +12,7 @@ use Rattle.dap_message.specs.Marks.{IsMarked, mark}
 use Rattle.dap_message.specs.Message.{IsTyped, IsTypedAs, IsTypedContent, Refusal, HasRefusal, side_of}
 use Rattle.dap_message.specs.Numbers.{is_proper, has_small_ids, renumbered}
 use Rattle.dap_message.specs.Profile.{profile}
+use Rattle.dap_message.specs.Views.{frame_of, frames_of, listed_frames, scope_of, scopes_of, listed_scopes, variable_of, variables_of, listed_variables, shows_all}
 use Rattle.dap_message.specs.declared.message.Message.{Message}
 
 -- ---- one outcome of a content
@@ -67,6 +68,21 @@ pub record IsWellFormed (m : Doc) : Type 0 where
 -- The document of a content's message is well-formed, with no premise on what was read.
 abbrev pub ContentWellFormed : Type 0
 ContentWellFormed = (side : Side) (bytes : List ℕ) (m : Doc) → IsTypedContent side bytes m → IsWellFormed m
+
+-- ---- views
+
+-- Each frame, scope and variable that the message of a content lists has what is shown of it.
+abbrev pub ContentShown : Type 0
+ContentShown = (side : Side) (bytes : List ℕ) (m : Doc) → IsTypedContent side bytes m → shows_all m ≡ true
+
+-- So it is with other numbers at the ids.
+abbrev pub ShownAlike : Type 0
+ShownAlike = (m n : Doc) → skeleton n ≡ skeleton m → shows_all n ≡ shows_all m
+
+-- Then they are all elements of the list, in its order.
+abbrev pub EachShown : Type 0
+EachShown = (m : Doc) → shows_all m ≡ true
+    → (map Some (frames_of m) ≡ map frame_of (listed_frames m)) × (map Some (scopes_of m) ≡ map scope_of (listed_scopes m)) × (map Some (variables_of m) ≡ map variable_of (listed_variables m))
 
 -- ---- typed again
 

@@ -7,5 +7,7 @@ pub mod Marks
 pub mod Capabilities
 pub mod Envelope
 pub mod Numbers
+pub mod Views
+pub mod Shown
 pub mod Message
 pub mod Laws

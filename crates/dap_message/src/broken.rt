@@ -78,7 +78,7 @@ fn judge_member(parent: &Tree, name: &str, want: Want, needed: bool) -> Option<C
     }
 }
 
-fn list_at<'a>(tree: &'a Tree, outer: &str, inner: &str) -> Option<&'a [Tree]>
+pub(crate) fn list_at<'a>(tree: &'a Tree, outer: &str, inner: &str) -> Option<&'a [Tree]>
     ensures { option_map (λ ts. map view ts.now) result
         ≡ option_and_then list_of (option_and_then (get inner.now) (get outer.now (view tree.now))) }
 {

@@ -1,5 +1,5 @@
 //! Theorems on typed messages, which hold of all documents and contents. Each function does nothing: a call of it gives its clauses to a proof.
-ghost use Rattle.dap_message.specs.Laws.{OneMessage, OneRefusal, TypedNotRefused, SomeMessage, TypedSide, TypedProper, TypedSound, TypedEnveloped, TypedOrdered, TypedUtf8, ContentWellFormed, TypedAgain, ContentTypedAgain, OwnContentTypedAgain, SkeletonTells, Renumbers, MarkedByPath, OneMarked, FilledFits, FilledOnce};
+ghost use Rattle.dap_message.specs.Laws.{OneMessage, OneRefusal, TypedNotRefused, SomeMessage, TypedSide, TypedProper, TypedSound, TypedEnveloped, TypedOrdered, TypedUtf8, ContentWellFormed, TypedAgain, ContentTypedAgain, OwnContentTypedAgain, SkeletonTells, Renumbers, MarkedByPath, OneMarked, FilledFits, FilledOnce, ContentShown, ShownAlike, EachShown};
 
 /// A content is one message, or is refused for one reason.
 pub fn one_outcome()
@@ -47,4 +47,11 @@ pub fn one_marking()
 pub fn filled_once()
     ensures fits { FilledFits }
     ensures once { FilledOnce }
+{}
+
+/// The views of a message show every element of its list, in the list's order, also with other numbers at its ids.
+pub fn each_element_shown()
+    ensures content { ContentShown }
+    ensures renumbered { ShownAlike }
+    ensures each { EachShown }
 {}

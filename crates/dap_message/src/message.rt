@@ -6,20 +6,23 @@ ghost use Rattle.dap_tree.specs.View.{view};
 ghost use Rattle.dap_message.specs.Rows.{is_of_kind};
 ghost use Rattle.dap_message.specs.Envelope.{has_envelope, id_number, boolean_value, text_value, kind_of, seq_of, request_seq_of, success_of, name_of};
 ghost use Rattle.dap_message.specs.Numbers.{is_proper, are_proper, renumbered};
+ghost use Rattle.dap_message.specs.Views.{shows_all};
 ghost use Rattle.dap_message.specs.declared.fault.MessageFault.{MessageFault};
 ghost use Rattle.dap_message.specs.declared.profile.Kind.{Kind};
 
 use crate::asked::is_of_kind;
 use crate::fault::MessageFault;
 use crate::ids::IdList;
+use crate::listing::{Frames, Scopes, Variables};
 use crate::profile::Kind;
+use crate::views::listed;
 use dap_tree::{Side, Tree, write_tree};
 use std::alloc::Global;
 
 /// A message of the protocol: the side that sent it, and its tree with the ids marked.
 ///
 /// Its tree is sound, none of its ids is a variables reference of 0, and it has the members that every message of its kind
-/// has. The laws in [`crate::laws`] say that it is typed again as itself, also with other small numbers at its ids.
+/// has; each frame, scope and variable that it lists has the members that are shown of it. The laws in [`crate::laws`] say that it is typed again as itself, also with other small numbers at its ids.
 #[derive(Drop)]
 pub struct Message {
     side: Side,
@@ -27,15 +30,20 @@ pub struct Message {
     ghost sound: { is_sound (view tree) ≡ true },
     ghost proper: { is_proper (view tree) ≡ true },
     ghost enveloped: { has_envelope (view tree) ≡ true },
+    ghost shown: { shows_all (view tree) ≡ true },
 }
 
 impl Message {
+    ghost use Rattle.std.specs.Prelude.{map};
     ghost use Rattle.dap_message.specs.Message.{side_of, doc_of, list_of_ids, IsTypedBack, IsRenumberedBack};
+    ghost use Rattle.dap_message.specs.Shown.{frames_left, scopes_left, variables_left};
+    ghost use Rattle.dap_message.specs.Views.{frame_of, frames_of, listed_frames, scope_of, scopes_of, listed_scopes, variable_of, variables_of, listed_variables};
 
     pub(crate) fn new(side: Side, tree: Tree) -> Message
         requires sound { is_sound (view tree) ≡ true }
         requires proper { is_proper (view tree) ≡ true }
         requires enveloped { has_envelope (view tree) ≡ true }
+        requires shown { shows_all (view tree) ≡ true }
         ensures side { side_of result ≡ side }
         ensures doc { doc_of result ≡ view tree }
     {
@@ -153,6 +161,39 @@ impl Message {
         }
     }
 
+    /// The stack frames that a successful response to `stackTrace` lists; none in any other message. Takes no memory.
+    pub fn frames(&self) -> Frames<'_>
+        ensures same { frames_left result ≡ frames_of (doc_of self.now) }
+
+        // Each element of the list is shown, in its order.
+        ensures every { map Some (frames_left result)
+            ≡ map frame_of (listed_frames (doc_of self.now)) }
+    {
+        Frames::new(listed(&self.tree, "stackTrace", "stackFrames"))
+    }
+
+    /// The scopes that a successful response to `scopes` lists; none in any other message. Takes no memory.
+    pub fn scopes(&self) -> Scopes<'_>
+        ensures same { scopes_left result ≡ scopes_of (doc_of self.now) }
+
+        // Each element of the list is shown, in its order.
+        ensures every { map Some (scopes_left result)
+            ≡ map scope_of (listed_scopes (doc_of self.now)) }
+    {
+        Scopes::new(listed(&self.tree, "scopes", "scopes"))
+    }
+
+    /// The variables that a successful response to `variables` lists; none in any other message. Takes no memory.
+    pub fn variables(&self) -> Variables<'_>
+        ensures same { variables_left result ≡ variables_of (doc_of self.now) }
+
+        // Each element of the list is shown, in its order.
+        ensures every { map Some (variables_left result)
+            ≡ map variable_of (listed_variables (doc_of self.now)) }
+    {
+        Variables::new(listed(&self.tree, "variables", "variables"))
+    }
+
     /// The ids in the order of the canonical content.
     pub fn ids(&self, alloc: Global) -> Result<IdList, MessageFault>
         ensures ok { IfOk result (λ l. list_of_ids l ≡ ids (doc_of self.now)) }
@@ -202,7 +243,7 @@ fn boolean_at(tree: &Tree, name: &str) -> Option<bool>
     }
 }
 
-fn text_at<'a>(tree: &'a Tree, name: &str) -> Option<&'a str>
+pub(crate) fn text_at<'a>(tree: &'a Tree, name: &str) -> Option<&'a str>
     ensures { option_map (λ s. s.now) result ≡ text_value (get name.now (view tree.now)) }
 {
     match tree.child(name) {

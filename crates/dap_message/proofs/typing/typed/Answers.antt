@@ -1,11 +1,13 @@
 use Rattle.dap_tree.specs.View.{view}
-use Rattle.std.proofs.Common.{rules, ◌∙◌, ap, sym, subst}
+use Rattle.std.proofs.Common.{rules, ◌∙◌, ap, refl, sym, subst}
 use Rattle.dap_message.specs.Capabilities.{filled}
 use Rattle.dap_message.specs.Faults.{Fits}
 use Rattle.dap_message.specs.Marks.{mark, IsMarked}
+use Rattle.dap_message.specs.Message.{message_of}
 use Rattle.dap_message.specs.Profile.{profile}
 use Rattle.dap_message.proofs.Keeps.{sound-message, proper-message}
 use Rattle.dap_message.proofs.Envelopes.{enveloped-message}
+use Rattle.dap_message.proofs.Listed.{shows_all-typed}
 use Rattle.dap_message.proofs.Marking.{mark_is_marked}
 use Rattle.dap_message.proofs.typing.typed.Goals as goal
 
@@ -19,6 +21,11 @@ pub new-requires-clause-enveloped : goal.new-requires-clause-enveloped
 new-requires-clause-enveloped c =
     let fits : Fits (view c.args.tree) = search rules in
     rw (c.mark.ensures, c.in_ok-fill.ensures) (enveloped-message c.args.side (view c.args.tree) fits)
+
+pub new-requires-clause-shown : goal.new-requires-clause-shown
+new-requires-clause-shown c =
+    let fits : Fits (view c.args.tree) = search rules in
+    rw (c.mark.ensures, c.in_ok-fill.ensures) (shows_all-typed c.args.side (view c.args.tree) (message_of c.args.side (view c.args.tree)) c.requires (fits, refl))
 
 pub returns-clause-ids : goal.returns-clause-ids
 returns-clause-ids c =

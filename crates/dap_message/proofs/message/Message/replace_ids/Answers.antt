@@ -2,6 +2,7 @@ use Rattle.dap_tree.specs.Ids.{ids, skeleton}
 use Rattle.dap_tree.specs.View.{view}
 use Rattle.dap_tree.proofs.Numbered.{count_ids, skeleton-with, sound_with}
 use Rattle.std.proofs.Common.{◌∙◌, ap}
+use Rattle.dap_message.proofs.Listed.{shows_all-with}
 use Rattle.dap_message.proofs.Renumbered.{ids-with, proper-with, envelope-with}
 use Rattle.dap_message.proofs.message.Message.replace_ids.Goals as goal
 
@@ -13,6 +14,9 @@ new-requires-clause-proper c = rw c.replace_ids.ensures.replaced (proper-with (v
 
 pub new-requires-clause-enveloped : goal.new-requires-clause-enveloped
 new-requires-clause-enveloped c = rw c.replace_ids.ensures.replaced (envelope-with (view c.args.self.tree) c.args.numbers.now ∙ c.args.self.enveloped)
+
+pub new-requires-clause-shown : goal.new-requires-clause-shown
+new-requires-clause-shown c = rw c.replace_ids.ensures.replaced (shows_all-with (view c.args.self.tree) c.args.numbers.now ∙ c.args.self.shown)
 
 pub returns-clause-ids : goal.returns-clause-ids
 returns-clause-ids c = ap ids (c.new.ensures.doc ∙ c.replace_ids.ensures.replaced) ∙ ids-with (view c.args.self.tree) c.args.numbers.now c.requires.count
