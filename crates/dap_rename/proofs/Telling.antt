@@ -1,10 +1,10 @@
 -- Entries that tell the places of a list, after a number is put last or taken away.
-use Rattle.std.proofs.Common.{◌≡◌, ℕ, zero, suc, ◌+◌, ◌<◌, ◌≤◌, ℤ, pos, Bool, true, false, cond, List, [], ◌∷◌, ◌++◌, length, get_or, refl, sym, ◌∙◌, ap, arith, Option, None, Some, length-append}
-use Rattle.std.proofs.lemmas.Bool.{ltb-true, le-ltb, ltb-false}
+use Rattle.std.proofs.Common.{◌≡◌, ℕ, ◌<◌, ℤ, pos, Bool, true, false, cond, List, [], ◌∷◌, ◌++◌, length, get_or, refl, sym, ◌∙◌, ap, arith, Option, None, Some, length-append}
+use Rattle.std.proofs.lemmas.Bool.{le-ltb, ltb-true, ltb-false}
 use lib.Dec.{ltb}
 use Rattle.std.proofs.lemmas.Bool.Decides.{Decides-int_eq}
 use Rattle.std.proofs.lemmas.List.{get_or_append_left, get_or_at}
-use Rattle.std.proofs.lemmas.List.Sums.{passes_at_first}
+use Rattle.std.proofs.lemmas.List.Sums.{passes_at_first, fails_before_first}
 use Rattle.std.specs.List.{list_any, position_or_len, position}
 use Rattle.std.specs.Map.{lookup}
 use Rattle.std.specs.BTreeMap.{is_at}
@@ -66,9 +66,26 @@ position-push q x t new =
     let above : ltb (position_or_len (int_eq q) (t ++ x ∷ [])) (length (t ++ x ∷ [])) ≡ false = le-ltb _ _ (omega (arith, l, past, size)) in
     rw (f, was, above) refl))
 
-pub told-push : (es fs : List (ℤ × ℕ)) (t : List ℤ) (x : ℤ) → list_any (int_eq x) t ≡ false → TellPlaces es t →
-    ((q : ℤ) → lookup (is_at (int_cmp q)) fs ≡ cond (is_at (int_cmp x) q) (Some (length t)) (lookup (is_at (int_cmp q)) es)) → TellPlaces fs (t ++ x ∷ [])
+-- the entries of a map before and after the key x took a value or lost it
+abbrev pub Updates : List (ℤ × ℕ) → List (ℤ × ℕ) → ℤ → Option ℕ → Type 0
+Updates es fs x o = (q : ℤ) → lookup (is_at (int_cmp q)) fs ≡ cond (is_at (int_cmp x) q) o (lookup (is_at (int_cmp q)) es)
+
+pub told-push : (es fs : List (ℤ × ℕ)) (t : List ℤ) (x : ℤ) → list_any (int_eq x) t ≡ false → TellPlaces es t → Updates es fs x (Some (length t)) → TellPlaces fs (t ++ x ∷ [])
 told-push es fs t x new told updated q = updated q ∙ ap (λ o. cond (int_eq x q) (Some (length t)) o) (told q) ∙ sym (position-push q x t new)
+
+-- numbers that differ do so with a new one last
+pub differ-push : (t : List ℤ) (x : ℤ) → AllDiffer t → list_any (int_eq x) t ≡ false → AllDiffer (t ++ x ∷ [])
+differ-push t x differ new i j l m e =
+    by_bool (ltb j (length t))
+    (λ a. let b : j < length t = ltb-true j (length t) a in
+    differ i j l b (sym (get_or_append_left t (x ∷ []) (pos 0) i (omega (arith, l, b))) ∙ e ∙ get_or_append_left t (x ∷ []) (pos 0) j b))
+    (λ a. let last : j ≡ length t = omega (arith, m, length-append t (x ∷ []), ltb-false j (length t) a) in
+    let below : i < length t = omega (arith, l, last) in
+    let back : get_or (t ++ x ∷ []) j (pos 0) ≡ x = get_or_at t x [] (pos 0) j (sym last) in
+    let same : x ≡ get_or t i (pos 0) = sym back ∙ sym e ∙ get_or_append_left t (x ∷ []) (pos 0) i below in
+    let no : int_eq x (get_or t i (pos 0)) ≡ false = fails_before_first (int_eq x) t i (pos 0) (omega (arith, below, place_missing (int_eq x) t new)) in
+    let yes : int_eq x (get_or t i (pos 0)) ≡ true = (Decides-int_eq x (get_or t i (pos 0))).1 same in
+    absurd (cc))
 
 -- the last of numbers that differ is not among the others
 last_is_new : (t : List ℤ) (x : ℤ) → AllDiffer (t ++ x ∷ []) → list_any (int_eq x) t ≡ false
@@ -87,8 +104,7 @@ cond_none : (b : Bool) (v : Option ℕ) (o : Option ℕ) → (b ≡ true → o �
 cond_none true v o h = sym (h refl)
 cond_none false v o h = refl
 
-pub told-pop : (es fs : List (ℤ × ℕ)) (all t : List ℤ) (x : ℤ) → all ≡ t ++ x ∷ [] → AllDiffer all → TellPlaces es all →
-    ((q : ℤ) → lookup (is_at (int_cmp q)) fs ≡ cond (is_at (int_cmp x) q) None (lookup (is_at (int_cmp q)) es)) → TellPlaces fs t
+pub told-pop : (es fs : List (ℤ × ℕ)) (all t : List ℤ) (x : ℤ) → all ≡ t ++ x ∷ [] → AllDiffer all → TellPlaces es all → Updates es fs x None → TellPlaces fs t
 told-pop es fs all t x is differ told updated q =
     let new : list_any (int_eq x) t ≡ false = last_is_new t x (rw is at differ) in
     updated q ∙ ap (λ o. cond (int_eq x q) None o) (told q ∙ ap (position (int_eq q)) is ∙ position-push q x t new)

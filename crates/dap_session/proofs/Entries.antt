@@ -1,12 +1,12 @@
 -- A list of requests after a request and after an answer.
-use Rattle.std.proofs.Common.{◌≡◌, ℕ, ◌+◌, ◌≤◌, ℤ, Bool, true, false, cond, not, List, [], ◌∷◌, length, map, Some, None, option_map, sym, ap, ◌∙◌, refl, subst, arith}
+use Rattle.std.proofs.Common.{◌≡◌, ℕ, ◌+◌, ℤ, Bool, true, false, cond, not, List, [], ◌∷◌, map, Some, None, option_map, sym, ap, ◌∙◌, refl, subst, arith}
 use Rattle.std.specs.declared.cmp.Ordering.{Ordering}
 use Rattle.std.specs.declared.cmp.Ordering.TheVariants.{Less, Equal, Greater}
 use Rattle.std.specs.Ordering.{int_cmp, int_eq, is_eq, match_ordering}
 use Rattle.std.specs.Map.{lookup, set_value}
 use Rattle.std.specs.BTreeMap.{insert_entry}
 use Rattle.std.proofs.lemmas.Bool.Decides.{Decides-int_eq}
-use Rattle.std.proofs.lemmas.List.Sums.{sum_by-cons, count_by-le-length}
+use Rattle.std.proofs.lemmas.List.Sums.{sum_by-cons}
 use Rattle.dap_session.specs.Kept.{Requests, Noted, found, unanswered, with_request, with_answer}
 
 module _ {X Y : Type 0} (f : X → Y) where
@@ -21,9 +21,6 @@ module _ {X Y : Type 0} (f : X → Y) where
   pub insert-map : (n : ℤ) (es : List (ℤ × X)) (v : X) → map (λ (x : ℤ × X). (x.0, f x.1)) (insert_entry int_cmp es n v) ≡ insert_entry int_cmp (map (λ (x : ℤ × X). (x.0, f x.1)) es) n (f v)
   insert-map n [] v = refl
   insert-map n (e ∷ es) v = elim (int_cmp n e.0) as (λ o. map (λ (x : ℤ × X). (x.0, f x.1)) (match_ordering o ((n, v) ∷ e ∷ es) ((e.0, v) ∷ es) (e ∷ insert_entry int_cmp es n v)) ≡ match_ordering o ((n, f v) ∷ (e.0, f e.1) ∷ map (λ (x : ℤ × X). (x.0, f x.1)) es) ((e.0, f v) ∷ map (λ (x : ℤ × X). (x.0, f x.1)) es) ((e.0, f e.1) ∷ insert_entry int_cmp (map (λ (x : ℤ × X). (x.0, f x.1)) es) n (f v))) [ Less ↦ refl | Equal ↦ refl | Greater ↦ ap (λ xs. (e.0, f e.1) ∷ xs) (insert-map n es v) ]
-
-pub unanswered-le : (es : Requests) → unanswered es ≤ length es
-unanswered-le es = count_by-le-length (λ e. not e.1.1) es
 
 cond_twice : {X : Type 0} (b : Bool) (x y z : X) → cond b x y ≡ cond b x (cond b z y)
 cond_twice true x y z = refl

@@ -2,6 +2,7 @@
 use Rattle.std.proofs.Common.{◌≡◌, ℕ, ◌<◌, ℤ, length, drop, get_or, Bool, true, false, cond, not, ◌&&◌, List, [], ◌∷◌, Option, Some, None, ap, sym, ◌∙◌, subst, refl}
 use Rattle.std.specs.Str.{bytes_eq}
 use Rattle.std.specs.Option.{is_some}
+use Rattle.std.proofs.lemmas.Bool.{and_parts, not-false}
 use Rattle.std.proofs.lemmas.Slice.Eq.{bytes_eq-Decides}
 use Rattle.dap_tree.specs.declared.side.Side.{Side}
 use Rattle.dap_tree.specs.declared.side.Side.TheVariants.{Client, Adapter}
@@ -14,7 +15,7 @@ use Rattle.dap_session.specs.Kept.{Kept, Noted, found, requests_of}
 use Rattle.dap_session.specs.Judged.{judged, tells, asked_for, found_at, has_answer, has_other_command}
 use Rattle.dap_session.specs.Noting.{MayFollow}
 use Rattle.dap_session.proofs.Firsts.{first_hit}
-use Rattle.dap_session.proofs.Sides.{event_alone, left, right, same_sides}
+use Rattle.dap_session.proofs.Sides.{event_alone, from_side}
 
 none_step : (test : Rule → Bool) (r : Rule) (rs : List Rule) (b : Bool) → cond b (Some r) (first_of test rs) ≡ None → (b ≡ false) × (first_of test rs ≡ None)
 none_step test r rs true h = absurd (cc)
@@ -41,10 +42,6 @@ pub judged_hit : (k : Kept) (m : Sent) (i : ℕ) (d : Rule) → is_output m ≡ 
 unfolding judged
 judged_hit k m i d quiet later low hit = sym (ap (λ b. cond b None (first_of (λ r. tells r k m) rules)) quiet ∙ later ∙ first_hit (λ r. tells r k m) rules i d low hit)
 
-not_false : (b : Bool) → not b ≡ false → b ≡ true
-not_false true h = refl
-not_false false h = absurd (cc)
-
 -- no rule is told of a message that is no `output`
 pub told_none : (k : Kept) (m : Sent) → judged k m ≡ None → is_output m ≡ false → (r : Rule) → tells r k m ≡ false
 unfolding judged
@@ -66,7 +63,7 @@ request_output m h = output_case m (is_output m) refl (λ (e : is_event m ≡ tr
 pub response_output : (m : Sent) → is_response m ≡ true → is_output m ≡ false
 response_output m h = output_case m (is_output m) refl (λ (e : is_event m ≡ true). let k : is_response m ≡ false = (event_alone m e).1 in cc)
 
-after_and : (a b : Bool) → a ≡ true → a && b ≡ false → b ≡ false
+pub after_and : (a b : Bool) → a ≡ true → a && b ≡ false → b ≡ false
 after_and true b h g = g
 after_and false b h g = absurd (cc)
 
@@ -81,7 +78,7 @@ asks_new k m h g = none_found _ (after_and _ _ g (told_none k m h (request_outpu
 answer_found : (name : List ℕ) (o : Option Noted) → not (is_some o) ≡ false → has_answer o ≡ false → has_other_command name o ≡ false → o ≡ Some (name, false)
 answer_found name None h g f = absurd (cc)
 answer_found name (Some a) h g f =
-    let same : a.0 ≡ name = (bytes_eq-Decides a.0 name).0 (not_false (bytes_eq a.0 name) f) in
+    let same : a.0 ≡ name = (bytes_eq-Decides a.0 name).0 (not-false (bytes_eq a.0 name) f) in
     ap (λ (x : List ℕ). Some (x, a.1)) same ∙ ap (λ (y : Bool). Some (name, y)) g
 
 pub answers_asked_for : (k : Kept) (m : Sent) → judged k m ≡ None → is_response m ≡ true → asked_for k m ≡ Some (name_of m, false)
@@ -98,9 +95,9 @@ other_of Adapter Adapter h = absurd (cc)
 
 pub may_follow : (k : Kept) (m : Sent) (side : Side) → judged k m ≡ None → MayFollow side (requests_of side k) m
 may_follow k m side h = record {
-  asks = λ g. subst (λ (s : Side). found (seq_of m) (requests_of s k) ≡ None) (sym (same_sides side (side_of m) (right (is_request m) (is_from side m) g))) (asks_new k m h (left (is_request m) (is_from side m) g));
+  asks = λ g. subst (λ (s : Side). found (seq_of m) (requests_of s k) ≡ None) (sym (from_side side m (and_parts (is_request m) _ g).1)) (asks_new k m h (and_parts (is_request m) _ g).0);
   answers = λ n g e.
-      let from : other (side_of m) ≡ side = other_of side (side_of m) (right (is_response m) (is_from (other side) m) g) in
-      let got = answers_asked_for k m h (left (is_response m) (is_from (other side) m) g) in
+      let from : other (side_of m) ≡ side = other_of side (side_of m) (and_parts (is_response m) _ g).1 in
+      let got = answers_asked_for k m h (and_parts (is_response m) _ g).0 in
       ap (λ (s : Side). found n (requests_of s k)) (sym from) ∙ ap (λ (o : Option ℤ). found_at o (requests_of (other (side_of m)) k)) (sym e) ∙ got;
 }

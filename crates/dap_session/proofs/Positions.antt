@@ -1,10 +1,12 @@
 -- The tests of the rules decide their statements over positions.
-use Rattle.std.proofs.Common.{◌≡◌, ℕ, zero, suc, ◌<◌, ℤ, Bool, true, false, cond, not, ◌&&◌, ◌||◌, List, [], ◌∷◌, ◌++◌, length, Option, Some, None, codes, ◌⊎◌, inl, inr, sym, ap, ◌∙◌, refl, subst, arith}
+use Rattle.std.proofs.Common.{◌≡◌, ℕ, zero, suc, ◌<◌, ℤ, Bool, true, false, cond, not, ◌&&◌, List, [], ◌∷◌, ◌++◌, length, Option, Some, None, codes, inl, inr, sym, ap, ◌∙◌, refl, subst, arith}
 use Rattle.std.specs.Bool.{Decides}
 use Rattle.std.specs.Option.{MatchOption}
 use Rattle.std.specs.Str.{bytes_eq}
 use Rattle.std.specs.List.{slice_get, list_any}
-use Rattle.std.proofs.lemmas.Bool.Decides.{Decides-and, Decides-not, Decides-int_eq}
+use Rattle.std.proofs.lemmas.Bool.Decides.{Decides-and, Decides-not, Decides-int_eq, not_from_Decides}
+use Rattle.std.proofs.lemmas.Bool.{and_from, and_parts, both_ways, false_from_ne_true, not-true, not_from_false, or_cases, or_left, or_right}
+use Rattle.std.proofs.lemmas.Option.{same_Some}
 use Rattle.std.proofs.lemmas.Slice.Eq.{bytes_eq-Decides}
 use Rattle.dap_tree.specs.declared.side.Side.{Side}
 use Rattle.dap_tree.specs.declared.side.Side.TheVariants.{Client, Adapter}
@@ -13,18 +15,12 @@ use Rattle.dap_message.specs.declared.profile.Kind.TheVariants.{Request, Respons
 use Rattle.dap_message.specs.Message.{Sent}
 use Rattle.dap_session.specs.declared.rule.Rule.{Rule}
 use Rattle.dap_session.specs.declared.rule.Rule.TheVariants.{EventFromClient, NotInitialized, StillInitializing, InitializeTwice, AfterDisconnect, SeqUsed, ConfiguredEarly, ConfiguredTwice, NoRequest, AnsweredTwice, OtherCommand}
-use Rattle.dap_session.specs.Messages.{side_of, kind_of, name_of, seq_of, request_seq_of, success_of, other, same_side, same_kind, is_number, is_yes, is_request, is_response, is_event, is_from, is_named, is_request_of, is_response_to, is_initialize, is_client_initialize, is_configuration_done, is_initialized, is_farewell, is_output}
+use Rattle.dap_session.specs.Messages.{side_of, kind_of, name_of, seq_of, request_seq_of, success_of, other, same_kind, is_number, is_yes, is_request, is_response, is_event, is_from, is_named, is_request_of, is_response_to, is_initialize, is_client_initialize, is_configuration_done, is_initialized, is_farewell, is_output}
 use Rattle.dap_session.specs.Rules.{at_number, is_answered, is_initializing, is_broken, rules, first_of, first_broken}
 use Rattle.dap_session.specs.Positions.{IsFrom, IsRequest, IsResponse, IsEvent, IsNamed, IsInitialize, IsClientInitialize, IsConfigurationDone, IsInitialized, IsFarewell, IsRequestOf, IsResponseOf, At, Earlier, NoneBetween, IsInitializingAt, BreaksAt, IsOutput, BreaksNone, BreaksFirst}
-use Rattle.dap_session.proofs.Sides.{other_other}
+use Rattle.dap_session.proofs.Sides.{same_side-Decides, other_other}
 
 -- ---- one message
-
-same_side-Decides : (s r : Side) → Decides (same_side s r) (s ≡ r)
-same_side-Decides Client Client = (λ h. refl, λ h. refl)
-same_side-Decides Client Adapter = (λ h. absurd (cc), λ h. absurd (cc))
-same_side-Decides Adapter Client = (λ h. absurd (cc), λ h. absurd (cc))
-same_side-Decides Adapter Adapter = (λ h. refl, λ h. refl)
 
 same_kind-Decides : (s r : Kind) → Decides (same_kind s r) (s ≡ r)
 same_kind-Decides Request Request = (λ h. refl, λ h. refl)
@@ -84,17 +80,6 @@ response_to side n m = Decides-and _ _ (Decides-and _ _ (response m) (from (othe
 
 -- ---- positions
 
-or_cases : (a b : Bool) → (a || b) ≡ true → (a ≡ true) ⊎ (b ≡ true)
-or_cases true b h = inl refl
-or_cases false b h = inr h
-
-or_first : (a b : Bool) → a ≡ true → (a || b) ≡ true
-or_first a b h = ap (λ x. x || b) h
-
-or_second : (a b : Bool) → b ≡ true → (a || b) ≡ true
-or_second true b h = refl
-or_second false b h = h
-
 any_there : (p : Sent → Bool) (P : Sent → Type 0) → ((q : Sent) → Decides (p q) (P q)) → (before rest : List Sent) → list_any p before ≡ true → Earlier P (before ++ rest) (length before)
 any_there p P each [] rest h = absurd (cc)
 any_there p P each (x ∷ before) rest h =
@@ -105,47 +90,22 @@ any_there p P each (x ∷ before) rest h =
 
 there_any : (p : Sent → Bool) (P : Sent → Type 0) → ((q : Sent) → Decides (p q) (P q)) → (before rest : List Sent) (j : ℕ) (q : Sent) → j < length before → At (before ++ rest) j q → P q → list_any p before ≡ true
 there_any p P each [] rest j q h at is = absurd (omega arith)
-there_any p P each (x ∷ before) rest zero q h at is = let same : x ≡ q = cc in or_first (p x) _ (ap p same ∙ (each q).1 is)
-there_any p P each (x ∷ before) rest (suc j) q h at is = or_second (p x) _ (there_any p P each before rest j q (omega arith) at is)
+there_any p P each (x ∷ before) rest zero q h at is = let same : x ≡ q = cc in or_left (p x) _ (ap p same ∙ (each q).1 is)
+there_any p P each (x ∷ before) rest (suc j) q h at is = or_right (p x) _ (there_any p P each before rest j q (omega arith) at is)
 
 earlier : (p : Sent → Bool) (P : Sent → Type 0) → ((q : Sent) → Decides (p q) (P q)) → (before rest : List Sent) → Decides (list_any p before) (Earlier P (before ++ rest) (length before))
 earlier p P each before rest = (any_there p P each before rest, λ w. there_any p P each before rest w.0 w.1 w.2 w.3 w.4)
 
-some_same : (k n : ℤ) → Some k ≡ Some n → k ≡ n
-some_same k n h = cc
-
 of_number : (o : Option ℤ) (p : ℤ → Bool) (P : ℤ → Type 0) → ((n : ℤ) → Decides (p n) (P n)) → Decides (at_number o p) ((n : ℤ) × (o ≡ Some n) × P n)
 of_number None p P each = (λ h. absurd (cc), λ w. let e = w.1 in absurd (cc))
-of_number (Some k) p P each = (λ h. (k, refl, (each k).0 h), λ w. let same : k ≡ w.0 = some_same k w.0 w.1 in ap p same ∙ (each w.0).1 w.2)
+of_number (Some k) p P each = (λ h. (k, refl, (each k).0 h), λ w. let same : k ≡ w.0 = same_Some k w.0 w.1 in ap p same ∙ (each w.0).1 w.2)
 
 -- ---- the `initialize` request that has no answer yet
-
-and_left : (a b : Bool) → a && b ≡ true → a ≡ true
-and_left true b h = refl
-and_left false b h = absurd (cc)
-
-and_right : (a b : Bool) → a && b ≡ true → b ≡ true
-and_right true b h = h
-and_right false b h = absurd (cc)
-
-not_both : (b : Bool) → not b ≡ true → b ≡ true → ⊥
-not_both true h g = absurd (cc)
-not_both false h g = absurd (cc)
-
-not_true : (b : Bool) → not b ≡ true → b ≡ true → ⊥
-not_true b h g = not_both b h g
-
-not_made : (b : Bool) → (b ≡ true → ⊥) → not b ≡ true
-not_made true h = absurd (h refl)
-not_made false h = refl
-
-both_made : (a b : Bool) → a ≡ true → b ≡ true → a && b ≡ true
-both_made a b h g = ap (λ x. x && b) h ∙ g
 
 not_there : (n : ℤ) (x : Sent) (before rest : List Sent) (i : ℕ) (r : Sent) → 0 < i → i < length (x ∷ before) → At (x ∷ before ++ rest) i r → IsResponseOf Adapter n r → not (is_answered Client n before) ≡ true → ⊥
 not_there n x before rest zero r low high at is silent = absurd (omega arith)
 not_there n x before rest (suc i) r low high at is silent =
-    not_true _ silent (there_any (λ m. is_response_to Client n m) (IsResponseOf Adapter n) (response_to Client n) before rest i r (omega arith) at is)
+    both_ways _ (not-true _ silent) (there_any (λ m. is_response_to Client n m) (IsResponseOf Adapter n) (response_to Client n) before rest i r (omega arith) at is)
 
 not_later : (n : ℤ) (x : Sent) (ms : List Sent) (j k : ℕ) → NoneBetween (IsResponseOf Adapter n) ms j k → (i : ℕ) (r : Sent) → suc j < i → i < suc k → At (x ∷ ms) i r → IsResponseOf Adapter n r → ⊥
 not_later n x ms j k none zero r low high at is = absurd (omega arith)
@@ -160,8 +120,8 @@ initializing_there (x ∷ before) rest h =
         x,
         omega arith,
         refl,
-        (client_initialize x).0 (and_left _ _ e),
-        λ i r low high at is. not_there (seq_of x) x before rest i r low high at is (and_right (is_client_initialize x) _ e),
+        (client_initialize x).0 (and_parts _ _ e).0,
+        λ i r low high at is. not_there (seq_of x) x before rest i r low high at is (and_parts (is_client_initialize x) _ e).1,
       )
       | inr e ↦
           let w = initializing_there before rest e in
@@ -174,10 +134,10 @@ there_initializing (x ∷ before) rest zero q h at is none =
     let same : q ≡ x = cc in
     let asked : is_client_initialize x ≡ true = ap is_client_initialize (sym same) ∙ (client_initialize q).1 is in
     let open_one : not (is_answered Client (seq_of q) before) ≡ true =
-    not_made _ (λ e. let w = any_there (λ m. is_response_to Client (seq_of q) m) (IsResponseOf Adapter (seq_of q)) (response_to Client (seq_of q)) before rest e in none (suc w.0) w.1 (omega arith) (omega (arith, w.2)) w.3 w.4) in
-    or_first _ _ (both_made _ _ asked (ap (λ (m : Sent). not (is_answered Client (seq_of m) before)) (sym same) ∙ open_one))
+    not_from_false _ (false_from_ne_true _ (λ e. let w = any_there (λ m. is_response_to Client (seq_of q) m) (IsResponseOf Adapter (seq_of q)) (response_to Client (seq_of q)) before rest e in none (suc w.0) w.1 (omega arith) (omega (arith, w.2)) w.3 w.4)) in
+    or_left _ _ (and_from _ _ asked (ap (λ (m : Sent). not (is_answered Client (seq_of m) before)) (sym same) ∙ open_one))
 there_initializing (x ∷ before) rest (suc j) q h at is none =
-    or_second (is_client_initialize x && not (is_answered Client (seq_of x) before)) _ (there_initializing before rest j q (omega arith) at is (λ i r low high a g. none (suc i) r (omega arith) (omega arith) a g))
+    or_right (is_client_initialize x && not (is_answered Client (seq_of x) before)) _ (there_initializing before rest j q (omega arith) at is (λ i r low high a g. none (suc i) r (omega arith) (omega arith) a g))
 
 initializing : (before rest : List Sent) → Decides (is_initializing before) (IsInitializingAt (before ++ rest) (length before))
 initializing before rest = (initializing_there before rest, λ w. there_initializing before rest w.0 w.1 w.2 w.3 w.4 w.5)
@@ -251,21 +211,15 @@ place_of NoRequest = (8, refl)
 place_of AnsweredTwice = (9, refl)
 place_of OtherCommand = (10, refl)
 
-not_both_values : (b : Bool) → b ≡ true → b ≡ false → ⊥
-not_both_values b h g = cc
-
-refuted : (b : Bool) (P : Type 0) → Decides b P → b ≡ false → ¬ P
-refuted b P d h p = let t : b ≡ true = d.1 p in not_both_values b t h
-
 first_told : (before after : List Sent) (m : Sent) (o : Option Rule) → is_output m ≡ false → TellsFirst (λ r. is_broken r before m) rules o
     → MatchOption o (BreaksNone (before ++ m ∷ after) (length before) m) (λ rule. BreaksFirst rule (before ++ m ∷ after) (length before) m)
-first_told before after m None quiet told = λ out r. let w = place_of r in refuted (is_broken r before m) (BreaksAt r (before ++ m ∷ after) (length before) m) (by_position r before after m) (told w.0 r w.1)
+first_told before after m None quiet told = λ out r. let w = place_of r in not_from_Decides (is_broken r before m) (by_position r before after m) (told w.0 r w.1)
 first_told before after m (Some r) quiet told = (
   told.0,
   told.1,
-  refuted (is_output m) (IsOutput m) (output m) quiet,
+  not_from_Decides (is_output m) (output m) quiet,
   (by_position r before after m).0 told.2,
-  λ j s low at. refuted (is_broken s before m) (BreaksAt s (before ++ m ∷ after) (length before) m) (by_position s before after m) (told.3 j s low at),
+  λ j s low at. not_from_Decides (is_broken s before m) (by_position s before after m) (told.3 j s low at),
 )
 
 first_with : (before after : List Sent) (m : Sent) (b : Bool) → is_output m ≡ b

@@ -3,6 +3,7 @@ use Rattle.std.proofs.Common.{◌≡◌, ℕ, ◌+◌, ◌≤◌, ℤ, Bool, tru
 use Rattle.std.specs.Ordering.{int_eq}
 use Rattle.std.specs.List.{list_any, count_by}
 use Rattle.std.specs.Option.{is_some}
+use Rattle.std.proofs.Math.Bool.{or-false}
 use Rattle.std.proofs.lemmas.Bool.Decides.{Decides-int_eq}
 use Rattle.std.proofs.lemmas.List.Folds.{list_any-append}
 use Rattle.std.proofs.lemmas.List.Sums.{sum_by-cons, sum_by_push}
@@ -10,10 +11,6 @@ use Rattle.dap_tree.specs.declared.side.Side.{Side}
 use Rattle.dap_message.specs.Message.{Sent}
 use Rattle.dap_session.specs.Messages.{seq_of, is_request_of}
 use Rattle.dap_session.specs.Standing.{request_at}
-
-or-false : (a : Bool) → (a || false) ≡ a
-or-false true = refl
-or-false false = refl
 
 pub any_push : (p : Sent → Bool) (ms : List Sent) (m : Sent) → list_any p (ms ++ m ∷ []) ≡ (list_any p ms || p m)
 any_push p ms m = list_any-append p ms (m ∷ []) ∙ ap (λ b. list_any p ms || b) (or-false (p m))

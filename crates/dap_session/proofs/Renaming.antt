@@ -6,7 +6,8 @@ use Rattle.std.proofs.Common.{◌≡◌, ℕ, ℤ, Bool, true, false, cond, not,
 use Rattle.std.specs.Str.{bytes_eq}
 use Rattle.std.specs.List.{All, AllZip, list_any, count_by}
 use Rattle.std.specs.Ordering.{int_eq}
-use Rattle.std.proofs.lemmas.Bool.Decides.{Decides-int_eq}
+use Rattle.std.proofs.lemmas.Bool.{and_parts}
+use Rattle.std.proofs.lemmas.Bool.Decides.{Decides-int_eq, Decides-like, same_from_decides}
 use Rattle.dap_message.specs.Message.{Sent}
 use Rattle.dap_message.specs.declared.profile.Kind.TheVariants.{Request, Response, Event}
 use Rattle.dap_session.specs.declared.rule.Rule.{Rule}
@@ -16,7 +17,7 @@ use Rattle.dap_session.specs.Renamed.{seq_sort, IsNumbered, AreRenamed, IsOneToO
 use Rattle.dap_session.specs.Rules.{at_number, is_answered, is_initializing, is_broken, rules, first_of, first_broken, open_requests, KeepsRules}
 use Rattle.dap_session.proofs.Alike.{NumbersTied, Alike, all_alike}
 use Rattle.dap_session.proofs.Pushed.{tally, count-cons}
-use Rattle.dap_session.proofs.Sides.{left, right, same_sides, other_other}
+use Rattle.dap_session.proofs.Sides.{from_side, other_other}
 use Rattle.dap_session.proofs.Standing.{first_same}
 
 and_same : (a b c d : Bool) → a ≡ b → c ≡ d → (a && c) ≡ (b && d)
@@ -31,11 +32,6 @@ and_if true true c d e f = f refl
 and_if true false c d e f = absurd (cc)
 and_if false true c d e f = absurd (cc)
 and_if false false c d e f = refl
-
-same_truth : (a b : Bool) → (a ≡ true → b ≡ true) → (b ≡ true → a ≡ true) → a ≡ b
-same_truth true b f g = sym (f refl)
-same_truth false true f g = g refl
-same_truth false false f g = refl
 
 -- ---- the parts of a list of pairs
 
@@ -69,7 +65,7 @@ module _ (R : Sort → ℤ → ℤ → Type 0) (one : IsOneToOne R) where
   int_same : (side : Side) (x y u v : ℤ) → R (seq_sort side) x u → R (seq_sort side) y v → int_eq x y ≡ int_eq u v
   int_same side x y u v h k =
       let w = one side x y u v h k in
-      same_truth (int_eq x y) (int_eq u v) (λ e. (Decides-int_eq u v).1 (w.0 ((Decides-int_eq x y).0 e))) (λ e. (Decides-int_eq x y).1 (w.1 ((Decides-int_eq u v).0 e)))
+      same_from_decides (int_eq x y) (int_eq u v) (Decides-int_eq x y) (Decides-like (int_eq u v) w.1 w.0 (Decides-int_eq u v))
 
   number_is_same : (side : Side) (o p : Option ℤ) (x y : ℤ) → NumbersTied R (seq_sort side) o p → R (seq_sort side) x y → is_number o x ≡ is_number p y
   number_is_same side None None x y h k = refl
@@ -137,14 +133,14 @@ module _ (R : Sort → ℤ → ℤ → Type 0) (one : IsOneToOne R) where
   request_of_same side x y a b h t =
       and_if (is_request a && is_from side a) (is_request b && is_from side b) (int_eq x (seq_of a)) (int_eq y (seq_of b))
       (and_same _ _ _ _ (request_same a b t) (from_same side a b t))
-      (λ e. int_same side x (seq_of a) y (seq_of b) h (subst (λ s. R (seq_sort s) (seq_of a) (seq_of b)) (sym (same_sides side (side_of a) (right (is_request a) (is_from side a) e))) t.seq))
+      (λ e. int_same side x (seq_of a) y (seq_of b) h (subst (λ s. R (seq_sort s) (seq_of a) (seq_of b)) (sym (from_side side a (and_parts (is_request a) _ e).1)) t.seq))
 
   response_to_same : (side : Side) (x y : ℤ) (a b : Sent) → R (seq_sort side) x y → Alike R a b → is_response_to side x a ≡ is_response_to side y b
   response_to_same side x y a b h t =
       and_if (is_response a && is_from (other side) a) (is_response b && is_from (other side) b) (is_number (request_seq_of a) x) (is_number (request_seq_of b) y)
       (and_same _ _ _ _ (response_same a b t) (from_same (other side) a b t))
       (λ e.
-      let there : other (side_of a) ≡ side = ap other (sym (same_sides (other side) (side_of a) (right (is_response a) (is_from (other side) a) e))) ∙ other_other side in
+      let there : other (side_of a) ≡ side = ap other (sym (from_side (other side) a (and_parts (is_response a) _ e).1)) ∙ other_other side in
       number_is_same side (request_seq_of a) (request_seq_of b) x y (subst (λ s. NumbersTied R (seq_sort s) (request_seq_of a) (request_seq_of b)) there t.request_seq) h)
 
   -- the side too may be told by another message
@@ -167,7 +163,7 @@ module _ (R : Sort → ℤ → ℤ → Type 0) (one : IsOneToOne R) where
       or_same _ _ _ _
       (and_if (is_client_initialize m) (is_client_initialize n) (not (is_answered Client (seq_of m) ms)) (not (is_answered Client (seq_of n) ns)) (client_initialize_same m n h.0)
       (λ e.
-      let client : Client ≡ side_of m = same_sides Client (side_of m) (left (is_from Client m) (is_initialize m) e) in
+      let client : Client ≡ side_of m = from_side Client m (and_parts _ (is_initialize m) e).0 in
       ap not (answered_same Client Client (seq_of m) (seq_of n) ms ns refl (subst (λ s. R (seq_sort s) (seq_of m) (seq_of n)) (sym client) h.0.seq) h.1)))
       (initializing_same ms ns h.1)
 
@@ -221,7 +217,7 @@ module _ (R : Sort → ℤ → ℤ → Type 0) (one : IsOneToOne R) where
       and_if (is_request a && is_from side a) (is_request b && is_from side b) (not (is_answered side (seq_of a) ms)) (not (is_answered side (seq_of b) ns))
       (and_same _ _ _ _ (request_same a b t) (from_same side a b t))
       (λ e.
-      let there : side ≡ side_of a = same_sides side (side_of a) (right (is_request a) (is_from side a) e) in
+      let there : side ≡ side_of a = from_side side a (and_parts (is_request a) _ e).1 in
       ap not (answered_same side side (seq_of a) (seq_of b) ms ns refl (subst (λ x. R (seq_sort x) (seq_of a) (seq_of b)) (sym there) t.seq) s)))
       ms ns s
 

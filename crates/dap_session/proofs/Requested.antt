@@ -2,7 +2,10 @@
 use Rattle.std.proofs.Common.{◌≡◌, ℕ, ◌+◌, ◌≤◌, ℤ, Bool, true, false, cond, not, ◌&&◌, ◌||◌, List, [], ◌∷◌, ◌++◌, Option, Some, None, option_map, sym, ap, ◌∙◌, refl, subst, arith}
 use Rattle.std.specs.Ordering.{int_eq}
 use Rattle.std.specs.List.{count_by}
+use Rattle.std.proofs.Math.Bool.{or-false, or-true}
+use Rattle.std.proofs.lemmas.Bool.{and_from, and_left, and_parts}
 use Rattle.std.proofs.lemmas.Bool.Decides.{Decides-int_eq}
+use Rattle.std.proofs.lemmas.Cmp.{int_eq_equiv}
 use Rattle.dap_tree.specs.declared.side.Side.{Side}
 use Rattle.dap_message.specs.Message.{Sent}
 use Rattle.dap_session.specs.Messages.{name_of, seq_of, request_seq_of, other, is_number, is_request, is_response, is_from, is_request_of, is_response_to}
@@ -11,15 +14,12 @@ use Rattle.dap_session.specs.Kept.{Requests, Noted, found, with_request, with_an
 use Rattle.dap_session.specs.Noting.{MayFollow}
 use Rattle.dap_session.specs.Standing.{AreRequests, request_at}
 use Rattle.dap_session.proofs.Entries.{found-with_request, unanswered-with_request, found-with_answer, unanswered-with_answer}
-use Rattle.dap_session.proofs.Sides.{left, both, left_false, no_request, no_response}
+use Rattle.dap_session.proofs.Sides.{no_request, no_response}
 use Rattle.dap_session.proofs.Noted.{after_request, after_response, after_other}
 use Rattle.dap_session.proofs.Pushed.{any_push, or_else, request_at_push, tally, count_push, count_same, count_none, count_some, count_split}
 
 int_same : (a b : ℤ) → int_eq a b ≡ true → a ≡ b
 int_same a b h = (Decides-int_eq a b).0 h
-
-int_self : (a : ℤ) → int_eq a a ≡ true
-int_self a = (Decides-int_eq a a).1 refl
 
 -- what the list says of one number
 abbrev pub listed_as : Side → List Sent → ℤ → Option Noted
@@ -38,21 +38,17 @@ abbrev pub responds : Side → Sent → Bool
 responds side m = is_response m && is_from (other side) m
 
 not_asked : (side : Side) (n : ℤ) (m : Sent) → asks side m ≡ false → is_request_of side n m ≡ false
-not_asked side n m h = left_false _ (int_eq n (seq_of m)) h
+not_asked side n m h = and_left _ (int_eq n (seq_of m)) h
 
 not_answered : (side : Side) (n : ℤ) (m : Sent) → responds side m ≡ false → is_response_to side n m ≡ false
-not_answered side n m h = left_false _ (is_number (request_seq_of m) n) h
-
-or_false : (a : Bool) → (a || false) ≡ a
-or_false true = refl
-or_false false = refl
+not_answered side n m h = and_left _ (is_number (request_seq_of m) n) h
 
 or_none : (o : Option Sent) → or_else o None ≡ o
 or_none None = refl
 or_none (Some x) = refl
 
 answered_same : (side : Side) (n : ℤ) (ms : List Sent) (m : Sent) → is_response_to side n m ≡ false → is_answered side n (ms ++ m ∷ []) ≡ is_answered side n ms
-answered_same side n ms m h = any_push (λ r. is_response_to side n r) ms m ∙ ap (λ b. is_answered side n ms || b) h ∙ or_false _
+answered_same side n ms m h = any_push (λ r. is_response_to side n r) ms m ∙ ap (λ b. is_answered side n ms || b) h ∙ or-false _
 
 at_same : (side : Side) (n : ℤ) (ms : List Sent) (m : Sent) → is_request_of side n m ≡ false → request_at side n (ms ++ m ∷ []) ≡ request_at side n ms
 at_same side n ms m h = request_at_push side n ms m ∙ ap (λ b. or_else (request_at side n ms) (cond b (Some m) None)) h ∙ or_none _
@@ -81,7 +77,7 @@ silent_step side es ms m r h g = record {
   listed = λ n. r.listed n ∙ listed_same side n ms m (not_asked side n m h) (g n);
   count =
       let push = open_push side ms m (λ n. is_answered side n ms) (λ n. answered_same side n ms m (g n)) in
-      let none : is_open side (λ n. is_answered side n ms) m ≡ false = left_false _ _ h in
+      let none : is_open side (λ n. is_answered side n ms) m ≡ false = and_left _ _ h in
       omega (arith, push, ap tally none, r.count);
   once = λ n. subst (λ k. k ≤ 1) (sym (count_kept side n ms m (not_asked side n m h))) (r.once n);
   asked = λ n e. answered_same side n ms m (g n) ∙ r.asked n (sym (at_same side n ms m (not_asked side n m h)) ∙ e);
@@ -125,7 +121,7 @@ request_step side es ms m r h g new = record {
   count =
       let push = open_push side ms m (λ n. is_answered side n ms) (λ n. answered_same side n ms m (not_answered side n m g)) in
       let none : request_at side (seq_of m) ms ≡ None = map_none side ms (seq_of m) (request_at side (seq_of m) ms) (sym (r.listed (seq_of m)) ∙ new) in
-      let one : is_open side (λ n. is_answered side n ms) m ≡ true = both _ _ h (ap not (r.asked (seq_of m) none)) in
+      let one : is_open side (λ n. is_answered side n ms) m ≡ true = and_from _ _ h (ap not (r.asked (seq_of m) none)) in
       omega (arith, push, ap tally one, r.count, unanswered-with_request (seq_of m) (name_of m) es new);
   once = λ n. request_once side es ms m n (int_eq n (seq_of m)) refl r h new;
   asked = λ n e. answered_same side n ms m (not_answered side n m g) ∙ r.asked n (or_none_left _ _ (sym (request_at_push side n ms m) ∙ e));
@@ -135,18 +131,6 @@ request_step side es ms m r h g new = record {
 
 response_is : (side : Side) (n k : ℤ) (m : Sent) → responds side m ≡ true → request_seq_of m ≡ Some k → is_response_to side n m ≡ int_eq k n
 response_is side n k m h e = ap (λ b. b && is_number (request_seq_of m) n) h ∙ ap (λ o. is_number o n) e
-
-or_true : (a : Bool) → (a || true) ≡ true
-or_true true = refl
-or_true false = refl
-
-swap_false : (b a : ℤ) (c : Bool) → int_eq b a ≡ c → int_eq a b ≡ false → c ≡ false
-swap_false b a true h g = let e : int_eq a b ≡ true = (Decides-int_eq a b).1 (sym (int_same b a h)) in absurd (cc)
-swap_false b a false h g = refl
-
-int_swap : (a b : ℤ) (c : Bool) → int_eq a b ≡ c → int_eq b a ≡ c
-int_swap a b true h = (Decides-int_eq b a).1 (sym (int_same a b h))
-int_swap a b false h = swap_false b a (int_eq b a) refl h
 
 map_some : (side : Side) (ms : List Sent) (n : ℤ) (name : List ℕ) (b : Bool) (o : Option Sent) → option_map {U = Noted} (λ q. (name_of q, is_answered side n ms)) o ≡ Some (name, b)
     → (q : Sent) × (o ≡ Some q) × (name_of q ≡ name) × (is_answered side n ms ≡ b)
@@ -162,9 +146,9 @@ response_listed side es ms m k n true is r h g e open_one =
     let told = map_some side ms n (name_of m) false (request_at side n ms) (sym (r.listed n) ∙ ap (λ x. found x es) same ∙ open_one) in
     let at : request_at side n (ms ++ m ∷ []) ≡ Some told.0 = at_same side n ms m (not_asked side n m h) ∙ told.1 in
     let now : is_answered side n (ms ++ m ∷ []) ≡ true =
-    any_push (λ r. is_response_to side n r) ms m ∙ ap (λ b. is_answered side n ms || b) (response_is side n k m g e ∙ int_swap n k true is) ∙ or_true _ in
+    any_push (λ r. is_response_to side n r) ms m ∙ ap (λ b. is_answered side n ms || b) (response_is side n k m g e ∙ int_eq_equiv.symm k n ∙ is) ∙ or-true _ in
     ap (λ t. Some (t, true)) (sym told.2) ∙ ap (λ b. Some (name_of told.0, b)) (sym now) ∙ ap (λ o. option_map {U = Noted} (λ q. (name_of q, is_answered side n (ms ++ m ∷ []))) o) (sym at)
-response_listed side es ms m k n false is r h g e open_one = r.listed n ∙ listed_same side n ms m (not_asked side n m h) (response_is side n k m g e ∙ int_swap n k false is)
+response_listed side es ms m k n false is r h g e open_one = r.listed n ∙ listed_same side n ms m (not_asked side n m h) (response_is side n k m g e ∙ int_eq_equiv.symm k n ∙ is)
 
 response_asked : (side : Side) (es : Requests) (ms : List Sent) (m : Sent) (k n : ℤ) (b : Bool) → int_eq n k ≡ b → AreRequests side es ms → responds side m ≡ true → request_seq_of m ≡ Some k → found k es ≡ Some (name_of m, false)
     → request_at side n ms ≡ None → is_answered side n (ms ++ m ∷ []) ≡ false
@@ -173,7 +157,7 @@ response_asked side es ms m k n true is r g e open_one gone =
     let none : found n es ≡ None = r.listed n ∙ ap (λ o. option_map {U = Noted} (λ q. (name_of q, is_answered side n ms)) o) gone in
     let some : found n es ≡ Some (name_of m, false) = ap (λ x. found x es) same ∙ open_one in
     absurd (cc)
-response_asked side es ms m k n false is r g e open_one gone = answered_same side n ms m (response_is side n k m g e ∙ int_swap n k false is) ∙ r.asked n gone
+response_asked side es ms m k n false is r g e open_one gone = answered_same side n ms m (response_is side n k m g e ∙ int_eq_equiv.symm k n ∙ is) ∙ r.asked n gone
 
 response_step : (side : Side) (es : Requests) (ms : List Sent) (m : Sent) (k : ℤ) → AreRequests side es ms → asks side m ≡ false → responds side m ≡ true → request_seq_of m ≡ Some k → found k es ≡ Some (name_of m, false)
     → AreRequests side (with_answer k (name_of m) es) (ms ++ m ∷ [])
@@ -183,7 +167,7 @@ response_step side es ms m k r h g e open_one = record {
   count =
       let told = map_some side ms k (name_of m) false (request_at side k ms) (sym (r.listed k) ∙ open_one) in
       let push = open_push side ms m (λ n. is_answered side n ms || int_eq k n) (λ n. any_push (λ r. is_response_to side n r) ms m ∙ ap (λ b. is_answered side n ms || b) (response_is side n k m g e)) in
-      let none : is_open side (λ n. is_answered side n ms || int_eq k n) m ≡ false = left_false _ _ h in
+      let none : is_open side (λ n. is_answered side n ms || int_eq k n) m ≡ false = and_left _ _ h in
       let parts = count_split (λ q. is_request q && is_from side q) (λ n. is_answered side n ms) k told.3 ms in
       let low = count_some side k told.0 ms told.1 in
       let high = r.once k in
@@ -204,11 +188,11 @@ response_with side es ms m (Some k) e r h g ready = response_step side es ms m k
 
 requests_step : (side : Side) (es : Requests) (ms : List Sent) (m : Sent) (a b : Bool) → asks side m ≡ a → responds side m ≡ b → AreRequests side es ms → MayFollow side es m → AreRequests side (requests_after side es m) (ms ++ m ∷ [])
 requests_step side es ms m true b h g r may =
-    let request : is_request m ≡ true = left (is_request m) (is_from side m) h in
-    let silent : responds side m ≡ false = left_false (is_response m) (is_from (other side) m) (no_response m request) in
+    let request : is_request m ≡ true = (and_parts (is_request m) (is_from side m) h).0 in
+    let silent : responds side m ≡ false = and_left (is_response m) (is_from (other side) m) (no_response m request) in
     subst (λ xs. AreRequests side xs (ms ++ m ∷ [])) (sym (after_request side es m h)) (request_step side es ms m r h silent (may.asks h))
 requests_step side es ms m false true h g r may =
-    let response : is_response m ≡ true = left (is_response m) (is_from (other side) m) g in
+    let response : is_response m ≡ true = (and_parts (is_response m) (is_from (other side) m) g).0 in
     subst (λ xs. AreRequests side xs (ms ++ m ∷ [])) (sym (after_response side es m g (no_request m response))) (response_with side es ms m (request_seq_of m) refl r h g (λ n. may.answers n g))
 requests_step side es ms m false false h g r may = subst (λ xs. AreRequests side xs (ms ++ m ∷ [])) (sym (after_other side es m h g)) (other_step side es ms m r h g)
 

@@ -1,11 +1,22 @@
 -- A message is of one kind and from one side.
-use Rattle.std.proofs.Common.{◌≡◌, Bool, true, false, ◌&&◌, refl, ap, sym, subst}
+use Rattle.std.proofs.Common.{◌≡◌, true, false, refl}
+use Rattle.std.specs.Bool.{Decides}
 use Rattle.dap_tree.specs.declared.side.Side.{Side}
 use Rattle.dap_tree.specs.declared.side.Side.TheVariants.{Client, Adapter}
 use Rattle.dap_message.specs.declared.profile.Kind.{Kind}
 use Rattle.dap_message.specs.declared.profile.Kind.TheVariants.{Request, Response, Event}
 use Rattle.dap_message.specs.Message.{Sent}
 use Rattle.dap_session.specs.Messages.{side_of, kind_of, other, same_side, same_kind, is_request, is_response, is_event, is_from}
+
+pub same_side-Decides : (s r : Side) → Decides (same_side s r) (s ≡ r)
+same_side-Decides Client Client = (λ h. refl, λ h. refl)
+same_side-Decides Client Adapter = (λ h. absurd (cc), λ h. absurd (cc))
+same_side-Decides Adapter Client = (λ h. absurd (cc), λ h. absurd (cc))
+same_side-Decides Adapter Adapter = (λ h. refl, λ h. refl)
+
+-- what is from a side has that side
+pub from_side : (side : Side) (m : Sent) → is_from side m ≡ true → side ≡ side_of m
+from_side side m h = (same_side-Decides side (side_of m)).0 h
 
 other_side : (s r : Side) → same_side s r ≡ false → same_side (other s) r ≡ true
 other_side Client Client h = absurd (cc)
@@ -39,27 +50,6 @@ event_kind Event h = (refl, refl)
 
 pub event_alone : (m : Sent) → is_event m ≡ true → (is_request m ≡ false) × (is_response m ≡ false)
 event_alone m h = event_kind (kind_of m) h
-
--- parts of a conjunction
-pub left : (a b : Bool) → a && b ≡ true → a ≡ true
-left true b h = refl
-left false b h = absurd (cc)
-
-pub right : (a b : Bool) → a && b ≡ true → b ≡ true
-right true b h = h
-right false b h = absurd (cc)
-
-pub same_sides : (s r : Side) → same_side s r ≡ true → s ≡ r
-same_sides Client Client h = refl
-same_sides Client Adapter h = absurd (cc)
-same_sides Adapter Client h = absurd (cc)
-same_sides Adapter Adapter h = refl
-
-pub both : (a b : Bool) → a ≡ true → b ≡ true → a && b ≡ true
-both a b h g = subst (λ x. x && b ≡ true) (sym h) g
-
-pub left_false : (a b : Bool) → a ≡ false → a && b ≡ false
-left_false a b h = ap (λ x. x && b) h
 
 pub other_other : (s : Side) → other (other s) ≡ s
 other_other Client = refl

@@ -3,6 +3,7 @@ use Rattle.std.proofs.Common.{◌≡◌, ℕ, ℤ, Bool, true, false, cond, not,
 use Rattle.std.specs.Str.{bytes_eq}
 use Rattle.std.specs.List.{list_any}
 use Rattle.std.specs.Option.{is_some}
+use Rattle.std.proofs.lemmas.Bool.{and_from, and_parts}
 use Rattle.dap_tree.specs.declared.side.Side.{Side}
 use Rattle.dap_tree.specs.declared.side.Side.TheVariants.{Client, Adapter}
 use Rattle.dap_message.specs.Message.{Sent}
@@ -16,10 +17,10 @@ use Rattle.dap_session.specs.Judged.{judged, tells, found_at, has_answer, has_ot
 use Rattle.dap_session.specs.Standing.{Stands, AreRequests, IsPhase, request_at}
 use Rattle.dap_session.proofs.Pushed.{any_push, request_at-any, none_with, one_with}
 use Rattle.dap_session.proofs.Requested.{requests_follow, map_none}
-use Rattle.dap_session.proofs.Judging.{may_follow, told_none, request_output}
+use Rattle.dap_session.proofs.Judging.{after_and, may_follow, told_none, request_output}
 use Rattle.dap_session.proofs.Initializing.{started_is, waiting_is, asked_is, phase_asks, phase_goes}
 use Rattle.dap_session.proofs.Keeping.{none_keep, keeps_push}
-use Rattle.dap_session.proofs.Sides.{left, right, both, no_response}
+use Rattle.dap_session.proofs.Sides.{no_response}
 
 -- ---- what a session tells is what the list says
 
@@ -105,22 +106,14 @@ new_stands k c a p i f d = record {
 flag_push : (p : Sent → Bool) (b : Bool) (ms : List Sent) (m : Sent) → b ≡ list_any p ms → (b || p m) ≡ list_any p (ms ++ m ∷ [])
 flag_push p b ms m h = ap (λ x. x || p m) h ∙ sym (any_push p ms m)
 
-started_none : (b : Bool) → not b ≡ true → b ≡ false
-started_none true h = absurd (cc)
-started_none false h = refl
-
-and_false : (a b : Bool) → a ≡ true → a && b ≡ false → b ≡ false
-and_false true b h g = g
-and_false false b h g = absurd (cc)
-
 phase_step : (k : Kept) (ms : List Sent) (m : Sent) (b : Bool) → is_client_initialize m ≡ b → Stands k ms → judged k m ≡ None → IsPhase (phase_after k.phase m) (ms ++ m ∷ [])
 unfolding tells
 phase_step k ms m true h s j =
-    let client : is_from Client m ≡ true = left (is_from Client m) (is_initialize m) h in
-    let initialize : is_initialize m ≡ true = right (is_from Client m) (is_initialize m) h in
-    let request : is_request m ≡ true = left (is_request m) _ initialize in
-    let twice : list_any is_client_initialize ms ≡ false = sym (started_is k.phase ms s.phase) ∙ and_false _ _ initialize (told_none k m j (request_output m request) InitializeTwice) in
-    let new = (may_follow k m Client j).asks (both _ _ request client) in
+    let client : is_from Client m ≡ true = (and_parts _ (is_initialize m) h).0 in
+    let initialize : is_initialize m ≡ true = (and_parts (is_from Client m) _ h).1 in
+    let request : is_request m ≡ true = (and_parts (is_request m) _ initialize).0 in
+    let twice : list_any is_client_initialize ms ≡ false = sym (started_is k.phase ms s.phase) ∙ after_and _ _ initialize (told_none k m j (request_output m request) InitializeTwice) in
+    let new = (may_follow k m Client j).asks (and_from _ _ request client) in
     let none : request_at Client (seq_of m) ms ≡ None = map_none Client ms (seq_of m) (request_at Client (seq_of m) ms) (sym (s.client.listed (seq_of m)) ∙ new) in
     let silent : is_response_to Client (seq_of m) m ≡ false = ap (λ x. x && is_from Adapter m && is_number (request_seq_of m) (seq_of m)) (no_response m request) in
     phase_asks k.phase ms m h twice (s.client.asked (seq_of m) none) silent
