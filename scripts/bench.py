@@ -1,4 +1,4 @@
-"""Measures `dapnorm` on generated frames and sessions, `compact` and `normalise` beside short Python scripts that do the same work."""
+"""Measures `dapnorm` on generated frames and sessions, `compact`, `normalise` and `compare` beside short Python scripts that do the same work."""
 import hashlib
 import json
 import os
@@ -9,10 +9,13 @@ import sys
 import tempfile
 import time
 
+from one_direction import records
+
 TOP = os.path.dirname(os.path.dirname(os.path.abspath(__file__)))
 PROGRAM = os.path.join(TOP, "bin", "dapnorm")
 SIZE = 50_000_000
 SESSION_SIZES = (1_000_000, 10_000_000, 100_000_000)
+COMPARED_SIZES = (10_000_000, 100_000_000)
 REQUESTS = (100_000, 1_000_000)
 ROUNDS = 3
 INITIALIZE = {"seq": 0, "type": "request", "command": "initialize", "arguments": {"adapterID": "mock"}}
@@ -141,12 +144,12 @@ def measure(arguments, given):
     return best, memory, digest
 
 
-def beside_script(command, path, size):
-    """The command beside the script that does the same; the two write the same bytes."""
+def beside_script(command, path, size, files=()):
+    """The command beside the script that does the same, from a file as input; the two write the same bytes."""
     rows = {}
     for name, arguments in [
-        (f"dapnorm {command}", [PROGRAM, command]),
-        ("python script", [sys.executable, os.path.join(TOP, "scripts", f"{command}_reference.py")]),
+        (f"dapnorm {command}", [PROGRAM, command, *files]),
+        ("python script", [sys.executable, os.path.join(TOP, "scripts", f"{command}_reference.py"), *files]),
     ]:
         seconds, memory, digest = rows[name] = measure(arguments, path)
         print(f"{name:18} {seconds:6.2f} s {size / 1e6 / seconds:7.1f} MB/s {memory / 1e6:8.1f} MB of memory")
@@ -156,6 +159,30 @@ def beside_script(command, path, size):
     print(f"the same bytes, {theirs / ours:.1f} times as fast as the script")
 
 
+def write_renumbered(path, other):
+    """A session that is the same, with other numbers of frames and of the client's requests."""
+    with open(path, "rb") as source, open(other, "wb") as target:
+        for side, _, content in records(source.read()):
+            message = json.loads(content)
+            if side == "client":
+                message["seq"] += 1_000_000
+            elif message["type"] == "response":
+                message["request_seq"] += 1_000_000
+            for frame in message.get("body", {}).get("stackFrames", []):
+                frame["id"] += 7
+            target.write(record(side, message))
+
+
+def compare_sessions(folder):
+    one, other = os.path.join(folder, "session"), os.path.join(folder, "other")
+    for wanted in COMPARED_SIZES:
+        generate_session(one, wanted)
+        write_renumbered(one, other)
+        size = os.path.getsize(one) + os.path.getsize(other)
+        print(f"two sessions of {size / 1e6:.1f} MB together, the shortest of {ROUNDS} runs each")
+        beside_script("compare", os.devnull, size, [one, other])
+
+
 def main():
     with tempfile.TemporaryDirectory() as folder:
         given = os.path.join(folder, "frames")
@@ -163,6 +190,7 @@ def main():
         print(f"{size / 1e6:.1f} MB in {count} frames, the shortest of {ROUNDS} runs each")
         beside_script("compact", given, size)
         normalise_sessions(folder)
+        compare_sessions(folder)
         check_requests(folder)
 
 

@@ -82,16 +82,19 @@ def rename(names, sorts, side, path, value):
     return table.setdefault(value, len(table) + 1)
 
 
-def normalised(recording):
-    """The normal text of a recording that is accepted."""
-    names, out = {}, []
+def normal_records(names, recording):
+    """The records of the normal text of a recording that is accepted, one by one. `names` gets the names of its ids, by sort."""
     for side, _, content in records(recording):
         message = json.loads(content)
         fill(side, message)
         message = rename(names, dict(places(message)), side, "", message)
         content = json.dumps(message, separators=(",", ":"), ensure_ascii=False).encode()
-        out.append(b"%sContent-Length: %d\r\n\r\n%s\n" % (MARKERS[side], len(content), content))
-    return b"".join(out)
+        yield b"%sContent-Length: %d\r\n\r\n%s\n" % (MARKERS[side], len(content), content)
+
+
+def normalised(recording):
+    """The normal text of a recording that is accepted."""
+    return b"".join(normal_records({}, recording))
 
 
 if __name__ == "__main__":

@@ -39,6 +39,7 @@ def main():
             ("the captures of real adapters", "captures.py"),
             ("their messages typed", "typed_recordings.py"),
             ("the normal form", "normal_form.py"),
+            ("recordings compared", "comparing.py"),
             ("growths of memory refused in turn", "fault_injection.py"),
             ("what the documents name", "documents.py"),
             ("the document of the profile", "profile.py"),

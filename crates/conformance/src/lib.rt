@@ -12,6 +12,10 @@ mod command_lines;
 #[cfg(test)]
 mod compacting;
 #[cfg(test)]
+mod compare_refused_growths;
+#[cfg(test)]
+mod comparing;
+#[cfg(test)]
 mod devices;
 #[cfg(test)]
 mod examples;

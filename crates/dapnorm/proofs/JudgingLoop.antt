@@ -204,8 +204,8 @@ module _ (limits : Limits) (keep : Keep) (whole rest : List ℕ) (reader : Recor
                 adapter = adapter was.messages was.names was.stands;
               };
               text =
-                λ all. canonical limits sound bytes given.text.items
-                    (record { messages = was.messages; accepts = accepts; normal = was.names; is_normal = was.stands.is_normal; text_is = text_given ∙ was.text_is all });
+                  λ all. canonical limits sound bytes given.text.items
+                  (record { messages = was.messages; accepts = accepts; normal = was.names; is_normal = was.stands.is_normal; text_is = text_given ∙ was.text_is all });
             }
 
         pub is_cut : ((number : ℕ) (held : List ℕ) → Reads reader number held → held ≢ []) → IsFirstRefusal (accepting limits) bytes n cut
