@@ -112,7 +112,7 @@ made_by-id r side d p s z = go (sort_of side r.want) (is_asked r.kind r.name d &
     go (Some t) true = refl
     go (Some t) false = refl
 
-made-id : (rs : List ProfileRow) (side : Side) (d : Doc) (p : List Step) (s : Sort) (z : ℤ) → made rs side d p (id s z) ≡ id s z
+pub made-id : (rs : List ProfileRow) (side : Side) (d : Doc) (p : List Step) (s : Sort) (z : ℤ) → made rs side d p (id s z) ≡ id s z
 made-id [] side d p s z = refl
 made-id (r ∷ rs) side d p s z = ap (made rs side d p) (made_by-id r side d p s z) ∙ made-id rs side d p s z
 
@@ -168,7 +168,7 @@ pub one_cause : (o : Option Cause) → first_cause (o ∷ []) ≡ None → o ≡
 one_cause None h = refl
 one_cause (Some c) h = cc
 
-abbrev Stands : Want → Option Doc → Type 0
+abbrev pub Stands : Want → Option Doc → Type 0
 Stands w o = (e : Doc) × (o ≡ Some e) × (has_type w e ≡ true)
 
 has_it : (b c : Bool) → cond b None (cond (c && false) None (Some WrongType)) ≡ None → b ≡ true
@@ -180,7 +180,7 @@ judged_well : (w : Want) (o : Option Doc) → judged w true o ≡ None → Stand
 judged_well w None h = cc
 judged_well w (Some e) h = (e, refl, has_it (has_type w e) (is_null e) h)
 
-row_free : (n : ℕ) (kd : Option Kind) (nm : Option (List ℕ)) (k : List ℕ) (w : Want) (d : Doc) → is_object d ≡ true → is_asked kd nm d ≡ true
+pub row_free : (n : ℕ) (kd : Option Kind) (nm : Option (List ℕ)) (k : List ℕ) (w : Want) (d : Doc) → is_object d ≡ true → is_asked kd nm d ≡ true
     → row_fault (record { number = n; kind = kd; name = nm; place = named k ∷ []; want = w; needed = true }) d ≡ None → Stands w (get k d)
 row_free n kd nm k w d ob asked h =
     let a : option_map (of_row n) (broken_at (named k ∷ []) w true d) ≡ None = rw asked at h in
@@ -272,7 +272,7 @@ as_flag (list ds) h = cc
 as_flag (object ms) h = cc
 as_flag (id s z) h = cc
 
-as_own : (e : Doc) → has_type OwnSeq e ≡ true → (n : ℤ) × (e ≡ whole n) × (is_id_number n ≡ true)
+pub as_own : (e : Doc) → has_type OwnSeq e ≡ true → (n : ℤ) × (e ≡ whole n) × (is_id_number n ≡ true)
 as_own null h = cc
 as_own (boolean b) h = cc
 as_own (whole z) h = (z, refl, h)
@@ -281,7 +281,7 @@ as_own (list ds) h = cc
 as_own (object ms) h = cc
 as_own (id s z) h = cc
 
-as_other : (e : Doc) → has_type OtherSeq e ≡ true → (n : ℤ) × (e ≡ whole n) × (is_id_number n ≡ true)
+pub as_other : (e : Doc) → has_type OtherSeq e ≡ true → (n : ℤ) × (e ≡ whole n) × (is_id_number n ≡ true)
 as_other null h = cc
 as_other (boolean b) h = cc
 as_other (whole z) h = (z, refl, h)
@@ -308,16 +308,16 @@ other_is Adapter n h = (refl, h)
 
 -- ---- all together
 
-abbrev row_1 : ProfileRow
+abbrev pub row_1 : ProfileRow
 row_1 = record { number = 1; kind = None; name = None; place = named (codes "seq") ∷ []; want = OwnSeq; needed = true }
 
-abbrev row_2 : ProfileRow
+abbrev pub row_2 : ProfileRow
 row_2 = record { number = 2; kind = Some Request; name = None; place = named (codes "command") ∷ []; want = Text; needed = true }
 
-abbrev row_3 : ProfileRow
+abbrev pub row_3 : ProfileRow
 row_3 = record { number = 3; kind = Some Event; name = None; place = named (codes "event") ∷ []; want = Text; needed = true }
 
-abbrev row_4 : ProfileRow
+abbrev pub row_4 : ProfileRow
 row_4 = record { number = 4; kind = Some Response; name = None; place = named (codes "request_seq") ∷ []; want = OtherSeq; needed = true }
 
 abbrev row_5 : ProfileRow

@@ -12,7 +12,7 @@ use Rattle.dap_message.specs.Faults.{Fits, has_kind, row_broken}
 use Rattle.dap_message.specs.Message.{IsTyped, IsTypedContent}
 use Rattle.dap_message.specs.Places.{PlaceStep, named, each, found, is_object, list_of}
 use Rattle.dap_message.specs.Profile.{profile}
-use Rattle.dap_message.specs.Rows.{ProfileRow, is_asked, is_id_number, has_type, judged, first_cause, broken_at, of_row, row_fault, first_fault}
+use Rattle.dap_message.specs.Rows.{ProfileRow, is_asked, is_id_number, judged, first_cause, broken_at, of_row, row_fault, first_fault}
 use Rattle.dap_message.specs.Views.{number_value, reference_value, frame_from, scope_from, variable_from, frame_of, scope_of, variable_of, frames_of, scopes_of, variables_of, listed, listed_frames, listed_scopes, listed_variables, are_frames, are_scopes, are_variables, shows_all}
 use Rattle.dap_message.specs.declared.broken.Cause.{Cause}
 use Rattle.dap_message.specs.declared.broken.Cause.TheVariants.{WrongType}

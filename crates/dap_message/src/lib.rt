@@ -20,6 +20,8 @@ mod profile;
 mod tests;
 mod typing;
 mod views;
+#[cfg(test)]
+mod views_tests;
 
 pub use dap_tree::Side;
 pub use fault::MessageFault;
