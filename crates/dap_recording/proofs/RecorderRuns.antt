@@ -28,7 +28,7 @@ of_side-append {A} side xs ys =
     ap (map (λ (x : Side × A). x.1)) (filter-append (λ (x : Side × A). is_side side x.0) xs ys)
     ∙ map-append (λ (x : Side × A). x.1) (filter (λ (x : Side × A). is_side side x.0) xs) (filter (λ (x : Side × A). is_side side x.0) ys)
 
-same_side : (s : Side) (bytes : List ℕ) → of_side s (sent_by s bytes) ≡ bytes
+pub same_side : (s : Side) (bytes : List ℕ) → of_side s (sent_by s bytes) ≡ bytes
 same_side Client [] = refl
 same_side Client (b ∷ bytes) = ap (λ xs. b ∷ xs) (same_side Client bytes)
 same_side Adapter [] = refl
@@ -52,7 +52,7 @@ none_of_side Client Adapter content e = refl
 none_of_side Adapter Client content e = refl
 none_of_side Adapter Adapter content e = absurd (let f : ⊥ = cc in f)
 
-bytes_of_side : (s : Side) (taken : List (Side × ℕ)) (bytes : List ℕ) → of_side s (taken ++ sent_by s bytes) ≡ of_side s taken ++ bytes
+pub bytes_of_side : (s : Side) (taken : List (Side × ℕ)) (bytes : List ℕ) → of_side s (taken ++ sent_by s bytes) ≡ of_side s taken ++ bytes
 bytes_of_side s taken bytes = of_side-append s taken (sent_by s bytes) ∙ ap (λ ys. of_side s taken ++ ys) (same_side s bytes)
 
 pub bytes_of_other : (side s : Side) (taken : List (Side × ℕ)) (bytes : List ℕ) → is_side side s ≡ false
@@ -86,7 +86,7 @@ no_frame_in_nothing limits has = nothing has.frame has.more has.content has.byte
     nothing (b ∷ frame) more content e is = cc
 
 -- a frame at the front of bytes is one at the front of more bytes
-frame_of_more : (limits : FrameLimits) (bytes more : List ℕ) → HasFrame limits bytes → HasFrame limits (bytes ++ more)
+pub frame_of_more : (limits : FrameLimits) (bytes more : List ℕ) → HasFrame limits bytes → HasFrame limits (bytes ++ more)
 frame_of_more limits bytes more has = record {
   frame = has.frame;
   more = has.more ++ more;
@@ -160,7 +160,7 @@ sent_front s (b ∷ bytes) (x ∷ p) q e =
 module _ (limits : FrameLimits) (s : Side) (taken : List (Side × ℕ)) (bytes : List ℕ) (ms : List (Side × List ℕ)) (rests : Side → List ℕ)
     (was : AreRecorded limits taken ms rests) where
   -- while the frame goes on nothing is recorded
-  recorded_on : ((front back : List ℕ) → bytes ≡ front ++ back → HasFrame limits (rests s ++ front) → ⊥)
+  pub recorded_on : ((front back : List ℕ) → bytes ≡ front ++ back → HasFrame limits (rests s ++ front) → ⊥)
       → AreRecorded limits (taken ++ sent_by s bytes) ms (with_rest s (rests s ++ bytes) rests)
   recorded_on none = record {
     all = goes_on limits s taken bytes ms rests was.all (none bytes [] (sym (append-nil bytes)));
@@ -199,7 +199,7 @@ module _ (limits : FrameLimits) (s : Side) (taken : List (Side × ℕ)) (bytes :
           (subst (λ xs. IsFrame limits xs content) (ap (λ xs. rests s ++ xs) e ∙ sym (append_assoc (rests s) front (b ∷ back))) is)),
     )
 
-    recorded_frame : AreRecorded limits (taken ++ sent_by s bytes) (ms ++ (s, content) ∷ []) (with_rest s [] rests)
+    pub recorded_frame : AreRecorded limits (taken ++ sent_by s bytes) (ms ++ (s, content) ∷ []) (with_rest s [] rests)
     recorded_frame = record {
       all = frame_ends limits s taken bytes content ms rests was.all is;
       so_far = λ front back e. elim (fronts taken (sent_by s bytes) front back e) [
@@ -227,7 +227,7 @@ nothing_ended limits bytes e = subst (λ xs. HaveEnded limits xs [] (λ side. []
     each : HaveEnded limits [] [] (λ side. [])
     each side = record { front = []; frames = refl; whole = refl; no_frame = no_frame_in_nothing limits }
 
-nothing_recorded : (limits : FrameLimits) → AreRecorded limits [] [] (λ side. [])
+pub nothing_recorded : (limits : FrameLimits) → AreRecorded limits [] [] (λ side. [])
 nothing_recorded limits = record {
   all = nothing_ended limits [] refl;
   so_far = λ front back e. ([], [], (λ side. []), refl, nothing_ended limits front (none front back e));
@@ -237,7 +237,7 @@ nothing_recorded limits = record {
     none [] back e = refl
     none (x ∷ front) back e = absurd (let f : ⊥ = cc in f)
 
-rest_with : (s : Side) (rest : List ℕ) (rests : Side → List ℕ) → with_rest s rest rests s ≡ rest
+pub rest_with : (s : Side) (rest : List ℕ) (rests : Side → List ℕ) → with_rest s rest rests s ≡ rest
 rest_with Client rest rests = refl
 rest_with Adapter rest rests = refl
 

@@ -16,7 +16,7 @@ use Rattle.dap_recording.proofs.Fronts.{heads, is_empty}
 use Rattle.dap_recording.proofs.RecordUnique.{marker_one}
 
 -- one piece more at the end
-trace_push : (front last : List ℕ) (side : Side) (raw : List ℕ) (pieces : List (Side × List ℕ)) → IsTrace front pieces
+pub trace_push : (front last : List ℕ) (side : Side) (raw : List ℕ) (pieces : List (Side × List ℕ)) → IsTrace front pieces
     → IsPiece last side raw → IsTrace (front ++ last) (pieces ++ (side, raw) ∷ [])
 trace_push front last side raw [] none is = (last, [], is, ap (λ xs. xs ++ last) none ∙ sym (append-nil last), refl)
 trace_push front last side raw (p ∷ pieces) all is =

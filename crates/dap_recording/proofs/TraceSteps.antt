@@ -107,7 +107,7 @@ bad_piece_marker bytes input none some other = at_marker (get_or input 0 0) (dro
 pub at_trace_state : (reader : TraceReading) (piece : ℕ) (bytes raw : List ℕ) (state : TraceState) → reader.state ≡ state → StandsForPiece reader piece bytes raw → IsKeptOfPiece state bytes raw
 at_trace_state reader piece bytes raw state e stands = subst (λ s. IsKeptOfPiece s bytes raw) e stands.kept
 
-begun : (count : Count) (text : List ℕ) → IsCountOf count text → (text ≡ []) ⊎ IsCount text
+pub begun : (count : Count) (text : List ℕ) → IsCountOf count text → (text ≡ []) ⊎ IsCount text
 begun count [] is = inl refl
 begun count (x ∷ xs) is = inr (record {
   some = omega arith;

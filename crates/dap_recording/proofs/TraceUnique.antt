@@ -41,7 +41,7 @@ and_front true false z e = e
 and_front false y z e = e
 
 -- no LF stands among digits
-no_lf : (text front more : List ℕ) → list_all is_ascii_digit text ≡ true → text ≡ front ++ 10 ∷ more → ⊥
+pub no_lf : (text front more : List ℕ) → list_all is_ascii_digit text ≡ true → text ≡ front ++ 10 ∷ more → ⊥
 no_lf text front more digits e =
     and_false (list_all is_ascii_digit front) (sym (list_all-append is_ascii_digit front (10 ∷ more)) ∙ ap (list_all is_ascii_digit) (sym e) ∙ digits)
 
@@ -89,7 +89,7 @@ counted_apart text t raw m b is begun end bad e =
       ]
     ]
 
-counted_one : (a b m n : List ℕ) → IsCount a → IsCount b → a ++ 10 ∷ m ≡ b ++ 10 ∷ n → (a ≡ b) × (m ≡ n)
+pub counted_one : (a b m n : List ℕ) → IsCount a → IsCount b → a ++ 10 ∷ m ≡ b ++ 10 ∷ n → (a ≡ b) × (m ≡ n)
 counted_one a b m n is_a is_b e =
     elim (meet a b m n 10 10 e) [
       | inl one ↦ (one.0, one.2)

@@ -5,15 +5,12 @@ use Rattle.std.specs.Ordering.{int_eq}
 use Rattle.std.proofs.lemmas.Bool.Decides.{Decides-int_eq}
 use lib.Dec.{ltb}
 use Rattle.std.proofs.lemmas.Bool.{ltb-true, ltb-false}
+use Rattle.std.proofs.lemmas.List.Folds.{list_any-append}
 use Rattle.dap_rename.specs.Numbering.{add, add_all, numbers, table}
 
 pub by_bool : {P : Type 0} (b : Bool) → (b ≡ true → P) → (b ≡ false → P) → P
 by_bool true f g = f refl
 by_bool false f g = g refl
-
-pub any-append : {X : Type 0} (p : X → Bool) (xs ys : List X) → list_any p (xs ++ ys) ≡ (list_any p xs || list_any p ys)
-any-append p [] ys = refl
-any-append p (x ∷ xs) ys = grind (arith, any-append p xs ys)
 
 pub add_all-append : (t xs ys : List ℤ) → add_all t (xs ++ ys) ≡ add_all (add_all t xs) ys
 add_all-append t [] ys = refl
@@ -26,7 +23,7 @@ pub any-add : (y x : ℤ) (t : List ℤ) → list_any (int_eq y) (add t x) ≡ (
 any-add y x t =
     by_bool (list_any (int_eq x) t)
     (λ h. by_bool (int_eq y x) (λ e. let q : list_any (int_eq y) t ≡ true = any-same y x t e h in rw (h, q) refl) (λ e. rw (h, e) (grind arith)))
-    (λ h. rw (h, any-append) (grind arith))
+    (λ h. rw (h, list_any-append) (grind arith))
 
 pub numbers-append : {K : Type 0} (same : K → K → Bool) (c : K) (xs ys : List (K × ℤ)) → numbers same c (xs ++ ys) ≡ numbers same c xs ++ numbers same c ys
 numbers-append same c [] ys = refl
@@ -77,14 +74,14 @@ place_up_to zero x h = cc
 place_up_to (suc k) x h =
     by_bool (list_any (int_eq x) (up_to k))
     (λ a. rw (at_end (int_eq x) (up_to k) (pos (suc k) ∷ []) a) (place_up_to k x a))
-    (λ a. let last : int_eq x (pos (suc k)) ≡ true = grind (arith, any-append (int_eq x) (up_to k) (pos (suc k) ∷ [])) in
+    (λ a. let last : int_eq x (pos (suc k)) ≡ true = grind (arith, list_any-append (int_eq x) (up_to k) (pos (suc k) ∷ [])) in
     let e : x ≡ pos (suc k) = (Decides-int_eq x (pos (suc k))).0 last in
     rw (past_end (int_eq x) (up_to k) (pos (suc k) ∷ []) a, length-up_to k) (e ∙ ap (λ n. pos (suc n)) (rw last (omega arith))))
 
 pub up_to-has : (k p : ℕ) → p < k → list_any (int_eq (pos (suc p))) (up_to k) ≡ true
 up_to-has zero p h = absurd (omega arith)
 up_to-has (suc k) p h =
-    rw any-append (by_bool (ltb p k)
+    rw list_any-append (by_bool (ltb p k)
     (λ a. rw (up_to-has k p (ltb-true p k a)) refl)
     (λ a. let e : p ≡ k = omega (arith, ltb-false p k a) in
     let l : int_eq (pos (suc p)) (pos (suc k)) ≡ true = (Decides-int_eq (pos (suc p)) (pos (suc k))).1 (ap (λ n. pos (suc n)) e) in grind (arith)))

@@ -22,7 +22,8 @@ use Rattle.dap_rename.specs.Renamings.{IsIn, AreRelated}
 use Rattle.dap_rename.specs.Pairs.{entries, same_sort}
 use Rattle.dap_rename.specs.Carrying.{has_pair, carries_doc, carries_items, carries_members, same_side, carries_sent, carries_list}
 use Rattle.dap_rename.specs.declared.pair.Pair.{Pair}
-use Rattle.dap_rename.proofs.Occurring.{sort_told, head_of, tail_of}
+use Rattle.dap_rename.proofs.Lists.{same_cons, head_of, tail_of}
+use Rattle.dap_rename.proofs.Occurring.{sort_told, same_sent}
 use Rattle.dap_rename.proofs.Sameness.{related_front}
 use Rattle.dap_rename.proofs.Standing.{first_class}
 
@@ -172,12 +173,6 @@ told_same_side Adapter Adapter h = refl
 told_same_side Client Adapter h = absurd cc
 told_same_side Adapter Client h = absurd cc
 
-pub message_of_parts : (s t : Side) (d e : Doc) → s ≡ t → d ≡ e → ◌≡◌ {A = Sent} (record { side = s; doc = d }) (record { side = t; doc = e })
-message_of_parts s t d e p q = rw (p, q) refl
-
-pub cons_messages : (a b : Sent) (xs ys : List Sent) → a ≡ b → xs ≡ ys → ◌≡◌ {A = List Sent} (a ∷ xs) (b ∷ ys)
-cons_messages a b xs ys e f = rw (e, f) refl
-
 pub list_carried : (ps : List Pair) (ms ns : List Sent) → carries_list ps ms ns ≡ true → Carries in_whole (entries ps) ms ns
 list_carried ps [] [] h = (refl, tt)
 list_carried ps (m ∷ ms) (n ∷ ns) h =
@@ -185,7 +180,7 @@ list_carried ps (m ∷ ms) (n ∷ ns) h =
     let b = and_parts (same_side m.side n.side) (carries_doc ps m.doc n.doc) a.0 in
     let first = doc_carried ps m.doc n.doc b.1 in
     let rest = list_carried ps ms ns a.1 in (
-      cons_messages (message_skeleton m) (message_skeleton n) _ _ (message_of_parts m.side n.side _ _ (same_side_told m.side n.side b.0) first.0) rest.0,
+      same_cons (message_skeleton m) (message_skeleton n) _ _ (same_sent m.side n.side _ _ (same_side_told m.side n.side b.0) first.0) rest.0,
       related-append (entries ps) (map (occurrence 0) (ids m.doc)) (occurrences in_whole 0 ms) (map (occurrence 0) (ids n.doc)) (occurrences in_whole 0 ns) first.1 rest.1,
     )
 list_carried ps ms ns h = absurd cc

@@ -85,8 +85,8 @@ longer l m AdapterSeq h = h.1.0
 longer l m Frame h = h.2.0
 longer l m Reference h = h.3.0
 
-pub add-longer : (t : List ℤ) (x : ℤ) → has t x ≡ false → length (add t x) ≡ length t + 1
-add-longer t x h = rw h (length-append t (x ∷ []))
+pub add-new : (t : List ℤ) (x : ℤ) → has t x ≡ false → length (add t x) ≡ length t + 1
+add-new t x h = rw h (length-append t (x ∷ []))
 
 -- a new number of a sort at its limit makes its list pass the limit
 pub over : (lim : Limits) (l : Lists) (is : List (Sort × ℤ)) (k : ℕ) (i : Sort × ℤ) → take (k + 1) is ≡ take k is ++ i ∷ [] → has (list_of (added_all l (take k is)) i.0) i.1 ≡ false →
@@ -96,7 +96,7 @@ over lim l is k i t new full =
     let e : added_all l is ≡ added_all (added m i.0 i.1) (drop (k + 1) is) =
     ap (added_all l) (sym (take-append-drop (k + 1) is)) ∙ added_all-append l (take (k + 1) is) (drop (k + 1) is) ∙ ap (λ a. added_all (added_all l a) (drop (k + 1) is)) t
     ∙ ap (λ a. added_all a (drop (k + 1) is)) (added_all-push l (take k is) i) in
-    let a : length (list_of (added m i.0 i.1) i.0) ≡ length (list_of m i.0) + 1 = rw list_of-added (add-longer (list_of m i.0) i.1 new) in
+    let a : length (list_of (added m i.0 i.1) i.0) ≡ length (list_of m i.0) + 1 = rw list_of-added (add-new (list_of m i.0) i.1 new) in
     let b = longer (added m i.0 i.1) (added_all (added m i.0 i.1) (drop (k + 1) is)) i.0 (all_begin (added m i.0 i.1) (drop (k + 1) is)) in
     let c : limit_of lim i.0 < length (list_of (added_all (added m i.0 i.1) (drop (k + 1) is)) i.0) = omega (arith, a, b, full) in
     (i.0, rw e c)

@@ -1,3 +1,4 @@
+pub mod Lists
 pub mod Additions
 pub mod Naming
 pub mod Related

@@ -6,8 +6,6 @@ use Rattle.std.specs.List.{list_any, list_all, position_or_len, AllByRecursion}
 use Rattle.std.specs.Ordering.{int_eq}
 use Rattle.std.proofs.lemmas.Bool.Decides.{Decides-int_eq}
 use Rattle.dap_tree.specs.Ids.{ids, sorts_of, numbers_of, with_ids}
-use Rattle.dap_tree.specs.declared.side.Side.{Side}
-use Rattle.dap_tree.specs.Doc.{Doc}
 use Rattle.dap_tree.specs.declared.sort.Sort.{Sort}
 use Rattle.dap_tree.proofs.Numbered.{ids-with_numbers, skeleton-with}
 use Rattle.dap_message.specs.Message.{Sent}
@@ -18,7 +16,8 @@ use Rattle.dap_rename.specs.Messages.{Class, AreProper, class_after, occurrence,
 use Rattle.dap_rename.specs.Laws.{IsToldBySkeleton, WholeIsTold, SomeNormal, NormalOfFront, NormalOfNext, NamesAreCounted, NamesAreSmall, SameCounts, FrontHasFewIds}
 use Rattle.dap_rename.proofs.Additions.{by_bool, numbers-append, add_all-append, any-table, up_to, length-up_to, place_up_to, place_below}
 use Rattle.dap_rename.proofs.Naming.{IsCounted, Counts, counted-push, counts-push, fresh-next, fresh-step, length-push}
-use Rattle.dap_rename.proofs.Occurring.{class_decides, class_sort, each_left, each_right, occurrences-append, occurrences-push, stops_alike, seconds}
+use Rattle.dap_rename.proofs.Lists.{same_cons, each_of, each-append, each_left, each_right}
+use Rattle.dap_rename.proofs.Occurring.{class_decides, class_sort, occurrences-append, occurrences-push, stops_alike, same_sent, seconds}
 use Rattle.dap_rename.proofs.Sameness.{alike, fresh_names, same_as_itself, same_is_proper, normal_is_unique, named_is_normal}
 
 pub whole_is_told : WholeIsTold
@@ -35,20 +34,14 @@ pub back_numbers : (os : List (Class × ℤ)) → numbers_of (back os) ≡ secon
 back_numbers [] = refl
 back_numbers (o ∷ os) = ap (λ t. o.1 ∷ t) (back_numbers os)
 
-pub cons_id : (a b : Sort) (x : ℤ) (xs ys : List (Class × ℤ)) (stops : ℕ) → a ≡ b → xs ≡ ys → ◌≡◌ {A = List (Class × ℤ)} ((class_after stops a, x) ∷ xs) ((class_after stops b, x) ∷ ys)
-cons_id a b x xs ys stops e f = rw (e, f) refl
-
 pub named_again : (stops : ℕ) (before : List (Class × ℤ)) (is : List (Sort × ℤ)) → map (occurrence stops) (back (named same_class before (map (occurrence stops) is))) ≡ named same_class before (map (occurrence stops) is)
 named_again stops before [] = refl
 named_again stops before (i ∷ is) =
-    cons_id (class_after stops i.0).0 i.0 (name same_class before (occurrence stops i)) _ _ stops (class_sort stops i.0) (named_again stops (before ++ occurrence stops i ∷ []) is)
+    same_cons _ _ _ _ (ap (λ s. (class_after stops s, name same_class before (occurrence stops i))) (class_sort stops i.0)) (named_again stops (before ++ occurrence stops i ∷ []) is)
 
 pub named_sorts : (stops : ℕ) (before : List (Class × ℤ)) (is : List (Sort × ℤ)) → sorts_of (back (named same_class before (map (occurrence stops) is))) ≡ sorts_of is
 named_sorts stops before [] = refl
-named_sorts stops before (i ∷ is) = two (class_after stops i.0).0 i.0 _ _ (class_sort stops i.0) (named_sorts stops (before ++ occurrence stops i ∷ []) is)
-  where
-    two : (a b : Sort) (xs ys : List Sort) → a ≡ b → xs ≡ ys → ◌≡◌ {A = List Sort} (a ∷ xs) (b ∷ ys)
-    two a b xs ys e f = rw (e, f) refl
+named_sorts stops before (i ∷ is) = same_cons (class_after stops i.0).0 i.0 _ _ (class_sort stops i.0) (named_sorts stops (before ++ occurrence stops i ∷ []) is)
 
 pub named-append : (before xs ys : List (Class × ℤ)) → named same_class before (xs ++ ys) ≡ named same_class before xs ++ named same_class (before ++ xs) ys
 named-append before [] ys = ap (λ b. named same_class b ys) (sym (append-nil before))
@@ -61,10 +54,7 @@ abbrev pub named_message : List (Class × ℤ) → ℕ → Sent → Sent
 named_message before stops m = record { side = m.side; doc = with_ids m.doc (names_of before stops m) }
 
 pub named_skeleton : (before : List (Class × ℤ)) (stops : ℕ) (m : Sent) → message_skeleton (named_message before stops m) ≡ message_skeleton m
-named_skeleton before stops m = of_doc m.side _ _ (skeleton-with m.doc _)
-  where
-    of_doc : (s : Side) (t u : Doc) → t ≡ u → ◌≡◌ {A = Sent} (record { side = s; doc = t }) (record { side = s; doc = u })
-    of_doc s t u e = rw e refl
+named_skeleton before stops m = same_sent m.side m.side _ _ refl (skeleton-with m.doc _)
 
 pub named_ids : (before : List (Class × ℤ)) (stops : ℕ) (m : Sent) → map (occurrence stops) (ids (named_message before stops m).doc) ≡ named same_class before (map (occurrence stops) (ids m.doc))
 named_ids before stops m =
@@ -73,12 +63,9 @@ named_ids before stops m =
     ∙ ap (map (occurrence stops)) (ids-with_numbers m.doc (back os) (named_sorts stops before (ids m.doc)))
     ∙ named_again stops before (ids m.doc)
 
-pub cons_sent : (a b : Sent) (xs ys : List Sent) → a ≡ b → xs ≡ ys → ◌≡◌ {A = List Sent} (a ∷ xs) (b ∷ ys)
-cons_sent a b xs ys e f = rw (e, f) refl
-
 pub normal_skeletons : (stop : Sent → ℕ) (before : List (Class × ℤ)) (stops : ℕ) (ms : List Sent) → map message_skeleton (normal_from stop before stops ms) ≡ map message_skeleton ms
 normal_skeletons stop before stops [] = refl
-normal_skeletons stop before stops (m ∷ ms) = cons_sent _ _ _ _ (named_skeleton before stops m) (normal_skeletons stop (before ++ map (occurrence stops) (ids m.doc)) (stops + stop m) ms)
+normal_skeletons stop before stops (m ∷ ms) = same_cons _ _ _ _ (named_skeleton before stops m) (normal_skeletons stop (before ++ map (occurrence stops) (ids m.doc)) (stops + stop m) ms)
 
 pub normal_occurrences : (stop : Sent → ℕ) → IsToldBySkeleton stop → (before : List (Class × ℤ)) (stops : ℕ) (ms : List Sent) → occurrences stop stops (normal_from stop before stops ms) ≡ named same_class before (occurrences stop stops ms)
 normal_occurrences stop told before stops [] = refl
@@ -116,10 +103,6 @@ pub normal_names : (stop : Sent → ℕ) (ms n : List Sent) → IsNormal stop ms
 unfolding IsNormal
 normal_names stop ms n h = let a = alike stop ms n h.0 in sym (fresh_names (occurrences stop 0 n) h.1) ∙ sym a.names
 
-pub each_push : {X : Type 0} (P : X → Type 0) (xs : List X) (x : X) → AllByRecursion P xs → P x → AllByRecursion P (xs ++ x ∷ [])
-each_push P [] x h p = (p, tt)
-each_push P (y ∷ xs) x h p = (h.0, each_push P xs x h.1 p)
-
 pub normal_of_next : NormalOfNext
 unfolding IsNormal
 normal_of_next stop told ms n m new p h r =
@@ -134,7 +117,7 @@ normal_of_next stop told ms n m new p h r =
     ∙ ap (λ t. named same_class [] (occurrences stop 0 ms) ++ t) r.names
     ∙ sym (named-append [] (occurrences stop 0 ms) os)
     ∙ ap (named same_class []) (sym (occurrences-push stop 0 ms m)) in
-    named_is_normal stop (ms ++ m ∷ []) (n ++ new ∷ []) (each_push _ ms m (same_is_proper stop ms n h.0).0 p) skeletons names
+    named_is_normal stop (ms ++ m ∷ []) (n ++ new ∷ []) (each-append _ ms (m ∷ []) (same_is_proper stop ms n h.0).0 (p, tt)) skeletons names
 
 -- ---- counts
 
@@ -205,10 +188,6 @@ names_are_counted stop ms n h c x i =
     let r = fresh_counted (occurrences stop 0 n) c x h.1 i in
     let count = same_counts stop ms n h.0 c in
     (r.0, r.1, omega (arith, r.2, count))
-
-pub each_of : {X : Type 0} (P : X → Type 0) (xs : List X) → ((x : X) → IsIn x xs → P x) → AllByRecursion P xs
-each_of P [] h = tt
-each_of P (x ∷ xs) h = (h x (inl refl), each_of P xs (λ y i. h y (inr i)))
 
 pub small_ids : (k : ℕ) (is : List (Sort × ℤ)) → AllByRecursion (λ o. is_small o.1 ≡ true) (map (occurrence k) is) → list_all (λ i. is_small i.1) is ≡ true
 small_ids k [] h = refl

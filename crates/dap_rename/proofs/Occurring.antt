@@ -1,6 +1,5 @@
 -- Laws of the ids of messages: their classes, their order, and that a list of messages is told by its skeletons and its ids.
-use Rattle.std.proofs.Common.{◌≡◌, ℕ, ◌+◌, ℤ, true, List, [], ◌∷◌, ◌++◌, map, take, drop, length, refl, sym, ◌∙◌, ap, arith, append_assoc, append-nil}
-use Rattle.std.proofs.Math.Seq.{take-append_seam, drop-append_seam}
+use Rattle.std.proofs.Common.{◌≡◌, ℕ, ◌+◌, ℤ, true, List, [], ◌∷◌, ◌++◌, map, length, refl, sym, ◌∙◌, ap, arith, append_assoc, append-nil}
 use Rattle.std.proofs.lemmas.List.{length-append, length-map}
 use Rattle.std.proofs.lemmas.Bool.Decides.{Decides-and, Decides-eqb, Decides-like}
 use Rattle.std.specs.Bool.{Decides}
@@ -8,6 +7,7 @@ use Rattle.std.specs.List.{AllByRecursion}
 use lib.Dec.{eqb}
 use Rattle.dap_tree.specs.Doc.{Doc}
 use Rattle.dap_tree.specs.Ids.{ids, skeleton, numbers_of, with_ids}
+use Rattle.dap_tree.specs.declared.side.Side.{Side}
 use Rattle.dap_tree.specs.declared.sort.Sort.{Sort}
 use Rattle.dap_tree.specs.declared.sort.Sort.TheVariants.{ClientSeq, AdapterSeq, Frame, Reference}
 use Rattle.dap_tree.proofs.Booleans.{and_left, and_right, and_both}
@@ -16,7 +16,7 @@ use Rattle.dap_message.specs.Message.{Sent}
 use Rattle.dap_message.specs.Numbers.{is_proper_number, are_proper}
 use Rattle.dap_rename.specs.Messages.{Class, IsProperId, AreProper, class_after, occurrence, occurrences, message_skeleton, same_class, sort_number, stops_after}
 use Rattle.dap_rename.specs.Laws.{IsToldBySkeleton}
-use Rattle.dap_rename.proofs.Related.{each-append}
+use Rattle.dap_rename.proofs.Lists.{same_cons, head_of, tail_of, front_told, rest_told, each-append, each_left, each_right}
 
 -- ---- classes
 
@@ -46,33 +46,7 @@ class_sort stops AdapterSeq = refl
 class_sort stops Frame = refl
 class_sort stops Reference = refl
 
--- ---- lists with two parts
-
-pub front_told : {X : Type 0} (a b c d : List X) → length a ≡ length c → a ++ b ≡ c ++ d → a ≡ c
-front_told a b c d n e = sym (take-append_seam a b) ∙ (ap (take (length a)) e ∙ (ap (λ k. take k (c ++ d)) n ∙ take-append_seam c d))
-
-pub rest_told : {X : Type 0} (a b c d : List X) → length a ≡ length c → a ++ b ≡ c ++ d → b ≡ d
-rest_told a b c d n e = sym (drop-append_seam a b) ∙ (ap (drop (length a)) e ∙ (ap (λ k. drop k (c ++ d)) n ∙ drop-append_seam c d))
-
-pub each_left : {X : Type 0} (P : X → Type 0) (xs ys : List X) → AllByRecursion P (xs ++ ys) → AllByRecursion P xs
-each_left P [] ys h = tt
-each_left P (x ∷ xs) ys h = (h.0, each_left P xs ys h.1)
-
-pub each_right : {X : Type 0} (P : X → Type 0) (xs ys : List X) → AllByRecursion P (xs ++ ys) → AllByRecursion P ys
-each_right P [] ys h = h
-each_right P (x ∷ xs) ys h = each_right P xs ys h.1
-
-pub head_of : {X : Type 0} {x y : X} {xs ys : List X} → ◌≡◌ {A = List X} (x ∷ xs) (y ∷ ys) → x ≡ y
-head_of h = cc
-
-pub tail_of : {X : Type 0} {x y : X} {xs ys : List X} → ◌≡◌ {A = List X} (x ∷ xs) (y ∷ ys) → xs ≡ ys
-tail_of h = cc
-
 -- ---- the order of occurrences
-
-pub stops-append : (stop : Sent → ℕ) (k : ℕ) (ms ns : List Sent) → stops_after stop k (ms ++ ns) ≡ stops_after stop (stops_after stop k ms) ns
-stops-append stop k [] ns = refl
-stops-append stop k (m ∷ ms) ns = stops-append stop (k + stop m) ms ns
 
 pub occurrences-append : (stop : Sent → ℕ) (k : ℕ) (ms ns : List Sent) → occurrences stop k (ms ++ ns) ≡ occurrences stop k ms ++ occurrences stop (stops_after stop k ms) ns
 occurrences-append stop k [] ns = refl
@@ -134,6 +108,9 @@ seconds-occurrences stop k (m ∷ ms) =
 pub doc_told : (d e : Doc) → skeleton d ≡ skeleton e → numbers_of (ids d) ≡ numbers_of (ids e) → d ≡ e
 doc_told d e h k = sym (with_own d) ∙ (ap (with_ids d) k ∙ with_others d e h)
 
+pub same_sent : (s t : Side) (d e : Doc) → s ≡ t → d ≡ e → ◌≡◌ {A = Sent} (record { side = s; doc = d }) (record { side = t; doc = e })
+same_sent s t d e p q = rw (p, q) refl
+
 pub messages_told : (ms ns : List Sent) → map message_skeleton ms ≡ map message_skeleton ns → all_numbers ms ≡ all_numbers ns → ms ≡ ns
 unfolding all_numbers
 messages_told [] [] h k = refl
@@ -145,11 +122,7 @@ messages_told (m ∷ ms) (n ∷ ns) h k =
     let d = doc_told m.doc n.doc (docs_alike m n e) (front_told (numbers_of (ids m.doc)) (all_numbers ms) (numbers_of (ids n.doc)) (all_numbers ns) count k) in
     let s : m.side ≡ n.side = ap (λ (w : Sent). w.side) e in
     let q = messages_told ms ns (tail_of h) (rest_told (numbers_of (ids m.doc)) (all_numbers ms) (numbers_of (ids n.doc)) (all_numbers ns) count k) in
-    same_messages m.side n.side m.doc n.doc ms ns s d q
-  where
-    same_messages : (a b : _) (t u : Doc) (ms ns : List Sent) → a ≡ b → t ≡ u → ms ≡ ns →
-        ◌≡◌ {A = List Sent} (record { side = a; doc = t } ∷ ms) (record { side = b; doc = u } ∷ ns)
-    same_messages a b t u ms ns p q r = rw (p, q, r) refl
+    same_cons m n ms ns (same_sent m.side n.side m.doc n.doc s d) q
 
 -- ---- no variables reference of 0
 

@@ -4,19 +4,14 @@ use Rattle.std.specs.List.{list_any, position_or_len, AllByRecursion}
 use Rattle.std.specs.Ordering.{int_eq}
 use Rattle.std.specs.Bool.{Decides}
 use Rattle.std.proofs.lemmas.Bool.Decides.{Decides-int_eq}
+use Rattle.std.proofs.lemmas.List.Folds.{list_any-append}
 use Rattle.dap_rename.specs.Numbering.{add, add_all, numbers, table, name, named}
 use Rattle.dap_rename.specs.Renamings.{IsIn, AreApart, IsRenaming, AreRelated, pairs_of_class, pairs}
-use Rattle.dap_rename.proofs.Additions.{by_bool, any-table, any-add, any-append, add_all-append, numbers-append, place_missing, past_end, at_end}
-use Rattle.dap_rename.proofs.Related.{Distinct, each-append, each-more, in_zip, in_pairs, at_each}
+use Rattle.dap_rename.proofs.Additions.{by_bool, any-table, any-add, add_all-append, numbers-append, place_missing, past_end, at_end}
+use Rattle.dap_rename.proofs.Lists.{head_of, tail_of, at_each, each-append, each-more}
+use Rattle.dap_rename.proofs.Related.{Distinct, in_zip, in_pairs}
 
 -- ---- the pairs are a renaming
-
-pub each_none : (x : ℤ) (t : List ℤ) → list_any (int_eq x) t ≡ false → AllByRecursion (λ y. x ≡ y → ⊥) t
-each_none x [] h = tt
-each_none x (y ∷ t) h =
-    by_bool (int_eq x y)
-    (λ a. absurd (true≢false (grind arith)))
-    (λ a. ((λ e. true≢false (sym ((Decides-int_eq x y).1 e) ∙ a)), each_none x t (grind arith)))
 
 pub distinct-push : (t : List ℤ) (x : ℤ) → Distinct t → list_any (int_eq x) t ≡ false → Distinct (t ++ x ∷ [])
 distinct-push [] x d h = (tt, tt)
@@ -94,12 +89,6 @@ place-add t x =
     (λ a. let e : int_eq x x ≡ true = (Decides-int_eq x x).1 refl in
     rw (a, past_end (int_eq x) t (x ∷ []) a, place_missing (int_eq x) t a, e) (omega arith))
 
-pub head_of : {X : Type 0} {x y : X} {xs ys : List X} → ◌≡◌ {A = List X} (x ∷ xs) (y ∷ ys) → x ≡ y
-head_of h = cc
-
-pub tail_of : {X : Type 0} {x y : X} {xs ys : List X} → ◌≡◌ {A = List X} (x ∷ xs) (y ∷ ys) → xs ≡ ys
-tail_of h = cc
-
 pub pos_suc : (a b : ℕ) → pos (suc a) ≡ pos (suc b) → a ≡ b
 pos_suc a b h = cc
 
@@ -119,7 +108,7 @@ module _ {K : Type 0} (same : K → K → Bool) (decides : (a b : K) → Decides
   there e os o =
       let s : same o.0 o.0 ≡ true = (decides o.0 o.0).1 refl in
       let i : int_eq o.1 o.1 ≡ true = (Decides-int_eq o.1 o.1).1 refl in
-      rw (any-table, numbers-append, s, any-append) (grind arith)
+      rw (any-table, numbers-append, s, list_any-append) (grind arith)
 
   pub paired : (XS YS e d xs ys : List (K × ℤ)) (a b : K × ℤ) → XS ≡ e ++ a ∷ xs → YS ≡ d ++ b ∷ ys → a.0 ≡ b.0 → name same e a ≡ name same d b →
       IsIn (a.0, a.1, b.1) (pairs_of_class a.0 (table same a.0 XS) (table same a.0 YS))

@@ -1,4 +1,4 @@
--- Laws of renamings: two lists are related by one exactly where they have the same names.
+-- Laws of renamings: two lists that one relates have the same names.
 use Rattle.std.proofs.Common.{◌≡◌, suc, inl, inr, ℤ, pos, Bool, true, List, [], ◌∷◌, ◌++◌, refl, sym, ◌∙◌, ap, arith, true≢false}
 use Rattle.std.specs.List.{list_any, position_or_len, AllByRecursion}
 use Rattle.std.specs.Ordering.{int_eq}
@@ -7,11 +7,7 @@ use Rattle.std.proofs.lemmas.Bool.Decides.{Decides-int_eq, Decides-like, same_fr
 use Rattle.dap_rename.specs.Numbering.{add, table, name, named}
 use Rattle.dap_rename.specs.Renamings.{IsIn, AreApart, IsRenaming, AreRelated, pairs_of_class, pairs}
 use Rattle.dap_rename.proofs.Additions.{by_bool, table-push}
-
-pub at_each : {X : Type 0} (P : X → Type 0) (x : X) (xs : List X) → AllByRecursion P xs → IsIn x xs → P x
-at_each P x [] h i = absurd i
-at_each P x (y ∷ xs) h (inl e) = rw e h.0
-at_each P x (y ∷ xs) h (inr i) = at_each P x xs h.1 i
+use Rattle.dap_rename.proofs.Lists.{at_each, in-left, in-right}
 
 pub same_head : {K : Type 0} (c d : K) (x y : ℤ) (xs ys : List (K × ℤ)) → c ≡ d → x ≡ y → xs ≡ ys → ◌≡◌ {A = List (K × ℤ)} ((c, x) ∷ xs) ((d, y) ∷ ys)
 same_head c d x y xs ys k h t = rw (k, h, t) refl
@@ -105,23 +101,6 @@ module _ {K : Type 0} (same : K → K → Bool) (decides : (a b : K) → Decides
 abbrev pub Distinct : {X : Type 0} → List X → Type 0
 Distinct [] = Unit {0}
 Distinct (x ∷ xs) = AllByRecursion (λ y. x ≡ y → ⊥) xs × Distinct xs
-
-pub in-left : {X : Type 0} (p : X) (xs ys : List X) → IsIn p xs → IsIn p (xs ++ ys)
-in-left p [] ys i = absurd i
-in-left p (x ∷ xs) ys (inl e) = inl e
-in-left p (x ∷ xs) ys (inr i) = inr (in-left p xs ys i)
-
-pub in-right : {X : Type 0} (p : X) (xs ys : List X) → IsIn p ys → IsIn p (xs ++ ys)
-in-right p [] ys i = i
-in-right p (x ∷ xs) ys i = inr (in-right p xs ys i)
-
-pub each-append : {X : Type 0} (P : X → Type 0) (xs ys : List X) → AllByRecursion P xs → AllByRecursion P ys → AllByRecursion P (xs ++ ys)
-each-append P [] ys h k = k
-each-append P (x ∷ xs) ys h k = (h.0, each-append P xs ys h.1 k)
-
-pub each-more : {X : Type 0} (P Q : X → Type 0) (xs : List X) → ((x : X) → P x → Q x) → AllByRecursion P xs → AllByRecursion Q xs
-each-more P Q [] f h = tt
-each-more P Q (x ∷ xs) f h = (f x h.0, each-more P Q xs f h.1)
 
 pub in_zip : {K : Type 0} (c : K) (x y : ℤ) (t u : List ℤ) → list_any (int_eq x) t ≡ true → list_any (int_eq y) u ≡ true →
     position_or_len (int_eq x) t ≡ position_or_len (int_eq y) u → IsIn (c, x, y) (pairs_of_class c t u)

@@ -15,9 +15,10 @@ use Rattle.dap_rename.specs.Messages.{Class, IsProperId, class_after, occurrence
 use Rattle.dap_rename.specs.Laws.{SameAsItself, SameBothWays, SameAlong, SameIsProper, SameFronts, FreshIsUnique, NormalIsUnique, NormalIsComplete, NamedIsNormal, NormalIsItsOwn, EqualPlacesRename, EqualPlacesCarry}
 use Rattle.dap_rename.proofs.Additions.{by_bool}
 use Rattle.dap_rename.proofs.Naming.{IsCounted, named-fresh, fresh_named}
-use Rattle.dap_rename.proofs.Related.{Tied, named-related, Distinct, each-append, each-more}
+use Rattle.dap_rename.proofs.Lists.{front_told, each-append, each-more}
+use Rattle.dap_rename.proofs.Related.{Tied, named-related, Distinct}
 use Rattle.dap_rename.proofs.Pairing.{pairs_renaming, related_by_pairs}
-use Rattle.dap_rename.proofs.Occurring.{class_decides, front_told, occurrences_alike, occurrences-append, messages_told, seconds, seconds-occurrences, proper_occurrences, proper_messages}
+use Rattle.dap_rename.proofs.Occurring.{class_decides, occurrences_alike, occurrences-append, messages_told, seconds, seconds-occurrences, proper_occurrences, proper_messages}
 
 -- ---- the classes of a list
 

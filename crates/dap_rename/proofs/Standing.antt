@@ -4,8 +4,6 @@ use Rattle.std.specs.List.{position_or_len}
 use Rattle.std.specs.Ordering.{int_eq}
 use Rattle.std.proofs.lemmas.Bool.{and_right, ne_eqb}
 use Rattle.dap_tree.specs.Ids.{ids, sorts_of, skeleton}
-use Rattle.dap_tree.specs.Doc.{Doc}
-use Rattle.dap_tree.specs.declared.side.Side.{Side}
 use Rattle.dap_tree.specs.declared.sort.Sort.{Sort}
 use Rattle.dap_tree.specs.declared.sort.Sort.TheVariants.{ClientSeq, AdapterSeq, Frame, Reference}
 use Rattle.dap_tree.proofs.Booleans.{and_both}
@@ -17,7 +15,7 @@ use Rattle.dap_rename.specs.Table.{place}
 use Rattle.dap_rename.specs.Tables.{Lists, list_of, added, added_all, names_from, table_of, lists, limit_of, limits, AllFit, SomeIsOver}
 use Rattle.dap_rename.specs.declared.tables.Tables.{Tables}
 use Rattle.dap_rename.proofs.Additions.{table-push}
-use Rattle.dap_rename.proofs.Occurring.{class_sort, same_itself, occurrences-push}
+use Rattle.dap_rename.proofs.Occurring.{class_sort, same_itself, same_sent, occurrences-push}
 use Rattle.dap_rename.proofs.Sameness.{proper_suc}
 
 -- the lists are the distinct numbers of each class behind so many stops
@@ -138,19 +136,10 @@ module _ {T : Type 0} (numbers_of : T → List ℤ) (limit : T → ℕ) where
         many = omega (arith, o.1, ap length (stand_added t ms m h o.0), limit_at t o.0, ap (λ s. limit (table_of t s)) (class_sort k o.0));
       }
 
-  pub unchanged : (t u : Tables T) → lists numbers_of u ≡ lists numbers_of t → (s : Sort) → numbers_of (table_of u s) ≡ numbers_of (table_of t s)
-  unchanged t u e s = sym (list_at u s) ∙ ap (λ l. list_of l s) e ∙ list_at t s
-
-  pub limits_unchanged : (t u : Tables T) → limits limit u ≡ limits limit t → (s : Sort) → limit (table_of u s) ≡ limit (table_of t s)
-  limits_unchanged t u e s = sym (limit_at u s) ∙ ap (λ l. limit_of l s) e ∙ limit_at t s
-
 -- a message with these names at its ids
 pub renamed : (ms : List Sent) (m new : Sent) (l : Lists) → new.side ≡ m.side → skeleton new.doc ≡ skeleton m.doc → ids new.doc ≡ zip (sorts_of (ids m.doc)) (names_from l (ids m.doc)) →
     StandAfter (stops_after in_whole 0 ms) l (occurrences in_whole 0 ms) → IsRenamed in_whole ms m new
 renamed ms m new l side skel numbered h = record {
-  skeleton = of_parts new.side m.side (skeleton new.doc) (skeleton m.doc) side skel;
+  skeleton = same_sent new.side m.side (skeleton new.doc) (skeleton m.doc) side skel;
   names = ap (map (occurrence (stops_after in_whole 0 ms))) numbered ∙ named_ids_are (stops_after in_whole 0 ms) l (occurrences in_whole 0 ms) (ids m.doc) h;
 }
-  where
-    of_parts : (a b : Side) (d e : Doc) → a ≡ b → d ≡ e → ◌≡◌ {A = Sent} (record { side = a; doc = d }) (record { side = b; doc = e })
-    of_parts a b d e p q = rw (p, q) refl

@@ -3,6 +3,7 @@ use Rattle.std.proofs.Common.{◌≡◌, ℕ, ◌<◌, ℤ, pos, Bool, true, fal
 use Rattle.std.proofs.lemmas.Bool.{le-ltb, ltb-true, ltb-false}
 use lib.Dec.{ltb}
 use Rattle.std.proofs.lemmas.Bool.Decides.{Decides-int_eq}
+use Rattle.std.proofs.lemmas.Cmp.{int_eq_equiv}
 use Rattle.std.proofs.lemmas.List.{get_or_append_left, get_or_at}
 use Rattle.std.proofs.lemmas.List.Sums.{passes_at_first, fails_before_first}
 use Rattle.std.specs.List.{list_any, position_or_len, position}
@@ -12,18 +13,7 @@ use Rattle.std.specs.Ordering.{int_cmp, int_eq}
 use Rattle.dap_rename.specs.Table.{AllDiffer}
 use Rattle.dap_rename.specs.Entries.{TellPlaces}
 use Rattle.dap_rename.proofs.Additions.{by_bool, at_end, past_end, place_below, place_missing}
-
-pub position-there : {X : Type 0} (p : X → Bool) (xs : List X) → list_any p xs ≡ true → position p xs ≡ Some (position_or_len p xs)
-position-there p xs h =
-    let l = place_below p xs h in
-    let t : ltb (position_or_len p xs) (length xs) ≡ true = grind arith in
-    rw t refl
-
-pub position-missing : {X : Type 0} (p : X → Bool) (xs : List X) → list_any p xs ≡ false → position p xs ≡ None
-position-missing p xs h =
-    let l = place_missing p xs h in
-    let t : ltb (position_or_len p xs) (length xs) ≡ false = le-ltb (position_or_len p xs) (length xs) (omega arith) in
-    rw t refl
+use Rattle.dap_rename.proofs.Places.{position-there, position-missing}
 
 -- a number that the list has is not a new one
 apart : (q x : ℤ) (t : List ℤ) → list_any (int_eq x) t ≡ false → list_any (int_eq q) t ≡ true → int_eq x q ≡ false
@@ -33,14 +23,6 @@ apart q x t new old =
     let has : list_any (int_eq x) t ≡ true = rw same old in
     absurd (cc))
     (λ e. e)
-
-turned : (x q : ℤ) → int_eq x q ≡ int_eq q x
-turned x q =
-    by_bool (int_eq x q)
-    (λ e. let back : int_eq q x ≡ true = (Decides-int_eq q x).1 (sym ((Decides-int_eq x q).0 e)) in e ∙ sym back)
-    (λ e. by_bool (int_eq q x)
-    (λ f. let back : int_eq x q ≡ true = (Decides-int_eq x q).1 (sym ((Decides-int_eq q x).0 f)) in absurd (cc))
-    (λ f. e ∙ sym f))
 
 -- the place of a number after a new one is put last
 pub position-push : (q x : ℤ) (t : List ℤ) → list_any (int_eq x) t ≡ false → position (int_eq q) (t ++ x ∷ []) ≡ cond (int_eq x q) (Some (length t)) (position (int_eq q) t)
@@ -56,12 +38,12 @@ position-push q x t new =
     (λ h. let l = past_end (int_eq q) t (x ∷ []) h in
     let was = position-missing (int_eq q) t h in
     by_bool (int_eq q x)
-    (λ e. let f : int_eq x q ≡ true = turned x q ∙ e in
+    (λ e. let f : int_eq x q ≡ true = int_eq_equiv.symm x q ∙ e in
     let here : position_or_len (int_eq q) (x ∷ []) ≡ 0 = rw e refl in
     let i : position_or_len (int_eq q) (t ++ x ∷ []) ≡ length t = omega (arith, l, here) in
     let below : ltb (position_or_len (int_eq q) (t ++ x ∷ [])) (length (t ++ x ∷ [])) ≡ true = grind (arith, i, size) in
     rw (f, below, i) refl)
-    (λ e. let f : int_eq x q ≡ false = turned x q ∙ e in
+    (λ e. let f : int_eq x q ≡ false = int_eq_equiv.symm x q ∙ e in
     let past : position_or_len (int_eq q) (x ∷ []) ≡ 1 = rw e refl in
     let above : ltb (position_or_len (int_eq q) (t ++ x ∷ [])) (length (t ++ x ∷ [])) ≡ false = le-ltb _ _ (omega (arith, l, past, size)) in
     rw (f, was, above) refl))

@@ -17,7 +17,7 @@ use Rattle.dap_session.specs.declared.rule.Rule.{Rule}
 abbrev pub RulesByPosition : Type 0
 RulesByPosition = (rule : Rule) (before after : List Sent) (m : Sent) → Decides (is_broken rule before m) (BreaksAt rule (before ++ m ∷ after) (length before) m)
 
--- What is told of a message is the first rule of the table that it breaks at its position.
+-- What is told of a message is the first rule of the list that it breaks at its position.
 abbrev pub FirstByPosition : Type 0
 FirstByPosition = (before after : List Sent) (m : Sent) →
     MatchOption (first_broken before m) (BreaksNone (before ++ m ∷ after) (length before) m) (λ rule. BreaksFirst rule (before ++ m ∷ after) (length before) m)

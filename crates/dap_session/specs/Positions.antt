@@ -98,7 +98,7 @@ IsOutput m = (IsFrom Adapter m × IsEvent m) × IsNamed (codes "output") m
 abbrev pub BreaksNone : List Sent → ℕ → Sent → Type 0
 BreaksNone ms k m = ¬ IsOutput m → (rule : Rule) → ¬ BreaksAt rule ms k m
 
--- It is no such event, breaks this rule, and breaks none that stands before it in the table.
+-- It is no such event, breaks this rule, and breaks none that stands before it in the list of rules.
 abbrev pub BreaksFirst : Rule → List Sent → ℕ → Sent → Type 0
 BreaksFirst rule ms k m =
     (i : ℕ) × (slice_get rules i ≡ Some rule) × (¬ IsOutput m) × BreaksAt rule ms k m

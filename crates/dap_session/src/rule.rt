@@ -44,7 +44,7 @@ pub enum Rule {
 /// Why a message was not taken.
 #[derive(Clone, Copy, Debug, PartialEq, Eq, Drop, Error)]
 pub enum SessionFault {
-    /// It breaks this rule, and none that stands before it in the table.
+    /// It breaks this rule, and none of those before it in [`Rule`].
     #[error(transparent)]
     Broken(Rule),
     /// A growth of memory was refused.
