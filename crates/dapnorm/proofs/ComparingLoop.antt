@@ -1,5 +1,5 @@
 -- What the loop of `compare` keeps, and what it may answer.
-use Rattle.std.proofs.Common.{◌≡◌, ◌≢◌, ◌⊎◌, inl, inr, ℕ, ◌+◌, ◌<◌, ◌≤◌, ◌^◌, ℤ, List, [], ◌∷◌, ◌++◌, length, take, drop, Option, Some, None, Vec, Global, Ok, Err, refl, sym, ◌∙◌, ap, subst, arith, append_assoc, append-nil, length-take, take-append-drop}
+use Rattle.std.proofs.Common.{◌≡◌, ◌⊎◌, inl, inr, ℕ, ◌+◌, ◌<◌, ◌^◌, List, [], ◌∷◌, ◌++◌, length, drop, Option, Some, None, Vec, Global, Ok, Err, refl, sym, ◌∙◌, ap, subst, arith, append_assoc, length-take, take-append-drop}
 use Rattle.std.proofs.lemmas.List.{append_cancel_left, length_push}
 use Rattle.dap_message.specs.Message.{Sent}
 use Rattle.dap_tree.specs.declared.sort.Sort.{Sort}
@@ -18,7 +18,7 @@ use Rattle.dapnorm.specs.declared.refused.Refused.TheVariants as why
 use Rattle.dapnorm.specs.declared.verdict.CompareRefused.TheVariants as because
 use Rattle.dapnorm.specs.declared.verdict.Which.TheVariants.{A, B}
 use Rattle.dapnorm.specs.Accepting.{IsAccepted, accepting, text}
-use Rattle.dapnorm.specs.Comparing.{Input, IsTaken, IsNotRefusedAt, AcceptedBefore, AreSameBefore, DifferAt, are_same, differ, refused_a, refused_b}
+use Rattle.dapnorm.specs.Comparing.{Input, IsTaken, IsNotRefusedAt, AcceptedBefore, AreSameBefore, are_same, differ}
 use Rattle.dapnorm.specs.ComparingSteps.{HasGone, HasNext, StandAlike, StandsBefore}
 use Rattle.dapnorm.specs.JudgingSteps.{record_of}
 use Rattle.dapnorm.specs.Limits.{AreSound}
@@ -65,6 +65,9 @@ as_told limits bytes messages normal old new (why.Rule n rule) told = inr ((λ s
 as_told limits bytes messages normal old new (why.TooManyIds n) told = inr ((λ same. absurd (let e = same in cc)), told)
 as_told limits bytes messages normal old new (why.Grew n) told = inr ((λ same. absurd (let e = same in cc)), told)
 as_told limits bytes messages normal old new (why.Incomplete client adapter) told = inr ((λ same. absurd (let e = same in cc)), told)
+as_told limits bytes messages normal old new (why.TraceTooLong m) told = inr ((λ same. absurd (let e = same in cc)), told)
+as_told limits bytes messages normal old new (why.Trace m cause) told = inr ((λ same. absurd (let e = same in cc)), told)
+as_told limits bytes messages normal old new (why.Recorder m fault) told = inr ((λ same. absurd (let e = same in cc)), told)
 as_told limits bytes messages normal old new why.ReadFault told = inr ((λ same. absurd (let e = same in cc)), told)
 as_told limits bytes messages normal old new why.WriteFault told = inr ((λ same. absurd (let e = same in cc)), told)
 as_told limits bytes messages normal old new why.Memory told = inl refl

@@ -1,6 +1,5 @@
 -- Normal texts are equal exactly where they hold messages that are the same.
-use Rattle.std.proofs.Common.{◌≡◌, ◌↔◌, ℕ, List, refl, sym, ◌∙◌, ap, subst}
-use Rattle.dap_message.specs.Message.{Sent}
+use Rattle.std.proofs.Common.{◌≡◌, ◌↔◌, ℕ, List, sym, ◌∙◌, ap, subst}
 use Rattle.dap_rename.specs.Messages.{AreSame, in_whole}
 use Rattle.dap_rename.proofs.Sameness.{normal_is_complete, normal_is_unique}
 use Rattle.dapnorm.specs.declared.limits.Limits.{Limits}

@@ -8,7 +8,7 @@ use Rattle.dapnorm.specs.declared.limits.Limits.{Limits}
 use Rattle.dapnorm.specs.declared.reading.Stop.{Stop}
 use Rattle.dapnorm.specs.declared.reading.Stop.TheVariants.{End}
 use Rattle.dapnorm.specs.declared.refused.Refused.{Refused}
-use Rattle.dapnorm.specs.declared.refused.Refused.TheVariants.{InputTooLong, Record, Json, Fraction, Message, Rule, TooManyIds, Grew, Incomplete, ReadFault, WriteFault, Memory}
+use Rattle.dapnorm.specs.declared.refused.Refused.TheVariants.{InputTooLong, Record, Json, Fraction, Message, Rule, TooManyIds, Grew, Incomplete, TraceTooLong, Trace, Recorder, ReadFault, WriteFault, Memory}
 use Rattle.dapnorm.specs.Accepting.{Held, AreMessages, IsAccepted, IsRefused}
 use Rattle.dapnorm.specs.Checking.{Checks}
 use Rattle.dapnorm.specs.Engine.{Accepts, Answers, RefusesInput}
@@ -47,6 +47,9 @@ module _ {R : Type 0} (left : R → Option (List ℕ)) (failures : R → ℕ) (l
   check_refuses complete (TooManyIds n) told = refuses (TooManyIds n) told
   check_refuses complete (Grew n) told = refuses (Grew n) told
   check_refuses complete (Incomplete client adapter) told = absurd told.0
+  check_refuses complete (TraceTooLong m) told = absurd told.0
+  check_refuses complete (Trace m why) told = absurd told.0
+  check_refuses complete (Recorder m fault) told = absurd told.0
   check_refuses complete ReadFault told = record { bytes = bytes; came = subst (HasCome left failures old new limits.input bytes) told.0 came; not_refused = told.1 }
   check_refuses complete WriteFault told = absurd told
   check_refuses complete Memory told = tt
@@ -76,6 +79,9 @@ module _ {R : Type 0} (left : R → Option (List ℕ)) (failures : R → ℕ) (l
     normalise_refuses (TooManyIds n) told = (refuses (TooManyIds n) told, refl)
     normalise_refuses (Grew n) told = (refuses (Grew n) told, refl)
     normalise_refuses (Incomplete client adapter) told = absurd told.0
+    normalise_refuses (TraceTooLong m) told = absurd told.0
+    normalise_refuses (Trace m why) told = absurd told.0
+    normalise_refuses (Recorder m fault) told = absurd told.0
     normalise_refuses ReadFault told =
         (record { bytes = bytes; came = subst (HasCome left failures old new limits.input bytes) told.0 came; not_refused = not_refused sound told.1 }, refl)
     normalise_refuses WriteFault told = absurd told

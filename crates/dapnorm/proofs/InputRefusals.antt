@@ -1,14 +1,11 @@
 -- Where an input is refused, and where it is not. What is owed of being the same.
-use Rattle.std.proofs.Common.{◌≡◌, ◌≢◌, ◌⊎◌, inl, inr, ⊎_elim, ℕ, zero, suc, ◌+◌, ◌<◌, ◌≤◌, Bool, true, false, List, [], ◌∷◌, ◌++◌, length}
-use Rattle.std.proofs.Common.{refl, sym, ◌∙◌, ap, ap₂, subst, arith, append_assoc, append-nil, length-append, true≢false, zero-add}
-use Rattle.std.proofs.lemmas.Bool.{cases_lt}
+use Rattle.std.proofs.Common.{◌≡◌, ◌⊎◌, inl, inr, ⊎_elim, ℕ, ◌+◌, ◌≤◌, Bool, true, false, List, [], ◌∷◌, ◌++◌, length}
+use Rattle.std.proofs.Common.{refl, sym, ◌∙◌, ap, subst, arith, append_assoc, append-nil, length-append, true≢false, zero-add}
 use Rattle.std.proofs.lemmas.List.{length_push}
 use Rattle.dapnorm.specs.Judging.{Judging, Reason, faulty, input_too_long, cut, objected, IsFirstRefusal, Refuses}
-use Rattle.dapnorm.specs.Comparing.{Input, Fault, refused, read_fault, EndsAt, IsRefusedAt, IsNotRefusedAt, IsTaken, AcceptedBefore, AreSameBefore, DifferAt, AreSameInputs, Verdict, are_same, differ, refused_a, refused_b, IsVerdict, HasOneVerdict}
-use Rattle.dapnorm.proofs.Runs.{RecordLaws, RecordFacts, ValueLaws, ValueFacts, AcceptedFacts, PassesAt, Run, run_none, run_push, run_goes_on, some_bytes}
-use Rattle.dapnorm.proofs.Deciding.{NextPasses, judge_next}
+use Rattle.dapnorm.specs.Comparing.{Input, Fault, refused, read_fault, EndsAt, IsRefusedAt, IsNotRefusedAt, IsTaken, AcceptedBefore}
+use Rattle.dapnorm.proofs.Runs.{RecordLaws, ValueLaws, AcceptedFacts, PassesAt, run_push, run_goes_on}
 use Rattle.dapnorm.proofs.Outcomes.{first_of_stop, one_refusal, one_list}
-use Rattle.dapnorm.proofs.Fronts.{values_front, some_rest, same_values}
 
 -- What is owed of being the same.
 pub record SameFacts (j : Judging) (AreSame : List j.Value → List j.Value → Type 0) : Type 0 where

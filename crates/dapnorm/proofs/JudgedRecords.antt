@@ -8,13 +8,13 @@ use Rattle.dap_rename.specs.Messages.{AreProper, HasFewIds, HasTooManyIds, IsNor
 use Rattle.dap_rename.specs.Names.{StandFor, limit_in}
 use Rattle.dap_rename.specs.SortedNames.{sorted_limit, sorted_numbers}
 use Rattle.dap_rename.proofs.Normals.{normal_of_next, whole_is_told}
-use Rattle.dap_rename.proofs.Related.{each-append}
+use Rattle.dap_rename.proofs.Lists.{each-append}
 use Rattle.dap_session.specs.Rules.{first_broken}
 use Rattle.dap_session.specs.Standing.{Stands}
 use Rattle.dapnorm.specs.declared.judging.Judge.{Judge}
 use Rattle.dapnorm.specs.declared.limits.Limits.{Limits}
 use Rattle.dapnorm.specs.declared.refused.Refused.{Refused}
-use Rattle.dapnorm.specs.declared.refused.Refused.TheVariants.{InputTooLong, Record, Json, Fraction, Message, Rule, TooManyIds, Grew, Incomplete, ReadFault, WriteFault, Memory}
+use Rattle.dapnorm.specs.declared.refused.Refused.TheVariants.{InputTooLong, Record, Json, Fraction, Message, Rule, TooManyIds, Grew, Incomplete, TraceTooLong, Trace, Recorder, ReadFault, WriteFault, Memory}
 use Rattle.dapnorm.specs.Accepting.{Held, Fits, IsMessage, IsNext, Objects, grew, id_limit, text, too_many_ids}
 use Rattle.dapnorm.specs.JudgingSteps.{IsTaken, RefusesRecord, StandsFor, Writes, record_of}
 use Rattle.dapnorm.proofs.AcceptingFacts.{message_proper}
@@ -77,6 +77,9 @@ module _ (old : Judge) (messages names : List Sent) (was : StandsFor old message
     refused_to_write (Rule k rule) n before after told = absurd told
     refused_to_write (TooManyIds k) n before after told = absurd told
     refused_to_write (Incomplete client adapter) n before after told = absurd told
+    refused_to_write (TraceTooLong m) n before after told = absurd told
+    refused_to_write (Trace m why) n before after told = absurd told
+    refused_to_write (Recorder m fault) n before after told = absurd told
     refused_to_write ReadFault n before after told = absurd told
     refused_to_write WriteFault n before after told = absurd told
     refused_to_write Memory n before after told = tt

@@ -19,7 +19,7 @@ use Rattle.dapnorm.specs.declared.judging_input.Keep.TheVariants.{Text}
 use Rattle.dapnorm.specs.declared.limits.Limits.{Limits}
 use Rattle.dapnorm.specs.declared.reading.Stop.{Stop}
 use Rattle.dapnorm.specs.declared.refused.Refused.{Refused}
-use Rattle.dapnorm.specs.declared.refused.Refused.TheVariants.{InputTooLong, Record, Json, Fraction, Message, Rule, TooManyIds, Grew, Incomplete, ReadFault, WriteFault, Memory}
+use Rattle.dapnorm.specs.declared.refused.Refused.TheVariants.{InputTooLong, Record, Json, Fraction, Message, Rule, TooManyIds, Grew, Incomplete, TraceTooLong, Trace, Recorder, ReadFault, WriteFault, Memory}
 use Rattle.dapnorm.specs.Judging.{IsFirstRefusal, faulty, cut, input_too_long, objected}
 use Rattle.dapnorm.specs.Accepting.{IsAccepted, IsRefused, Objection, Objects, IsNext, accepting, no_message, broken, too_many_ids, grew, text}
 use Rattle.dapnorm.specs.InputJudging.{AcceptsInput, JudgesInput}
@@ -61,14 +61,14 @@ start limits keep whole out reader judge short reads reader_limits stands limits
 }
 
 -- Bytes show neither that a recording ends too early nor want of memory.
-abbrev IsShownCause : RecordCause → Type 0
+abbrev pub IsShownCause : RecordCause → Type 0
 IsShownCause cause.BadMarker = Unit {0}
 IsShownCause (cause.Frame fault) = Unit {0}
 IsShownCause cause.NoLineEnd = Unit {0}
 IsShownCause cause.Cut = ⊥
 IsShownCause cause.Memory = ⊥
 
-shown_cause : (limits : FrameLimits) (bytes : List ℕ) (why : RecordCause) (place : ℕ) → ShowsFault limits bytes why place → IsShownCause why
+pub shown_cause : (limits : FrameLimits) (bytes : List ℕ) (why : RecordCause) (place : ℕ) → ShowsFault limits bytes why place → IsShownCause why
 shown_cause limits bytes why place (at_marker byte more e other) = tt
 shown_cause limits bytes why place (in_frame side rest e shows) = tt
 shown_cause limits bytes why place (at_line_end side frame content byte more e is apart there) = tt
@@ -164,6 +164,9 @@ module _ (limits : Limits) (keep : Keep) (whole rest : List ℕ) (reader : Recor
       refused_for (TooManyIds m) h = (objected_to too_many_ids h.1 m h.0, λ k same. absurd (let e = same in cc))
       refused_for (Grew m) h = (objected_to grew h.1 m h.0, λ k same. absurd (let e = same in cc))
       refused_for (Incomplete client adapter) h = absurd h
+      refused_for (TraceTooLong m) h = absurd h
+      refused_for (Trace m why) h = absurd h
+      refused_for (Recorder m fault) h = absurd h
       refused_for ReadFault h = absurd h
       refused_for WriteFault h = absurd h
       refused_for Memory h = tt

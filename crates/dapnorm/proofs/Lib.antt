@@ -1,4 +1,7 @@
 pub mod AcceptingFacts
+pub mod CommandFiles
+pub mod CommandWalk
+pub mod AppendedLines
 pub mod CompactingFacts
 pub mod CompactingLoop
 pub mod ComparingLoop
@@ -19,6 +22,12 @@ pub mod Outcomes
 pub mod RecordingFacts
 pub mod Runs
 pub mod Sending
+pub mod ShowingFacts
+pub mod ShowingLoop
 pub mod SomeVerdict
 pub mod Standing
+pub mod TracePieces
+pub mod TraceSteps
+pub mod TraceOutcomes
+pub mod TracingLoop
 pub mod Verdicts

@@ -1,5 +1,5 @@
 -- What the next record of an input may answer.
-use Rattle.std.proofs.Common.{◌≡◌, ◌≢◌, ◌⊎◌, inl, inr, ℕ, ◌+◌, ◌<◌, ◌≤◌, Bool, true, false, List, [], ◌∷◌, ◌++◌, length, take, drop, Option, Some, None, MatchOption, Ok, Err, refl, sym, ◌∙◌, ap, subst, arith, append-nil, length-take}
+use Rattle.std.proofs.Common.{◌≡◌, ◌≢◌, inl, inr, ℕ, ◌+◌, ◌≤◌, true, false, List, [], ◌∷◌, ◌++◌, length, take, drop, Option, Some, None, MatchOption, Ok, Err, refl, sym, ◌∙◌, ap, subst, arith, append-nil, length-take}
 use Rattle.std.proofs.lemmas.List.{length-drop}
 use Rattle.dap_message.specs.Message.{Sent, no_reading, fraction, faulty as profile_fault}
 use Rattle.dap_recording.specs.declared.record.Record.{Record as WholeRecord}
@@ -13,11 +13,10 @@ use Rattle.dap_frame.specs.declared.limits.FrameLimits.{FrameLimits}
 use Rattle.dapnorm.specs.declared.judging.Judge.{Judge}
 use Rattle.dapnorm.specs.declared.limits.Limits.{Limits}
 use Rattle.dapnorm.specs.declared.normal_records.NormalRecords.{NormalRecords}
-use Rattle.dapnorm.specs.declared.reading.Stop.{Stop}
 use Rattle.dapnorm.specs.declared.reading.Stop.TheVariants.{End, Full, Failed}
 use Rattle.dapnorm.specs.declared.refused.Refused.{Refused}
-use Rattle.dapnorm.specs.declared.refused.Refused.TheVariants.{InputTooLong, Record, Json, Fraction, Message, Rule, TooManyIds, Grew, Incomplete, ReadFault, WriteFault, Memory}
-use Rattle.dapnorm.specs.Accepting.{IsAccepted, Objection, Objects, IsNext, accepting, no_message, broken, too_many_ids, grew}
+use Rattle.dapnorm.specs.declared.refused.Refused.TheVariants.{InputTooLong, Record, Json, Fraction, Message, Rule, TooManyIds, Grew, Incomplete, TraceTooLong, Trace, Recorder, ReadFault, WriteFault, Memory}
+use Rattle.dapnorm.specs.Accepting.{Objection, Objects, IsNext, accepting, no_message, broken, too_many_ids, grew}
 use Rattle.dapnorm.specs.Comparing.{IsTaken, refused, read_fault}
 use Rattle.dapnorm.specs.ComparingSteps.{HasGone, HasNext, StandsBefore}
 use Rattle.dapnorm.specs.Judging.{IsFirstRefusal, Reason, faulty, cut, input_too_long, objected}
@@ -182,6 +181,9 @@ module _ (limits : Limits) (bytes : List ℕ) (old : NormalRecords) (messages no
       refused_for (Grew m) h after =
           record { fault = refused (objected grew); tells = (h.0, refl); is_refused = (objected_to grew h.1, λ failed same. absurd (let e = same in cc)) }
       refused_for (Incomplete client adapter) h after = absurd h
+      refused_for (TraceTooLong m) h after = absurd h
+      refused_for (Trace m why) h after = absurd h
+      refused_for (Recorder m fault) h after = absurd h
       refused_for ReadFault h after = absurd h
       refused_for WriteFault h after = absurd h
       refused_for Memory h after = tt

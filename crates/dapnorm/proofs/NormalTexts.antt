@@ -11,8 +11,8 @@ use Rattle.dap_rename.specs.Numbering.{numbers, table}
 use Rattle.dap_rename.specs.Renamings.{IsIn}
 use Rattle.dap_rename.specs.Messages.{Class, AreProper, HasFewIds, HasTooManyIds, IsNormal, in_whole, normal_of, numbers_of_class, occurrences, same_class, whole_classes}
 use Rattle.dap_rename.proofs.Additions.{by_bool}
-use Rattle.dap_rename.proofs.Occurring.{class_decides, each_left}
-use Rattle.dap_rename.proofs.Related.{at_each, each-append}
+use Rattle.dap_rename.proofs.Lists.{at_each, each-append, each_left}
+use Rattle.dap_rename.proofs.Occurring.{class_decides}
 use Rattle.dap_rename.proofs.Sameness.{in_any, normal_is_unique, same_as_itself, whole_occurrences}
 use Rattle.dap_rename.proofs.Normals.{normal_of_front, some_normal, whole_is_told}
 use Rattle.dapnorm.specs.declared.limits.Limits.{Limits}

@@ -1,9 +1,9 @@
 -- Two inputs have one verdict.
-use Rattle.std.proofs.Common.{◌≡◌, ◌≢◌, ◌⊎◌, inl, inr, ⊎_elim, ℕ, zero, suc, ◌+◌, ◌<◌, ◌≤◌, Bool, true, false, List, [], ◌∷◌, ◌++◌, length}
-use Rattle.std.proofs.Common.{refl, sym, ◌∙◌, ap, ap₂, subst, arith, append-nil, length-append}
+use Rattle.std.proofs.Common.{◌≡◌, ◌≢◌, ◌⊎◌, inl, inr, ℕ, ◌+◌, ◌<◌, ◌≤◌, List, [], ◌++◌, length}
+use Rattle.std.proofs.Common.{refl, sym, ◌∙◌, ap, ap₂, subst, arith, append-nil}
 use Rattle.std.proofs.lemmas.Bool.{cases_lt}
-use Rattle.dapnorm.specs.Judging.{Judging, IsFirstRefusal}
-use Rattle.dapnorm.specs.Comparing.{Input, Fault, refused, read_fault, IsRefusedAt, IsNotRefusedAt, IsTaken, AcceptedBefore, AreSameBefore, DifferAt, AreSameInputs, Verdict, are_same, differ, refused_a, refused_b, IsVerdict, HasOneVerdict}
+use Rattle.dapnorm.specs.Judging.{Judging}
+use Rattle.dapnorm.specs.Comparing.{Input, IsRefusedAt, IsNotRefusedAt, IsTaken, AcceptedBefore, AreSameBefore, DifferAt, AreSameInputs, Verdict, are_same, differ, refused_a, refused_b, IsVerdict}
 use Rattle.dapnorm.proofs.Runs.{RecordLaws, ValueLaws, AcceptedFacts, Run}
 use Rattle.dapnorm.proofs.Fronts.{values_front, some_rest, same_values}
 use Rattle.dapnorm.proofs.Outcomes.{one_list}

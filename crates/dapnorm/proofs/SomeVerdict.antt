@@ -1,12 +1,12 @@
 -- Two inputs have a verdict: they are judged record by record until one is refused, they differ, or both have ended.
-use Rattle.std.proofs.Common.{◌≡◌, ◌≢◌, ◌⊎◌, inl, inr, ⊎_elim, ℕ, zero, suc, ◌+◌, ◌<◌, ◌≤◌, Bool, true, false, List, [], ◌∷◌, ◌++◌, length}
-use Rattle.std.proofs.Common.{refl, sym, ◌∙◌, ap, subst, arith, length-append}
+use Rattle.std.proofs.Common.{◌≡◌, inl, inr, ⊎_elim, ℕ, zero, suc, ◌+◌, ◌<◌, Bool, true, false, List, [], ◌∷◌, length}
+use Rattle.std.proofs.Common.{refl, sym, ◌∙◌, ap, arith, length-append}
 use Rattle.dapnorm.specs.Judging.{Judging}
-use Rattle.dapnorm.specs.Comparing.{Input, Fault, read_fault, IsRefusedAt, IsNotRefusedAt, IsTaken, AcceptedBefore, AreSameBefore, DifferAt, Verdict, are_same, differ, refused_a, refused_b, IsVerdict, HasOneVerdict}
+use Rattle.dapnorm.specs.Comparing.{Input, Fault, read_fault, IsRefusedAt, IsNotRefusedAt, IsTaken, AcceptedBefore, AreSameBefore, Verdict, are_same, differ, refused_a, refused_b, IsVerdict, HasOneVerdict}
 use Rattle.dapnorm.proofs.Runs.{RecordFacts, ValueFacts, AcceptedFacts, run_none, some_bytes}
 use Rattle.dapnorm.proofs.Deciding.{judge_next}
 use Rattle.dapnorm.proofs.InputRefusals.{SameFacts, taken_not_refused, next_not_refused, ended_taken, ended_failed, next_accepted, refused_there}
-use Rattle.dapnorm.proofs.OneVerdict.{one_verdict, no_earlier, before_some}
+use Rattle.dapnorm.proofs.OneVerdict.{one_verdict, no_earlier}
 
 module _ (j : Judging) (records : RecordFacts j) (judged : ValueFacts j) (accepted : AcceptedFacts j) where
   -- what stands behind the records before this one: nothing more, one more that is accepted, or one that is refused

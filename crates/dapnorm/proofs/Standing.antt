@@ -13,7 +13,8 @@ use Rattle.dap_recording.proofs.RecordOutcomes.{written_is_record}
 use Rattle.dap_rename.specs.Messages.{Class, IsProperId, AreProper, AreSame, IsNormal, class_after, in_whole, message_skeleton, normal_of, occurrence, occurrences}
 use Rattle.dap_rename.specs.Renamings.{IsIn, IsRenaming, AreRelated}
 use Rattle.dap_rename.proofs.Related.{gives_one, takes_one}
-use Rattle.dap_rename.proofs.Occurring.{docs_alike, head_of, ids_alike, tail_of}
+use Rattle.dap_rename.proofs.Lists.{head_of, tail_of}
+use Rattle.dap_rename.proofs.Occurring.{docs_alike, ids_alike}
 use Rattle.dap_rename.proofs.Sameness.{normal_is_complete, normal_is_its_own, normal_is_unique, related_front, same_is_proper}
 use Rattle.dap_rename.proofs.Normals.{names_are_small, same_counts}
 use Rattle.dap_session.specs.Renamed.{IsNumbered, AreRenamed, IsOneToOne, seq_sort}

@@ -13,7 +13,7 @@ use Rattle.dap_session.specs.declared.rule.Rule.{Rule as SessionRule}
 use Rattle.dap_session.specs.Rules.{KeepsRules, first_broken}
 use Rattle.dapnorm.specs.declared.limits.Limits.{Limits}
 use Rattle.dapnorm.specs.declared.refused.Refused.{Refused}
-use Rattle.dapnorm.specs.declared.refused.Refused.TheVariants.{InputTooLong, Record, Json, Fraction, Message, Rule, TooManyIds, Grew, Incomplete, ReadFault, WriteFault, Memory}
+use Rattle.dapnorm.specs.declared.refused.Refused.TheVariants.{InputTooLong, Record, Json, Fraction, Message, Rule, TooManyIds, Grew, Incomplete, TraceTooLong, Trace, Recorder, ReadFault, WriteFault, Memory}
 use Rattle.dapnorm.specs.Limits.{AreSound}
 use Rattle.dapnorm.specs.Judging.{Judging, faulty, input_too_long, cut, objected, IsFirstRefusal, HasOneOutcome, RefusalStays}
 
@@ -120,6 +120,9 @@ IsRefused limits whole (Rule n rule) = IsFirstRefusal (accepting limits) whole n
 IsRefused limits whole (TooManyIds n) = IsFirstRefusal (accepting limits) whole n (objected too_many_ids)
 IsRefused limits whole (Grew n) = IsFirstRefusal (accepting limits) whole n (objected grew)
 IsRefused limits whole (Incomplete client adapter) = ⊥
+IsRefused limits whole (TraceTooLong n) = ⊥
+IsRefused limits whole (Trace n why) = ⊥
+IsRefused limits whole (Recorder n fault) = ⊥
 IsRefused limits whole ReadFault = ⊥
 IsRefused limits whole WriteFault = ⊥
 IsRefused limits whole Memory = ⊥

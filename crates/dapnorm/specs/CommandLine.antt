@@ -1,5 +1,5 @@
 -- The program's command line, as `clap` reads it, and the job that it names. Source: own.
-use Rattle.std.specs.Prelude.{◌≡◌, Bool, false, List, Option, Some, None, codes, if◌then◌else◌, option_map, option_and_then, true}
+use Rattle.std.specs.Prelude.{◌≡◌, ◌||◌, Bool, false, List, Option, Some, None, codes, if◌then◌else◌, option_map, option_and_then, true}
 use Rattle.std.specs.Borrow.{Bor}
 use Rattle.std.specs.Str.{bytes_eq}
 use Rattle.clap.specs.Words.{App, Row, Rule, Text, app_of, first_of, new_app, new_rule, with_rule, with_subcommand}
@@ -37,7 +37,9 @@ bare = record (new_app (codes "dapnorm")) {
 
 -- what a parse reads of the program's command
 abbrev pub program : App
-program = with_subcommand (with_subcommand (with_subcommand (with_subcommand bare (plain (codes "compact")).top) (plain (codes "normalise")).top) checker.top) comparer.top
+program =
+    with_subcommand (with_subcommand (with_subcommand (with_subcommand (with_subcommand (with_subcommand bare (plain (codes "compact")).top) (plain (codes "record")).top) (plain (codes "normalise")).top) checker.top) (plain (codes "show")).top)
+    comparer.top
 
 -- The command is this one, and its subcommands inherit no argument.
 abbrev pub IsCommand : App → Command → Type 0
@@ -46,14 +48,18 @@ IsCommand app command = (app_of command ≡ app) × ((fields_of command).has_glo
 -- a job by the texts that it was given
 pub data Told : Type 0 where
   compact : Told
+  recording : Told
   normalise : Told
   check : Bool → Told
+  show : Told
   compare : Text → Text → Told
 
 abbrev pub told : Job → Told
 told job.Compact = compact
+told job.Record = recording
 told job.Normalise = normalise
 told (job.Check complete) = check complete
+told job.Show = show
 told (job.Compare a b) = compare a.now b.now
 
 -- the text behind a reference that may be there
@@ -74,10 +80,18 @@ two_files _ _ = None
 abbrev pub job_of : Text → List Row → Option Told
 job_of name rows =
     if bytes_eq name (codes "compact") then Some compact
+    else if bytes_eq name (codes "record") then Some recording
     else if bytes_eq name (codes "normalise") then Some normalise
     else if bytes_eq name (codes "check") then Some (check (is_set (first_of (codes "complete") rows)))
+    else if bytes_eq name (codes "show") then Some show
     else if bytes_eq name (codes "compare") then two_files (first_of (codes "A") rows) (first_of (codes "B") rows)
     else None
+
+-- The subcommand is one of the program's.
+abbrev pub names_job : Option (Text × List Row) → Bool
+names_job None = false
+names_job (Some p) =
+    bytes_eq p.0 (codes "compact") || (bytes_eq p.0 (codes "record") || (bytes_eq p.0 (codes "normalise") || (bytes_eq p.0 (codes "check") || (bytes_eq p.0 (codes "show") || bytes_eq p.0 (codes "compare")))))
 
 abbrev pub job_named : Option (Text × List Row) → Option Told
 job_named = option_and_then (λ p. job_of p.0 p.1)

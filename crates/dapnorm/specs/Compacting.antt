@@ -8,7 +8,7 @@ use Rattle.dap_tree.specs.Doc.{Doc}
 use Rattle.dap_tree.specs.Json.{IsRead, HasFraction, HasNoReading, text_of}
 use Rattle.dapnorm.specs.declared.limits.Limits.{Limits}
 use Rattle.dapnorm.specs.declared.refused.Refused.{Refused}
-use Rattle.dapnorm.specs.declared.refused.Refused.TheVariants.{InputTooLong, Record, Json, Fraction, Message, Rule, TooManyIds, Grew, Incomplete, ReadFault, WriteFault, Memory}
+use Rattle.dapnorm.specs.declared.refused.Refused.TheVariants.{InputTooLong, Record, Json, Fraction, Message, Rule, TooManyIds, Grew, Incomplete, TraceTooLong, Trace, Recorder, ReadFault, WriteFault, Memory}
 use Rattle.dapnorm.specs.Limits.{AreSound}
 use Rattle.dapnorm.specs.Judging.{Judging, faulty, input_too_long, cut, objected, IsFirstRefusal, HasOneOutcome, RefusalStays}
 
@@ -82,6 +82,9 @@ IsRefused limits whole (Rule n rule) = ⊥
 IsRefused limits whole (TooManyIds n) = ⊥
 IsRefused limits whole (Grew n) = IsFirstRefusal (compacting limits) whole n (objected grown)
 IsRefused limits whole (Incomplete client adapter) = ⊥
+IsRefused limits whole (TraceTooLong n) = ⊥
+IsRefused limits whole (Trace n why) = ⊥
+IsRefused limits whole (Recorder n fault) = ⊥
 IsRefused limits whole ReadFault = ⊥
 IsRefused limits whole WriteFault = ⊥
 IsRefused limits whole Memory = ⊥

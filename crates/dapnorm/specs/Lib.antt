@@ -19,4 +19,9 @@ pub mod Normalised
 pub mod Normalising
 pub mod Reading
 pub mod Run
+pub mod Tracing
+pub mod TracingRun
+pub mod TracingSteps
+pub mod Showing
+pub mod ShowingSteps
 pub mod Verdicts

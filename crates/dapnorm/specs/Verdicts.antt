@@ -11,7 +11,7 @@ use Rattle.dapnorm.specs.declared.limits.Limits.{Limits}
 use Rattle.dapnorm.specs.declared.reading.Stop.{Stop}
 use Rattle.dapnorm.specs.declared.reading.Stop.TheVariants.{End, Full, Failed}
 use Rattle.dapnorm.specs.declared.refused.Refused.{Refused}
-use Rattle.dapnorm.specs.declared.refused.Refused.TheVariants.{InputTooLong, Record, Json, Fraction, Message, Rule, TooManyIds, Grew, Incomplete, ReadFault, WriteFault, Memory}
+use Rattle.dapnorm.specs.declared.refused.Refused.TheVariants.{InputTooLong, Record, Json, Fraction, Message, Rule, TooManyIds, Grew, Incomplete, TraceTooLong, Trace, Recorder, ReadFault, WriteFault, Memory}
 use Rattle.dapnorm.specs.declared.verdict.CompareRefused.{CompareRefused}
 use Rattle.dapnorm.specs.declared.verdict.CompareRefused.TheVariants as because
 use Rattle.dapnorm.specs.declared.verdict.Verdict.{Verdict as CodeVerdict}
@@ -19,7 +19,7 @@ use Rattle.dapnorm.specs.declared.verdict.Verdict.TheVariants as code
 use Rattle.dapnorm.specs.declared.verdict.Which.TheVariants.{A, B}
 use Rattle.dapnorm.specs.Limits.{AreSound}
 use Rattle.dapnorm.specs.Accepting.{accepting, no_message, broken, too_many_ids, grew}
-use Rattle.dapnorm.specs.Judging.{Reason, faulty, input_too_long, cut, objected}
+use Rattle.dapnorm.specs.Judging.{faulty, input_too_long, cut, objected}
 use Rattle.dapnorm.specs.Reading.{HasCome}
 use Rattle.dapnorm.specs.Comparing.{Input, Fault, refused, read_fault, IsTaken, IsRefusedAt, Verdict, IsVerdict, are_same, differ, refused_a, refused_b, HasOneVerdict}
 
@@ -55,6 +55,9 @@ Tells limits (Rule n rule) number fault = (n ≡ number) × (fault ≡ refused (
 Tells limits (TooManyIds n) number fault = (n ≡ number) × (fault ≡ refused (objected too_many_ids))
 Tells limits (Grew n) number fault = (n ≡ number) × (fault ≡ refused (objected grew))
 Tells limits (Incomplete client adapter) number fault = ⊥
+Tells limits (TraceTooLong n) number fault = ⊥
+Tells limits (Trace n c) number fault = ⊥
+Tells limits (Recorder n f) number fault = ⊥
 Tells limits ReadFault number fault = fault ≡ read_fault
 Tells limits WriteFault number fault = ⊥
 Tells limits Memory number fault = ⊥

@@ -2,7 +2,7 @@
 ghost use Rattle.std.specs.Prelude.{[], ◌≡◌, IfOk, IfErr, Some, true, false, is_some, map, option_map};
 ghost use Rattle.clap.specs.Words.{fault_of as faults_of, app_of, found_of, rows_of, subcommand_of, subcommand_rows_of, takes, kind_of, with_subcommand};
 ghost use Rattle.clap.specs.declared.Command.TheViews.{out-Command as fields_of};
-ghost use Rattle.dapnorm.specs.CommandLine.{IsCommand, bare, checker, comparer, is_set, plain, job_named, job_of, program, text_in, told, two_files};
+ghost use Rattle.dapnorm.specs.CommandLine.{IsCommand, bare, checker, comparer, is_set, plain, job_named, job_of, names_job, program, text_in, told, two_files};
 ghost use Rattle.dapnorm.specs.declared.jobs.UsageFault.TheVariants.{Memory};
 
 use crate::jobs::{Job, UsageFault};
@@ -82,14 +82,26 @@ fn command<'a>(alloc: Global) -> Result<Command<'a>, AllocError>
         "compact",
         "Makes the contents of frames canonical, from standard input to standard output",
     )?;
-    let normalise = with_plain(
+    let tracing = with_plain(
         compact,
+        alloc,
+        "record",
+        "Makes a recording of a trace, from standard input to standard output",
+    )?;
+    let normalise = with_plain(
+        tracing,
         alloc,
         "normalise",
         "Writes the normal form of a recording, from standard input to standard output",
     )?;
     let judged = with_other(normalise, check)?;
-    with_other(judged, compare)
+    let showing = with_plain(
+        judged,
+        alloc,
+        "show",
+        "Prints a recording in lines, from standard input to standard output",
+    )?;
+    with_other(showing, compare)
 }
 
 /// Whether a flag's value is there and set.
@@ -118,11 +130,13 @@ fn job_by<'a>(name: &str, rows: &ArgMatches<'a>) -> Option<Job<'a>>
 {
     match name {
         "compact" => Some(Job::Compact),
+        "record" => Some(Job::Record),
         "normalise" => Some(Job::Normalise),
         "check" => {
             let complete = is_true(rows.get_str("complete"));
             Some(Job::Check { complete })
         }
+        "show" => Some(Job::Show),
         "compare" => both(rows.get_str("A"), rows.get_str("B")),
         _ => None,
     }
@@ -172,7 +186,7 @@ pub fn job<'a>(alloc: Global, words: &'a [&'a str]) -> Result<Job<'a>, UsageFaul
 
     // Where that definition takes the words with one of the subcommands, only memory can be wanting.
     ensures err { IfErr result (λ fault. takes program (map (λ w. w.now) words.entry.now) ≡ true
-        → is_some (job_named (subcommand_of program (map (λ w. w.now) words.entry.now))) ≡ true
+        → names_job (subcommand_of program (map (λ w. w.now) words.entry.now)) ≡ true
         → fault ≡ Memory) }
 {
     let Ok(command) = command(alloc) else {

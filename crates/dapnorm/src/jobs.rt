@@ -5,10 +5,14 @@
 pub enum Job<'a> {
     /// Make the contents of frames canonical.
     Compact,
+    /// Make a recording of a trace.
+    Record,
     /// Write the normal form of a recording.
     Normalise,
     /// Judge a recording; with `complete` each request must have a response.
     Check { complete: bool },
+    /// Print a recording in lines.
+    Show,
     /// Compare the recordings of two files, by their names.
     Compare { a: &'a str, b: &'a str },
 }

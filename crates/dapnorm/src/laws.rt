@@ -1,14 +1,23 @@
 //! Theorems on inputs, which hold of all bytes. Each function does nothing: a call of it gives its clauses to a proof.
 ghost use Rattle.dapnorm.specs.Accepting.{RecordingHasOneOutcome, RecordingRefusalStays};
 ghost use Rattle.dapnorm.specs.Normalising.{HasOneNormalForm, NormalIsAccepted, AcceptedIsNormalised, OneNormalText, NormalStandsStill, EqualTextsTell};
+ghost use Rattle.dapnorm.specs.Showing.{ShowHasOneOutcome, ShowRefusalStays};
 ghost use Rattle.dapnorm.specs.Verdicts.{RecordingsHaveOneVerdict, SameIsCarried, SameIsToldExactly};
 ghost use Rattle.dapnorm.specs.Compacting.{CompactHasOneOutcome, CompactRefusalStays};
+ghost use Rattle.dapnorm.specs.Tracing.{TracesHaveOneOutcome, TraceRefusalStays};
 
 /// `compact` accepts an input as one list of values, or has one first refusal of it, and not both. A refusal stays when
 /// more bytes come, unless the input only ended too early.
 pub fn compact_has_one_outcome()
     ensures outcome { CompactHasOneOutcome }
     ensures refusal_stays { CompactRefusalStays }
+{}
+
+/// `show` accepts a recording as one list of messages, or has one first refusal of it, and not both. A refusal stays when
+/// more bytes come, unless the input only ended too early.
+pub fn show_has_one_outcome()
+    ensures outcome { ShowHasOneOutcome }
+    ensures refusal_stays { ShowRefusalStays }
 {}
 
 /// A recording is accepted as one list of messages, or has one first refusal, and not both. A refusal stays when more bytes
@@ -41,4 +50,11 @@ pub fn two_recordings_have_one_verdict()
     ensures one { RecordingsHaveOneVerdict }
     ensures same { SameIsToldExactly }
     ensures carried { SameIsCarried }
+{}
+
+/// `record` records a trace as one list of messages, or refuses it for one reason behind one list of messages, and not both. A
+/// refusal stays when more bytes come, unless the trace only ended too early.
+pub fn trace_has_one_outcome()
+    ensures outcome { TracesHaveOneOutcome }
+    ensures refusal_stays { TraceRefusalStays }
 {}

@@ -4,6 +4,7 @@ ghost use Rattle.dap_message.specs.Message.{Sent, sent};
 ghost use Rattle.dapnorm.specs.Accepting.{IsMessage};
 ghost use Rattle.dapnorm.specs.JudgingSteps.{RefusesRecord, Writes};
 ghost use Rattle.dapnorm.specs.Limits.{AreSound};
+ghost use Rattle.dapnorm.specs.ShowingSteps.{RefusesHeld};
 
 use crate::limits::Limits;
 use crate::refused::Refused;
@@ -22,6 +23,7 @@ pub fn read_message(
 ) -> Result<Message, Refused>
     ensures ok { IfOk result (λ message. IsMessage (side, content.now) (sent message)) }
     ensures err { IfErr result (λ because. (limits : Limits) (messages : List Sent) → RefusesRecord limits messages (side, content.now) number because) }
+    ensures only { IfErr result (λ because. RefusesHeld (side, content.now) number because) }
 {
     let tree = match read_tree(alloc, content) {
         Ok(tree) => tree,

@@ -1,10 +1,11 @@
 //! Why an engine gave up.
 use dap_message::MessageFault;
-use dap_recording::RecordCause;
+use dap_recording::{RecordCause, RecorderFault, TraceCause};
 use dap_session::Rule;
 use thiserror::Error;
 
-/// Why an engine gave up, and at which record, counted from 1. The fault inside it is never for want of memory.
+/// Why an engine gave up, and at which record or piece of a trace, counted from 1. The fault inside it is never for want
+/// of memory.
 ///
 /// The text is what the program prints behind `dapnorm: `.
 #[derive(Clone, Copy, Debug, PartialEq, Eq, Error)]
@@ -36,6 +37,15 @@ pub enum Refused {
     /// The recording is accepted, and so many requests of the client and of the adapter have no response.
     #[error("incomplete: {0} client, {1} adapter")]
     Incomplete(usize, usize),
+    /// The byte past the input limit stands in this piece.
+    #[error("piece {0}: TraceTooLong")]
+    TraceTooLong(u64),
+    /// The bytes of this piece are no piece of a trace.
+    #[error("piece {0}: {1}")]
+    Trace(u64, TraceCause),
+    /// In this piece a frame of a side is faulty; or it is the last piece, and a frame of a side has not ended.
+    #[error("piece {0}: {1}")]
+    Recorder(u64, RecorderFault),
     /// The reader failed.
     #[error("read fault")]
     ReadFault,

@@ -5,6 +5,8 @@ ghost use Rattle.dapnorm.specs.Accepting.{IsRefused as IsRecordingRefused};
 ghost use Rattle.dapnorm.specs.Limits.{AreSound};
 ghost use Rattle.dapnorm.specs.Normalising.{IsCanonical};
 ghost use Rattle.dapnorm.specs.Run.{Answered, CheckIsTold, HasPrinted, TellsUsage, status_of};
+ghost use Rattle.dapnorm.specs.Showing.{IsShownBy, IsRefused as IsShowRefused};
+ghost use Rattle.dapnorm.specs.TracingRun.{TraceIsTold};
 
 use crate::checked::Checked;
 use crate::checking::check;
@@ -14,6 +16,8 @@ use crate::jobs::{Job, UsageFault};
 use crate::limits::Limits;
 use crate::normalising::normalise;
 use crate::refused::Refused;
+use crate::showing::show;
+use crate::tracing::record;
 use crate::writing::write_and_flush;
 use arrayvec::ArrayString;
 use std::alloc::Global;
@@ -34,7 +38,7 @@ const FAULT: u8 = 4;
 /// The status of want of memory.
 const MEMORY: u8 = 5;
 
-/// How long a fault's line may be. The longest has 60 bytes.
+/// How long a fault's line may be. The longest has 79 bytes.
 const LINE: usize = 128;
 
 /// The status of the program for an engine's answer.
@@ -95,19 +99,27 @@ pub fn run_stream<R: Source, W: Sink, E: Sink>(
     // The output is what the engine writes, and the status that of its answer.
     ensures compact { job.now ≡ Job.Compact → Answered R.left R.failures W.out W.failures limits.input (Compacts limits) (IsRefused limits) reader.old reader.new writer.old writer.new result }
 
+    // The output is the records that `record` writes, and the status that of its answer.
+    ensures record_trace { job.now ≡ Job.Record → TraceIsTold R.left R.failures W.out W.failures limits reader.old reader.new writer.old writer.new result }
+
     // The output is the normal text that `normalise` writes, and the status that of its answer.
     ensures normalise { job.now ≡ Job.Normalise → Answered R.left R.failures W.out W.failures limits.input (IsCanonical limits) (IsRecordingRefused limits) reader.old reader.new writer.old writer.new result }
 
     // The output is the line of what `check` accepts, and the status that of its answer or of a writer that failed.
     ensures check { (complete : Bool) → job.now ≡ Job.Check complete → CheckIsTold R.left R.failures W.out W.failures limits complete reader.old reader.new writer.old writer.new result }
 
+    // The output is the lines that `show` writes, and the status that of its answer.
+    ensures show { job.now ≡ Job.Show → Answered R.left R.failures W.out W.failures limits.input (IsShownBy limits) (IsShowRefused limits) reader.old reader.new writer.old writer.new result }
+
     // It takes at most one byte past the limit.
     ensures taken { R.given reader.new ≤ R.given reader.old + limits.input + 1 }
 {
     let answer = match *job {
         Job::Compact => compact(alloc, reader, writer, limits),
+        Job::Record => record(alloc, reader, writer, limits),
         Job::Normalise => normalise(alloc, reader, writer, limits),
         Job::Check { complete } => print(writer, check(alloc, reader, limits, complete)),
+        Job::Show => show(alloc, reader, writer, limits),
         Job::Compare { .. } => unreachable!(),
     };
     if let Err(refused) = answer {

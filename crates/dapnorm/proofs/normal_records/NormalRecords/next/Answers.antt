@@ -1,9 +1,9 @@
-use Rattle.std.proofs.Common.{arith, eqb, true, false, ◌≡◌, ◌≢◌, ℕ, List, [], Option, Some, None, is_some, length, sym, ◌∙◌, ap, subst, refl}
+use Rattle.std.proofs.Common.{eqb, true, false, ◌≡◌, ◌≢◌, ℕ, List, [], Option, Some, None, is_some, length, sym, ◌∙◌, ap, subst, refl}
 use Rattle.std.proofs.lemmas.Bool.{true≢false, eqb-true}
 use Rattle.std.proofs.lemmas.List.{take_rest, nil_from_length}
 use Rattle.std.proofs.lemmas.Result.{err_from_is_err_and}
 use Rattle.dap_recording.specs.declared.record.Record.{Record as WholeRecord}
-use Rattle.dapnorm.proofs.NormalRecordSteps.{HasFed, gone_on, none_failed, none_too_long, open_cut, open_failed, open_too_long, refused_next, shown, whole_taken}
+use Rattle.dapnorm.proofs.NormalRecordSteps.{HasFed, gone_on, none_too_long, open_cut, open_failed, open_too_long, refused_next, shown}
 use Rattle.dapnorm.proofs.normal_records.NormalRecords.next.Goals as goal
 use Rattle.dapnorm.proofs.normal_records.NormalRecords.next.Goals.{in-End-stop, in-Full-stop, in-Failed-stop}
 
