@@ -1,4 +1,4 @@
-"""Measures `dapnorm` on generated frames and sessions, `compact`, `normalise` and `compare` beside short Python scripts that do the same work."""
+"""Measures `dapnorm` on generated frames and sessions, `compact`, `record`, `normalise`, `show` and `compare` beside short Python scripts that do the same work."""
 import hashlib
 import json
 import os
@@ -15,7 +15,8 @@ TOP = os.path.dirname(os.path.dirname(os.path.abspath(__file__)))
 PROGRAM = os.path.join(TOP, "bin", "dapnorm")
 SIZE = 50_000_000
 SESSION_SIZES = (1_000_000, 10_000_000, 100_000_000)
-COMPARED_SIZES = (10_000_000, 100_000_000)
+LARGE_SIZES = (10_000_000, 100_000_000)
+MARKERS = {"client": b">", "adapter": b"<"}
 REQUESTS = (100_000, 1_000_000)
 ROUNDS = 3
 INITIALIZE = {"seq": 0, "type": "request", "command": "initialize", "arguments": {"adapterID": "mock"}}
@@ -175,12 +176,30 @@ def write_renumbered(path, other):
 
 def compare_sessions(folder):
     one, other = os.path.join(folder, "session"), os.path.join(folder, "other")
-    for wanted in COMPARED_SIZES:
+    for wanted in LARGE_SIZES:
         generate_session(one, wanted)
         write_renumbered(one, other)
         size = os.path.getsize(one) + os.path.getsize(other)
         print(f"two sessions of {size / 1e6:.1f} MB together, the shortest of {ROUNDS} runs each")
         beside_script("compare", os.devnull, size, [one, other])
+
+
+def write_trace(path, trace):
+    """The trace of a session whose headers and contents were written apart."""
+    with open(path, "rb") as source, open(trace, "wb") as target:
+        for side, frame, content in records(source.read()):
+            for piece in (frame[:-len(content)], content):
+                target.write(b"%s%d\n%s" % (MARKERS[side], len(piece), piece))
+
+
+def record_and_show(folder):
+    session, trace = os.path.join(folder, "session"), os.path.join(folder, "trace")
+    for wanted in LARGE_SIZES:
+        size, count, _ = generate_session(session, wanted)
+        write_trace(session, trace)
+        print(f"a session of {size / 1e6:.1f} MB in {count} records, and its trace; the shortest of {ROUNDS} runs each")
+        beside_script("record", trace, os.path.getsize(trace))
+        beside_script("show", session, size)
 
 
 def main():
@@ -191,6 +210,7 @@ def main():
         beside_script("compact", given, size)
         normalise_sessions(folder)
         compare_sessions(folder)
+        record_and_show(folder)
         check_requests(folder)
 
 

@@ -37,9 +37,12 @@ def main():
         for name, script in [
             ("the program on the examples", "program.py"),
             ("the captures of real adapters", "captures.py"),
+            ("their traces recorded", "recording.py"),
+            ("a trace made by hand", "tracing.py"),
             ("their messages typed", "typed_recordings.py"),
             ("the normal form", "normal_form.py"),
             ("recordings compared", "comparing.py"),
+            ("recordings shown", "showing.py"),
             ("growths of memory refused in turn", "fault_injection.py"),
             ("what the documents name", "documents.py"),
             ("the document of the profile", "profile.py"),

@@ -11,6 +11,7 @@ FRAME = b'Content-Length: 15\r\n\r\n{ "b":1,"a":2 }'
 CANONICAL = b'Content-Length: 13\r\n\r\n{"a":2,"b":1}'
 REQUEST = b'{"arguments":{"adapterID":"mock"},"command":"initialize","seq":1,"type":"request"}'
 RECORD = b">Content-Length: %d\r\n\r\n%s\n" % (len(REQUEST), REQUEST)
+TRACE = b">%d\n%s" % (len(RECORD) - 2, RECORD[1:-1])
 
 
 def build_shim(folder):
@@ -65,6 +66,13 @@ def main():
         run_tests(report, shim)
         run_program(report, shim, ["compact"], FRAME, CANONICAL)
         run_program(report, shim, ["check"], RECORD, b"accepted records=1 open=1,0\n")
+        run_program(report, shim, ["normalise"], RECORD, RECORD)
+        run_program(report, shim, ["record"], TRACE, RECORD)
+        run_program(report, shim, ["show"], RECORD, b'1 > request "initialize" seq=1\n')
+        path = os.path.join(folder, "recording")
+        with open(path, "wb") as file:
+            file.write(RECORD)
+        run_program(report, shim, ["compare", path, path], b"", b"same\nclient-seq 1 1\n")
     return report.close()
 
 

@@ -2,7 +2,10 @@
 use crate::devices::{TestSink, TestSource};
 use crate::examples::{CANONICAL, LIMITS, LOOSE};
 use dap_frame::FrameFault;
-use dapnorm::{Job, MemorySink, MemorySource, RecordCause, Refused, run_stream};
+use dap_tree::Side;
+use dapnorm::{
+    Job, MemorySink, MemorySource, RecordCause, RecorderFault, Refused, TraceCause, run_stream,
+};
 use std::test::Fail;
 
 #[test]
@@ -124,6 +127,24 @@ fn the_text_of_each_refusal(rt: HostRuntime) -> Result<(), Fail> {
             "record 18446744073709551615: Fraction",
         ),
         (Refused::Grew(2), "record 2: Grew"),
+        (Refused::TraceTooLong(3), "piece 3: TraceTooLong"),
+        (
+            Refused::Trace(1, TraceCause::BadMarker),
+            "piece 1: BadMarker",
+        ),
+        (Refused::Trace(1, TraceCause::BadCount), "piece 1: BadCount"),
+        (Refused::Trace(2, TraceCause::Cut), "piece 2: Cut"),
+        (
+            Refused::Recorder(2, RecorderFault::Frame(Side::Client, FrameFault::Cut)),
+            "piece 2: client Cut",
+        ),
+        (
+            Refused::Recorder(
+                4,
+                RecorderFault::Frame(Side::Adapter, FrameFault::HeaderTooLong),
+            ),
+            "piece 4: adapter HeaderTooLong",
+        ),
         (Refused::ReadFault, "read fault"),
         (Refused::WriteFault, "write fault"),
         (Refused::Memory, "out of memory"),

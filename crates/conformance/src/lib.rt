@@ -30,6 +30,12 @@ mod normalise_refused_growths;
 #[cfg(test)]
 mod normalising;
 #[cfg(test)]
+mod record_lines;
+#[cfg(test)]
+mod record_refused_growths;
+#[cfg(test)]
+mod recording_traces;
+#[cfg(test)]
 mod recordings;
 #[cfg(test)]
 mod refused_growths;
@@ -39,5 +45,9 @@ mod refused_growths_of_messages;
 mod refused_growths_of_sessions;
 #[cfg(test)]
 mod session_rules;
+#[cfg(test)]
+mod showing;
+#[cfg(test)]
+mod traces;
 #[cfg(test)]
 mod typed_recordings;

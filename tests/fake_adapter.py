@@ -1,0 +1,40 @@
+"""A debug adapter that debugs nothing: it answers each request over its standard streams. FIRST is the number of its first frame."""
+import json
+import sys
+
+
+def receive(source):
+    length = None
+    while (line := source.readline().strip()):
+        name, value = line.split(b":", 1)
+        if name.lower() == b"content-length":
+            length = int(value)
+    return None if length is None else json.loads(source.read(length))
+
+
+def send(target, message):
+    content = json.dumps(message).encode()
+    # Header and content are written apart, as some adapters do.
+    for piece in (b"Content-Length: %d\r\n\r\n" % len(content), content):
+        target.write(piece)
+        target.flush()
+
+
+def main(first):
+    source, target, seq = sys.stdin.buffer, sys.stdout.buffer, 0
+    bodies = {"stackTrace": {"stackFrames": [{"id": first, "name": "main", "line": 3, "column": 1}]}}
+    while (request := receive(source)) is not None:
+        command = request["command"]
+        events = ["initialized"] if command == "initialize" else []
+        answer = {"type": "response", "request_seq": request["seq"], "success": True, "command": command}
+        if command in bodies:
+            answer["body"] = bodies[command]
+        for message in [answer, *({"type": "event", "event": event} for event in events)]:
+            seq += 1
+            send(target, {"seq": seq, **message})
+        if command == "disconnect":
+            break
+
+
+if __name__ == "__main__":
+    main(int(sys.argv[1]))
