@@ -36,7 +36,7 @@ try: need-rt
 	@cd crates/dapnorm_main && rt try -- compact < ../../examples/debugpy-adapter.frames
 
 bench: bin/dapnorm need-python
-	@echo "Measures compact, check and normalise on generated input, beside short Python scripts: some minutes."
+	@echo "Measures each command on generated input, beside short Python scripts: some minutes."
 	@python3 scripts/bench.py
 
 install: bin/dapnorm
