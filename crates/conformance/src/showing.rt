@@ -2,7 +2,7 @@
 use crate::devices::{Failing, TestSink, TestSource};
 use crate::examples::LIMITS;
 use crate::recordings::{INITIALIZE, INITIALIZE_RESPONSE, INITIALIZED, Line, OUTPUT, recording};
-use dap_frame::FrameFault;
+use dap_frame::{FrameFault, FrameLimits};
 use dapnorm::{Limits, MemorySink, MemorySource, MessageFault, RecordCause, Refused, show};
 use std::alloc::{AllocError, Global};
 use std::test::Fail;
@@ -36,22 +36,17 @@ const FAILED: Line = (
 const FRAMES_SHOWN: &str =
     "1 > request \"initialize\" seq=1\n2 < response \"initialize\" seq=1 request_seq=1 ok\n3 > request \"stackTrace\" seq=2\n4 < response \"stackTrace\" seq=2 request_seq=2 ok\n  frame 1000 3:1 \"f\"\n  frame 1001 9:1 \"g\"\n";
 
-/// What `show` writes of bytes, if it does not refuse them.
-fn shown(alloc: Global, bytes: &[u8], limits: Limits, text: &str) -> Result<bool, AllocError> {
+/// Whether `show` writes this text of bytes.
+fn shown(alloc: Global, bytes: &[u8], text: &str) -> Result<bool, AllocError> {
     let mut sink = MemorySink::new(alloc, 4096)?;
-    let answer = show(alloc, &mut MemorySource::new(bytes), &mut sink, limits);
+    let answer = show(alloc, &mut MemorySource::new(bytes), &mut sink, LIMITS);
     Ok(answer == Ok(()) && sink.bytes() == text.as_bytes())
 }
 
 /// Whether `show` refuses bytes so and writes nothing.
-fn refused(
-    alloc: Global,
-    bytes: &[u8],
-    limits: Limits,
-    because: Refused,
-) -> Result<bool, AllocError> {
+fn refused(alloc: Global, bytes: &[u8], because: Refused) -> Result<bool, AllocError> {
     let mut sink = MemorySink::new(alloc, 4096)?;
-    let answer = show(alloc, &mut MemorySource::new(bytes), &mut sink, limits);
+    let answer = show(alloc, &mut MemorySource::new(bytes), &mut sink, LIMITS);
     Ok(answer == Err(because) && sink.bytes().is_empty())
 }
 
@@ -90,7 +85,7 @@ fn lines_of_recordings(rt: HostRuntime) -> Result<(), Fail> {
     ];
     for (lines, text) in table {
         let bytes = recording(alloc, lines)?;
-        assert!(rt; shown(alloc, bytes.as_slice(), LIMITS, text)?);
+        assert!(rt; shown(alloc, bytes.as_slice(), text)?);
     }
     Ok(())
 }
@@ -102,13 +97,31 @@ fn neither_ids_nor_growth_are_limited(rt: HostRuntime) -> Result<(), Fail> {
         alloc,
         [INITIALIZE, INITIALIZE_RESPONSE, STACK_TRACE, FRAMES].as_slice(),
     )?;
-    let mut limits = LIMITS;
-    limits.ids = 0;
-    limits.frame.content = 200;
-    limits.input = bytes.len() as u64;
-    assert!(rt; shown(alloc, bytes.as_slice(), limits, FRAMES_SHOWN)?);
-    limits.input = bytes.len() as u64 - 1;
-    assert!(rt; refused(alloc, bytes.as_slice(), limits, Refused::InputTooLong(4))?);
+    let length = bytes.len() as u64;
+    assert!(rt; 1 <= length);
+    for (input, wanted, text) in [
+        (length, Ok(()), FRAMES_SHOWN),
+        (length - 1, Err(Refused::InputTooLong(4)), ""),
+    ] {
+        assert!(rt; input <= 1000);
+        let limits = Limits {
+            frame: FrameLimits {
+                header: 4096,
+                content: 200,
+            },
+            ids: 0,
+            input,
+        };
+        let mut sink = MemorySink::new(alloc, 4096)?;
+        let answer = show(
+            alloc,
+            &mut MemorySource::new(bytes.as_slice()),
+            &mut sink,
+            limits,
+        );
+        assert_eq!(rt; answer, wanted);
+        assert_eq!(rt; sink.bytes(), text.as_bytes());
+    }
     Ok(())
 }
 
@@ -140,12 +153,12 @@ fn refused_recordings(rt: HostRuntime) -> Result<(), Fail> {
         ),
     ];
     for (bytes, because) in table {
-        assert!(rt; refused(alloc, bytes, LIMITS, because)?);
+        assert!(rt; refused(alloc, bytes, because)?);
     }
     let broken: Line = ("<", "{\"type\":\"event\"}");
     let bytes = recording(alloc, [INITIALIZED, broken].as_slice())?;
     let because = Refused::Message(2, MessageFault::Missing(1));
-    assert!(rt; refused(alloc, bytes.as_slice(), LIMITS, because)?);
+    assert!(rt; refused(alloc, bytes.as_slice(), because)?);
     Ok(())
 }
 
