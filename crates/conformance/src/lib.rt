@@ -46,6 +46,8 @@ mod refused_growths_of_sessions;
 #[cfg(test)]
 mod session_rules;
 #[cfg(test)]
+mod show_refused_growths;
+#[cfg(test)]
 mod showing;
 #[cfg(test)]
 mod traces;

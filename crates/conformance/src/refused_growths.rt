@@ -107,18 +107,31 @@ fn a_framer_is_refused_in_turn(rt: HostRuntime) -> Result<(), Fail> {
 #[test]
 fn the_command_line_is_refused_in_turn(rt: HostRuntime) -> Result<(), Fail> {
     let alloc = rt.alloc();
-    let words = ["dapnorm", "compact"];
-    for turn in 1..1000u16 {
-        refuse_growth(alloc, turn);
-        let answer = job(alloc, words.as_slice());
-        let is_refused = was_refused(alloc);
-        match answer {
-            Ok(job) => assert_eq!(rt; job, Job::Compact),
-            Err(UsageFault::Memory) => assert!(rt; is_refused, "memory was there at turn {turn}"),
-            Err(fault) => assert!(rt; false, "{fault:?}"),
-        }
-        if !is_refused {
-            break;
+    let table = [
+        (["dapnorm", "compact"].as_slice(), Job::Compact),
+        (["dapnorm", "record"].as_slice(), Job::Record),
+        (["dapnorm", "normalise"].as_slice(), Job::Normalise),
+        (["dapnorm", "show"].as_slice(), Job::Show),
+        (
+            ["dapnorm", "compare", "a", "b"].as_slice(),
+            Job::Compare { a: "a", b: "b" },
+        ),
+    ];
+    for (words, wanted) in table {
+        for turn in 1..1000u16 {
+            refuse_growth(alloc, turn);
+            let answer = job(alloc, words);
+            let is_refused = was_refused(alloc);
+            match answer {
+                Ok(job) => assert_eq!(rt; job, wanted),
+                Err(UsageFault::Memory) => {
+                    assert!(rt; is_refused, "memory was there at turn {turn}")
+                }
+                Err(fault) => assert!(rt; false, "{fault:?}"),
+            }
+            if !is_refused {
+                break;
+            }
         }
     }
     Ok(())

@@ -12,17 +12,17 @@ const STACK_TRACE: Line = (
     "{\"arguments\":{\"threadId\":1},\"command\":\"stackTrace\",\"seq\":2,\"type\":\"request\"}",
 );
 
-const FRAMES: Line = (
+pub const FRAMES: Line = (
     "<",
     "{\"body\":{\"stackFrames\":[{\"column\":1,\"id\":1000,\"line\":3,\"name\":\"f\"},{\"column\":1,\"id\":1001,\"line\":9,\"name\":\"g\"}]},\"command\":\"stackTrace\",\"request_seq\":2,\"seq\":2,\"success\":true,\"type\":\"response\"}",
 );
 
-const SCOPES: Line = (
+pub const SCOPES: Line = (
     "<",
     "{\"body\":{\"scopes\":[{\"name\":\"a \\\"b\\\"\\n\",\"variablesReference\":-7},{\"name\":\"\u{e9}\",\"variablesReference\":0}]},\"command\":\"scopes\",\"request_seq\":-2,\"seq\":0,\"success\":true,\"type\":\"response\"}",
 );
 
-const VARIABLES: Line = (
+pub const VARIABLES: Line = (
     "<",
     "{\"body\":{\"variables\":[{\"name\":\"a\",\"value\":\"1\",\"variablesReference\":0},{\"name\":\"b\",\"value\":\"1\",\"variablesReference\":5},{\"name\":\"c\",\"value\":\"1\",\"variablesReference\":0},{\"name\":\"d\",\"value\":\"1\",\"variablesReference\":5},{\"name\":\"e\",\"value\":\"1\",\"variablesReference\":3}]},\"command\":\"variables\",\"request_seq\":2,\"seq\":2,\"success\":true,\"type\":\"response\"}",
 );
