@@ -28,7 +28,7 @@ bin/dapnorm: $(SOURCES) | need-rt
 
 test: need-rt need-python
 	@command -v git > /dev/null || { echo "git is not found: the gate asks it which files there are"; exit 1; }
-	@echo "Proves every crate from nothing, tries the must-fail edits, and runs the tests: an hour and a half or more."
+	@echo "Proves every crate from nothing, tries the must-fail edits, and runs the tests: one to two hours on 4 cores."
 	@python3 tests/all.py
 
 try: need-rt
