@@ -1,4 +1,5 @@
 """Takes recordings through `normalise`: those of real adapters, a golden file, and the example of the document."""
+import itertools
 import json
 import os
 import sys
@@ -7,7 +8,7 @@ from captures import REFUSED_RECORDINGS
 from report import PROGRAM, TOP, Report, run
 
 sys.path.insert(0, os.path.join(TOP, "scripts"))
-from normalise_reference import CAPABILITIES, normalised
+from normalise_reference import CAPABILITIES, normal_records, normalised
 
 CAPTURES = os.path.join(TOP, "examples", "captures")
 
@@ -24,6 +25,11 @@ def read(*path):
         return file.read()
 
 
+def leading(recording, count):
+    """The normal form of so many leading records, as the script has it."""
+    return b"".join(itertools.islice(normal_records({}, recording), count))
+
+
 def captures(report):
     names = sorted(name for name in os.listdir(CAPTURES) if name.endswith(".rec"))
     report.check("each recording is there", len(names) == 15, str(len(names)))
@@ -33,7 +39,9 @@ def captures(report):
         status, written, errors = run(["normalise"], recording)
         if name in REFUSED_RECORDINGS:
             line = f"dapnorm: {REFUSED_RECORDINGS[name]}\n".encode()
-            report.check(f"{name} is refused, and nothing is written", (status, written, errors) == (2, b"", line), repr((status, errors)))
+            before = int(REFUSED_RECORDINGS[name].split()[1].rstrip(":")) - 1
+            report.check(f"{name} is refused", (status, errors) == (2, line), repr((status, errors)))
+            report.check(f"{name}: the normal form of the records before is written", written == leading(recording, before), repr(len(written)))
             continue
         report.check(f"{name} is normalised", (status, errors) == (0, b""), repr((status, errors)))
         report.check(f"{name}: its normal form is the script's too", written == normalised(recording))

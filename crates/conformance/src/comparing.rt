@@ -7,7 +7,7 @@ use dapnorm::{
     CompareRefused, Job, MemorySink, MemorySource, Refused, Rule, Verdict, Which, compare, job,
     normalise_bytes, run_compare,
 };
-use std::alloc::Global;
+use std::alloc::{AllocError, Global};
 use std::test::Fail;
 
 const STACK_TRACE: Line = (
@@ -38,7 +38,7 @@ pub const EXCHANGED: [Line; 4] = [
 ];
 
 /// The configured session of an adapter that numbers nothing.
-const UNNUMBERED: [Line; 5] = [
+pub const UNNUMBERED: [Line; 5] = [
     (
         ">",
         "{\"arguments\":{\"adapterID\":\"mock\"},\"command\":\"initialize\",\"seq\":7,\"type\":\"request\"}",
@@ -61,36 +61,51 @@ const UNNUMBERED: [Line; 5] = [
     ),
 ];
 
-/// The records of two stops before the frame of the second.
-const TWO_STOPS: [Line; 7] = [
+/// The frame of a first stop, a second stop, and the question for its frame.
+const FIRST_FRAME: Line = (
+    "<",
+    "{\"body\":{\"stackFrames\":[{\"column\":1,\"id\":1000,\"line\":3,\"name\":\"f\"}]},\"command\":\"stackTrace\",\"request_seq\":2,\"seq\":3,\"success\":true,\"type\":\"response\"}",
+);
+
+const STOPPED_AGAIN: Line = (
+    "<",
+    "{\"body\":{\"reason\":\"step\"},\"event\":\"stopped\",\"seq\":4,\"type\":\"event\"}",
+);
+
+const STACK_TRACE_AGAIN: Line = (
+    ">",
+    "{\"arguments\":{\"threadId\":1},\"command\":\"stackTrace\",\"seq\":3,\"type\":\"request\"}",
+);
+
+/// Two stops. The frame of the second has the id of the first.
+pub const STALE_FRAME: [Line; 8] = [
     INITIALIZE,
     INITIALIZE_RESPONSE,
     STOPPED,
     STACK_TRACE,
+    FIRST_FRAME,
+    STOPPED_AGAIN,
+    STACK_TRACE_AGAIN,
     (
         "<",
-        "{\"body\":{\"stackFrames\":[{\"column\":1,\"id\":1000,\"line\":3,\"name\":\"f\"}]},\"command\":\"stackTrace\",\"request_seq\":2,\"seq\":3,\"success\":true,\"type\":\"response\"}",
-    ),
-    (
-        "<",
-        "{\"body\":{\"reason\":\"step\"},\"event\":\"stopped\",\"seq\":4,\"type\":\"event\"}",
-    ),
-    (
-        ">",
-        "{\"arguments\":{\"threadId\":1},\"command\":\"stackTrace\",\"seq\":3,\"type\":\"request\"}",
+        "{\"body\":{\"stackFrames\":[{\"column\":1,\"id\":1000,\"line\":3,\"name\":\"f\"}]},\"command\":\"stackTrace\",\"request_seq\":3,\"seq\":5,\"success\":true,\"type\":\"response\"}",
     ),
 ];
 
-/// The frame of the second stop with the id of the first, and with one of its own.
-const STALE_FRAME: Line = (
-    "<",
-    "{\"body\":{\"stackFrames\":[{\"column\":1,\"id\":1000,\"line\":3,\"name\":\"f\"}]},\"command\":\"stackTrace\",\"request_seq\":3,\"seq\":5,\"success\":true,\"type\":\"response\"}",
-);
-
-const NEW_FRAME: Line = (
-    "<",
-    "{\"body\":{\"stackFrames\":[{\"column\":1,\"id\":1002,\"line\":3,\"name\":\"f\"}]},\"command\":\"stackTrace\",\"request_seq\":3,\"seq\":5,\"success\":true,\"type\":\"response\"}",
-);
+/// The same two stops. The frame of the second has an id of its own.
+pub const NEW_FRAME: [Line; 8] = [
+    INITIALIZE,
+    INITIALIZE_RESPONSE,
+    STOPPED,
+    STACK_TRACE,
+    FIRST_FRAME,
+    STOPPED_AGAIN,
+    STACK_TRACE_AGAIN,
+    (
+        "<",
+        "{\"body\":{\"stackFrames\":[{\"column\":1,\"id\":1002,\"line\":3,\"name\":\"f\"}]},\"command\":\"stackTrace\",\"request_seq\":3,\"seq\":5,\"success\":true,\"type\":\"response\"}",
+    ),
+];
 
 /// What the program prints of two inputs, tells of them, and its status.
 #[derive(Drop)]
@@ -204,11 +219,7 @@ fn an_adapter_that_numbers_nothing_differs_where_a_number_comes_again(
 #[test]
 fn a_stale_frame_id_differs_from_a_new_one(rt: HostRuntime) -> Result<(), Fail> {
     let alloc = rt.alloc();
-    let mut a = Vec::from_slice(alloc, TWO_STOPS.as_slice())?;
-    let mut b = Vec::from_slice(alloc, TWO_STOPS.as_slice())?;
-    a.push(STALE_FRAME)?;
-    b.push(NEW_FRAME)?;
-    let lines = printed(alloc, a.as_slice(), b.as_slice(), 1)?;
+    let lines = printed(alloc, STALE_FRAME.as_slice(), NEW_FRAME.as_slice(), 1)?;
     assert_eq!(rt; lines.as_slice(), b"differ 8\n".as_slice());
     Ok(())
 }
@@ -224,12 +235,18 @@ fn a_front_of_a_recording_differs_where_it_ends(rt: HostRuntime) -> Result<(), F
     Ok(())
 }
 
+/// A recording that differs from the configured session at the third record, and is no recording behind it.
+pub fn faulty_behind_a_difference(alloc: Global) -> Result<Vec<u8>, AllocError> {
+    let mut bytes = recording(alloc, &UNNUMBERED[..4])?;
+    bytes.push(b'!')?;
+    Ok(bytes)
+}
+
 #[test]
 fn nothing_is_judged_behind_a_difference(rt: HostRuntime) -> Result<(), Fail> {
     let alloc = rt.alloc();
     let a = recording(alloc, CONFIGURED.as_slice())?;
-    let mut b = recording(alloc, &UNNUMBERED[..4])?;
-    b.push(b'!')?;
+    let b = faulty_behind_a_difference(alloc)?;
     let told = told(alloc, a.as_slice(), b.as_slice())?;
     assert_eq!(rt; told.status, 1);
     assert_eq!(rt; told.printed.as_slice(), b"differ 3\n".as_slice());

@@ -24,6 +24,8 @@ mod failing_check;
 #[cfg(test)]
 mod failing_devices;
 #[cfg(test)]
+mod failing_normalise;
+#[cfg(test)]
 mod fault_lines;
 #[cfg(test)]
 mod normalise_refused_growths;
@@ -49,6 +51,8 @@ mod session_rules;
 mod show_refused_growths;
 #[cfg(test)]
 mod showing;
+#[cfg(test)]
+mod streaming;
 #[cfg(test)]
 mod traces;
 #[cfg(test)]

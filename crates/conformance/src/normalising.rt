@@ -1,8 +1,9 @@
 //! What `normalise` writes and what it refuses.
+use crate::devices::{TestSink, TestSource};
 use crate::examples::LIMITS;
 use crate::recordings::{
-    CONFIGURATION_DONE, CONFIGURATION_DONE_RESPONSE, CONFIGURED, INITIALIZE, INITIALIZE_RESPONSE,
-    INITIALIZED, Line, OUTPUT, STOPPED, THREADS, recording,
+    CONFIGURATION_DONE, CONFIGURATION_DONE_RESPONSE, CONFIGURED, FILLED_RESPONSE, INITIALIZE,
+    INITIALIZE_RESPONSE, INITIALIZED, Line, NORMAL_CONFIGURED, OUTPUT, STOPPED, THREADS, recording,
 };
 use dap_frame::{FrameFault, FrameLimits};
 use dapnorm::{
@@ -11,12 +12,6 @@ use dapnorm::{
 };
 use std::alloc::Global;
 use std::test::Fail;
-
-/// The response to `initialize` with the capabilities that it leaves out.
-const FILLED_RESPONSE: Line = (
-    "<",
-    "{\"body\":{\"supportSuspendDebuggee\":false,\"supportTerminateDebuggee\":false,\"supportsBreakpointLocationsRequest\":false,\"supportsCancelRequest\":false,\"supportsClipboardContext\":false,\"supportsCompletionsRequest\":false,\"supportsConditionalBreakpoints\":false,\"supportsConfigurationDoneRequest\":false,\"supportsDataBreakpoints\":false,\"supportsDelayedStackTraceLoading\":false,\"supportsDisassembleRequest\":false,\"supportsEvaluateForHovers\":false,\"supportsExceptionFilterOptions\":false,\"supportsExceptionInfoRequest\":false,\"supportsExceptionOptions\":false,\"supportsFunctionBreakpoints\":false,\"supportsGotoTargetsRequest\":false,\"supportsHitConditionalBreakpoints\":false,\"supportsInstructionBreakpoints\":false,\"supportsLoadedSourcesRequest\":false,\"supportsLogPoints\":false,\"supportsModulesRequest\":false,\"supportsReadMemoryRequest\":false,\"supportsRestartFrame\":false,\"supportsRestartRequest\":false,\"supportsSetExpression\":false,\"supportsSetVariable\":false,\"supportsSingleThreadExecutionRequests\":false,\"supportsStepBack\":false,\"supportsStepInTargetsRequest\":false,\"supportsSteppingGranularity\":false,\"supportsTerminateRequest\":false,\"supportsTerminateThreadsRequest\":false,\"supportsValueFormattingOptions\":false,\"supportsWriteMemoryRequest\":false},\"command\":\"initialize\",\"request_seq\":1,\"seq\":1,\"success\":true,\"type\":\"response\"}",
-);
 
 const STACK_TRACE: Line = (
     ">",
@@ -29,7 +24,7 @@ const FRAMES: Line = (
 );
 
 /// Recordings and their normal forms.
-const NORMAL_FORMS: [(&[Line], &[Line]); 15] = [
+pub const NORMAL_FORMS: [(&[Line], &[Line]); 15] = [
     // The example of docs/NORMAL-FORM.md.
     (
         &[
@@ -309,6 +304,78 @@ const NORMAL_FORMS: [(&[Line], &[Line]); 15] = [
     ),
 ];
 
+/// Recordings that are refused, the lines of the normal text that is written of each, and why.
+pub const REFUSED_CONTENTS: [(&[Line], &[Line], Refused); 9] = [
+    // A number with a fraction.
+    (
+        &[
+            INITIALIZE,
+            INITIALIZE_RESPONSE,
+            (
+                ">",
+                "{\"arguments\":{\"x\":0.5},\"command\":\"launch\",\"seq\":2,\"type\":\"request\"}",
+            ),
+        ],
+        &[INITIALIZE, FILLED_RESPONSE],
+        Refused::Fraction(3),
+    ),
+    // One with an exponent, though it is whole.
+    (
+        &[
+            INITIALIZE,
+            INITIALIZE_RESPONSE,
+            (
+                ">",
+                "{\"arguments\":{\"breakpoints\":[{\"line\":1e3}]},\"command\":\"setBreakpoints\",\"seq\":2,\"type\":\"request\"}",
+            ),
+        ],
+        &[INITIALIZE, FILLED_RESPONSE],
+        Refused::Fraction(3),
+    ),
+    // The same with a whole number has no source.
+    (
+        &[
+            INITIALIZE,
+            INITIALIZE_RESPONSE,
+            (
+                ">",
+                "{\"arguments\":{\"breakpoints\":[{\"line\":3}]},\"command\":\"setBreakpoints\",\"seq\":2,\"type\":\"request\"}",
+            ),
+        ],
+        &[INITIALIZE, FILLED_RESPONSE],
+        Refused::Message(3, MessageFault::Missing(13)),
+    ),
+    // A second response.
+    (
+        &[INITIALIZE, INITIALIZE_RESPONSE, INITIALIZE_RESPONSE],
+        &[INITIALIZE, FILLED_RESPONSE],
+        Refused::Rule(3, Rule::AnsweredTwice),
+    ),
+    // An event before all else.
+    (&[STOPPED], &[], Refused::Rule(1, Rule::NotInitialized)),
+    // Contents that are no messages.
+    (
+        &[(">", "[]")],
+        &[],
+        Refused::Message(1, MessageFault::NotObject),
+    ),
+    (
+        &[(">", "{}")],
+        &[],
+        Refused::Message(1, MessageFault::UnknownType),
+    ),
+    (
+        &[(">", "{\"type\":\"request\"}")],
+        &[],
+        Refused::Message(1, MessageFault::Missing(1)),
+    ),
+    (
+        &[(">", "{\"seq\":9223372036854775808,\"type\":\"event\"}")],
+        &[],
+        Refused::Message(1, MessageFault::WrongType(1)),
+    ),
+];
+
 #[test]
 fn normal_forms(rt: HostRuntime) -> Result<(), Fail> {
     let alloc = rt.alloc();
@@ -332,104 +399,42 @@ fn normal_forms(rt: HostRuntime) -> Result<(), Fail> {
     Ok(())
 }
 
-/// The answer of `normalise`, which must be that of `normalise_bytes` and of `check`, with no byte written.
-fn refusal(alloc: Global, input: &[u8], limits: Limits) -> Result<Refused, Fail> {
+/// The answer of `normalise_bytes`, which must be that of `check`, and that of `normalise`, with the records of these lines
+/// written and flushed, whether the input comes at once or a byte at a time.
+fn refusal(alloc: Global, input: &[u8], limits: Limits, written: &[Line]) -> Result<Refused, Fail> {
     if !limits.frame.sound() || limits.ids > 2_147_483_647 || limits.input > 1 << 62 {
         return Err("no limits".into());
     }
-    let mut sink = MemorySink::new(alloc, 4096)?;
-    let written = match normalise(alloc, &mut MemorySource::new(input), &mut sink, limits) {
-        Ok(()) => return Err("it is normalised".into()),
-        Err(refused) => refused,
-    };
-    if !sink.bytes().is_empty() {
-        return Err("something was written".into());
-    }
-    let of_bytes = match normalise_bytes(alloc, input, limits) {
+    let refused = match normalise_bytes(alloc, input, limits) {
         Ok(_) => return Err("its bytes are normalised".into()),
         Err(refused) => refused,
     };
-    let checked = match check(alloc, &mut MemorySource::new(input), limits, false) {
-        Ok(_) => return Err("it is accepted".into()),
-        Err(refused) => refused,
-    };
-    if of_bytes != written || checked != written {
-        return Err("refused for different reasons".into());
+    let text = recording(alloc, written)?;
+    for piece in [1, 65_536] {
+        let mut source = TestSource::new(input);
+        source.piece = piece;
+        let mut sink = TestSink::new(alloc, 4096)?;
+        if normalise(alloc, &mut source, &mut sink, limits) != Err(refused) {
+            return Err("normalise answers something else".into());
+        }
+        if sink.bytes() != text.as_slice() || sink.flushes != 1 {
+            return Err("something else was written".into());
+        }
+        let mut source = TestSource::new(input);
+        source.piece = piece;
+        if check(alloc, &mut source, limits, false) != Err(refused) {
+            return Err("check answers something else".into());
+        }
     }
-    Ok(written)
+    Ok(refused)
 }
 
 #[test]
 fn refused_contents(rt: HostRuntime) -> Result<(), Fail> {
     let alloc = rt.alloc();
-    let table: [(&[Line], Refused); 9] = [
-        // A number with a fraction.
-        (
-            [
-                INITIALIZE,
-                INITIALIZE_RESPONSE,
-                (
-                    ">",
-                    "{\"arguments\":{\"x\":0.5},\"command\":\"launch\",\"seq\":2,\"type\":\"request\"}",
-                ),
-            ]
-            .as_slice(),
-            Refused::Fraction(3),
-        ),
-        // One with an exponent, though it is whole.
-        (
-            [
-                INITIALIZE,
-                INITIALIZE_RESPONSE,
-                (
-                    ">",
-                    "{\"arguments\":{\"breakpoints\":[{\"line\":1e3}]},\"command\":\"setBreakpoints\",\"seq\":2,\"type\":\"request\"}",
-                ),
-            ]
-            .as_slice(),
-            Refused::Fraction(3),
-        ),
-        // The same with a whole number has no source.
-        (
-            [
-                INITIALIZE,
-                INITIALIZE_RESPONSE,
-                (
-                    ">",
-                    "{\"arguments\":{\"breakpoints\":[{\"line\":3}]},\"command\":\"setBreakpoints\",\"seq\":2,\"type\":\"request\"}",
-                ),
-            ]
-            .as_slice(),
-            Refused::Message(3, MessageFault::Missing(13)),
-        ),
-        // A second response.
-        (
-            [INITIALIZE, INITIALIZE_RESPONSE, INITIALIZE_RESPONSE].as_slice(),
-            Refused::Rule(3, Rule::AnsweredTwice),
-        ),
-        // An event before all else.
-        ([STOPPED].as_slice(), Refused::Rule(1, Rule::NotInitialized)),
-        // Contents that are no messages.
-        (
-            [(">", "[]")].as_slice(),
-            Refused::Message(1, MessageFault::NotObject),
-        ),
-        (
-            [(">", "{}")].as_slice(),
-            Refused::Message(1, MessageFault::UnknownType),
-        ),
-        (
-            [(">", "{\"type\":\"request\"}")].as_slice(),
-            Refused::Message(1, MessageFault::Missing(1)),
-        ),
-        (
-            [(">", "{\"seq\":9223372036854775808,\"type\":\"event\"}")].as_slice(),
-            Refused::Message(1, MessageFault::WrongType(1)),
-        ),
-    ];
-    for (lines, wanted) in table {
+    for (lines, written, wanted) in REFUSED_CONTENTS {
         let input = recording(alloc, lines)?;
-        assert_eq!(rt; refusal(alloc, input.as_slice(), LIMITS)?, wanted);
+        assert_eq!(rt; refusal(alloc, input.as_slice(), LIMITS, written)?, wanted);
     }
     Ok(())
 }
@@ -452,7 +457,8 @@ fn refused_records(rt: HostRuntime) -> Result<(), Fail> {
         ),
     ];
     for (input, cause) in table {
-        assert_eq!(rt; refusal(alloc, input, LIMITS)?, Refused::Record(1, cause));
+        let refused = refusal(alloc, input, LIMITS, [].as_slice())?;
+        assert_eq!(rt; refused, Refused::Record(1, cause));
     }
     Ok(())
 }
@@ -461,17 +467,19 @@ fn refused_records(rt: HostRuntime) -> Result<(), Fail> {
 fn the_input_limit_is_that_of_the_normal_text_too(rt: HostRuntime) -> Result<(), Fail> {
     let alloc = rt.alloc();
     let input = recording(alloc, CONFIGURED.as_slice())?;
-    for (most, wanted) in [
-        (10, Refused::InputTooLong(1)),
-        (106, Refused::InputTooLong(2)),
-        (473, Refused::Grew(2)),
-        (1708, Refused::Grew(5)),
+    let normal = NORMAL_CONFIGURED;
+    for (most, records, wanted) in [
+        (10, 0, Refused::InputTooLong(1)),
+        (106, 1, Refused::InputTooLong(2)),
+        (473, 1, Refused::Grew(2)),
+        (1708, 4, Refused::Grew(5)),
     ] {
         let limits = Limits {
             input: most,
             ..LIMITS
         };
-        assert_eq!(rt; refusal(alloc, input.as_slice(), limits)?, wanted);
+        let written = normal.as_slice().get(..records).ok_or("too many")?;
+        assert_eq!(rt; refusal(alloc, input.as_slice(), limits, written)?, wanted);
     }
     let mut sink = MemorySink::new(alloc, 4096)?;
     let limits = Limits {
@@ -498,7 +506,8 @@ fn a_filled_content_may_pass_its_limit(rt: HostRuntime) -> Result<(), Fail> {
         ..LIMITS.frame
     };
     let limits = Limits { frame, ..LIMITS };
-    assert_eq!(rt; refusal(alloc, input.as_slice(), limits)?, Refused::Grew(2));
+    let refused = refusal(alloc, input.as_slice(), limits, [INITIALIZE].as_slice())?;
+    assert_eq!(rt; refused, Refused::Grew(2));
     Ok(())
 }
 
@@ -512,16 +521,13 @@ fn too_many_ids(rt: HostRuntime) -> Result<(), Fail> {
     let lines = [INITIALIZE, INITIALIZE_RESPONSE, STACK_TRACE, three_frames];
     let input = recording(alloc, lines.as_slice())?;
     let two = Limits { ids: 2, ..LIMITS };
-    assert_eq!(rt;
-        refusal(alloc, input.as_slice(), two)?,
-        Refused::TooManyIds(4)
-    );
+    let written = [INITIALIZE, FILLED_RESPONSE, STACK_TRACE];
+    let refused = refusal(alloc, input.as_slice(), two, written.as_slice())?;
+    assert_eq!(rt; refused, Refused::TooManyIds(4));
     let one = recording(alloc, [INITIALIZE].as_slice())?;
     let none = Limits { ids: 0, ..LIMITS };
-    assert_eq!(rt;
-        refusal(alloc, one.as_slice(), none)?,
-        Refused::TooManyIds(1)
-    );
+    let refused = refusal(alloc, one.as_slice(), none, [].as_slice())?;
+    assert_eq!(rt; refused, Refused::TooManyIds(1));
     Ok(())
 }
 
@@ -549,10 +555,16 @@ fn the_program_writes_the_normal_text_and_one_line_of_a_refusal(
 ) -> Result<(), Fail> {
     let alloc = rt.alloc();
     let configured = recording(alloc, CONFIGURED.as_slice())?;
+    let normal = recording(alloc, NORMAL_CONFIGURED.as_slice())?;
     let limits = Limits { ids: 1, ..LIMITS };
     for (limits, len, line, wanted) in [
         (LIMITS, 1709, b"".as_slice(), 0),
-        (limits, 0, b"dapnorm: record 3: TooManyIds\n".as_slice(), 2),
+        (
+            limits,
+            1447,
+            b"dapnorm: record 3: TooManyIds\n".as_slice(),
+            2,
+        ),
     ] {
         let mut sink = MemorySink::new(alloc, 4096)?;
         let mut errors = MemorySink::new(alloc, 4096)?;
@@ -565,7 +577,10 @@ fn the_program_writes_the_normal_text_and_one_line_of_a_refusal(
             limits,
         );
         assert_eq!(rt; status, wanted);
-        assert_eq!(rt; sink.bytes().len(), len);
+        assert_eq!(rt;
+            sink.bytes(),
+            normal.as_slice().get(..len).ok_or("too far")?
+        );
         assert_eq!(rt; errors.bytes(), line);
     }
     let words = ["dapnorm", "normalise"];

@@ -55,6 +55,78 @@ pub const CONFIGURED: [Line; 5] = [
     CONFIGURATION_DONE_RESPONSE,
 ];
 
+/// The response to `initialize` with the capabilities that it leaves out.
+pub const FILLED_RESPONSE: Line = (
+    "<",
+    "{\"body\":{\"supportSuspendDebuggee\":false,\"supportTerminateDebuggee\":false,\"supportsBreakpointLocationsRequest\":false,\"supportsCancelRequest\":false,\"supportsClipboardContext\":false,\"supportsCompletionsRequest\":false,\"supportsConditionalBreakpoints\":false,\"supportsConfigurationDoneRequest\":false,\"supportsDataBreakpoints\":false,\"supportsDelayedStackTraceLoading\":false,\"supportsDisassembleRequest\":false,\"supportsEvaluateForHovers\":false,\"supportsExceptionFilterOptions\":false,\"supportsExceptionInfoRequest\":false,\"supportsExceptionOptions\":false,\"supportsFunctionBreakpoints\":false,\"supportsGotoTargetsRequest\":false,\"supportsHitConditionalBreakpoints\":false,\"supportsInstructionBreakpoints\":false,\"supportsLoadedSourcesRequest\":false,\"supportsLogPoints\":false,\"supportsModulesRequest\":false,\"supportsReadMemoryRequest\":false,\"supportsRestartFrame\":false,\"supportsRestartRequest\":false,\"supportsSetExpression\":false,\"supportsSetVariable\":false,\"supportsSingleThreadExecutionRequests\":false,\"supportsStepBack\":false,\"supportsStepInTargetsRequest\":false,\"supportsSteppingGranularity\":false,\"supportsTerminateRequest\":false,\"supportsTerminateThreadsRequest\":false,\"supportsValueFormattingOptions\":false,\"supportsWriteMemoryRequest\":false},\"command\":\"initialize\",\"request_seq\":1,\"seq\":1,\"success\":true,\"type\":\"response\"}",
+);
+
+/// The normal form of the configured session: 1,709 bytes.
+pub const NORMAL_CONFIGURED: [Line; 5] = [
+    INITIALIZE,
+    FILLED_RESPONSE,
+    INITIALIZED,
+    CONFIGURATION_DONE,
+    CONFIGURATION_DONE_RESPONSE,
+];
+
+/// A session whose third record answers the first again.
+pub const ANSWERED_TWICE: [Line; 3] = [INITIALIZE, INITIALIZE_RESPONSE, INITIALIZE_RESPONSE];
+
+/// Behind how many bytes each record of the configured session ends, how many requests of the client are open there, and
+/// behind how many bytes the record of its normal form ends.
+const ENDS: [(usize, usize, usize); 5] = [
+    (106, 1, 106),
+    (211, 0, 1447),
+    (281, 0, 1517),
+    (361, 1, 1597),
+    (473, 0, 1709),
+];
+
+/// Where a record of the configured session ends, or where nothing has come.
+#[derive(Clone, Copy)]
+pub struct End {
+    /// How many records end up to there.
+    pub records: u64,
+    /// How many bytes they have.
+    pub at: usize,
+    /// How many requests of the client they leave open.
+    pub client_open: usize,
+    /// How many bytes their normal text has.
+    pub normal: usize,
+}
+
+/// The last end in so many leading bytes of the configured session.
+pub fn last_end(place: usize) -> End {
+    let mut last = End {
+        records: 0,
+        at: 0,
+        client_open: 0,
+        normal: 0,
+    };
+    for (at, client_open, normal) in ENDS {
+        if at <= place {
+            last = End {
+                records: last.records.saturating_add(1),
+                at,
+                client_open,
+                normal,
+            };
+        }
+    }
+    last
+}
+
+/// Whether the normal text of some leading records of the configured session has so many bytes.
+pub fn ends_normal_records(len: usize) -> bool {
+    for (_, _, normal) in ENDS {
+        if normal == len {
+            return true;
+        }
+    }
+    len == 0
+}
+
 /// The recording of these lines.
 pub fn recording(alloc: Global, lines: &[Line]) -> Result<Vec<u8>, AllocError> {
     let mut bytes = Vec::new(alloc);

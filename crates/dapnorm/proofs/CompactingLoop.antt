@@ -6,7 +6,7 @@ use Rattle.dap_frame.specs.declared.fault.FrameFault.{FrameFault}
 use Rattle.dap_frame.specs.Frame.{IsFrame, IsOpen, Shows}
 use Rattle.dap_frame.specs.Reading.{Reading, Stands, limits_of}
 use Rattle.dapnorm.specs.declared.limits.Limits.{Limits}
-use Rattle.dapnorm.specs.declared.reading.Stop.{Stop}
+use Rattle.dap_device.specs.declared.reading.Stop.{Stop}
 use Rattle.dapnorm.specs.declared.refused.Refused.{Refused}
 use Rattle.dapnorm.specs.declared.refused.Refused.TheVariants.{Record}
 use Rattle.dap_recording.specs.declared.record_fault.RecordCause.TheVariants.{Cut}

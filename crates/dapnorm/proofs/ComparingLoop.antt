@@ -1,277 +1,151 @@
--- What the loop of `compare` keeps, and what it may answer.
-use Rattle.std.proofs.Common.{◌≡◌, ◌⊎◌, inl, inr, ℕ, ◌+◌, ◌<◌, ◌^◌, List, [], ◌∷◌, ◌++◌, length, drop, Option, Some, None, Vec, Global, Ok, Err, refl, sym, ◌∙◌, ap, subst, arith, append_assoc, length-take, take-append-drop}
-use Rattle.std.proofs.lemmas.List.{append_cancel_left, length_push}
-use Rattle.dap_message.specs.Message.{Sent}
-use Rattle.dap_tree.specs.declared.sort.Sort.{Sort}
-use Rattle.dap_tree.specs.declared.sort.Sort.TheVariants.{ClientSeq, AdapterSeq, Frame, Reference}
-use Rattle.dap_rename.specs.Messages.{AreSame, IsNormal, class_after, in_whole, equal_places, numbers_of_class, stops_after}
-use Rattle.dap_rename.specs.Names.{HaveEqualCounts, StandFor, numbers_in}
-use Rattle.dap_rename.specs.SortedNames.{sorted_numbers}
-use Rattle.dap_rename.proofs.Normals.{same_counts}
-use Rattle.dap_rename.proofs.Sameness.{normal_is_complete, normal_is_unique}
-use Rattle.dap_rename.proofs.Standing.{no_stops}
+-- What `compare` may answer of two inputs, of each of which a front is accepted.
+use Rattle.std.proofs.Common.{◌≡◌, ◌≢◌, inl, inr, ℕ, ◌+◌, Bool, true, false, List, [], ◌∷◌, ◌++◌, length, Option, Some, None, refl, sym, ◌∙◌, ap, ap₂, subst, arith, append-nil}
+use Rattle.std.proofs.lemmas.Bool.{true≢false}
+use Rattle.std.proofs.lemmas.List.{append_cancel_left}
+use Rattle.dap_device.specs.declared.reading.Stop.{Stop}
+use Rattle.dap_device.specs.declared.reading.Stop.TheVariants.{End, Full, Failed}
+use Rattle.dap_message.specs.Message.{Sent, no_reading, fraction, faulty as profile_fault}
+use Rattle.dap_recording.specs.declared.record_fault.RecordCause.TheVariants as cause
+use Rattle.dap_rename.specs.Messages.{AreSame, IsNormal, in_whole, equal_places}
+use Rattle.dap_rename.proofs.Sameness.{normal_is_unique}
 use Rattle.dapnorm.specs.declared.limits.Limits.{Limits}
-use Rattle.dapnorm.specs.declared.normal_records.NormalRecords.{NormalRecords}
-use Rattle.dapnorm.specs.declared.reading.Stop.{Stop}
 use Rattle.dapnorm.specs.declared.refused.Refused.{Refused}
-use Rattle.dapnorm.specs.declared.refused.Refused.TheVariants as why
-use Rattle.dapnorm.specs.declared.verdict.CompareRefused.TheVariants as because
-use Rattle.dapnorm.specs.declared.verdict.Which.TheVariants.{A, B}
-use Rattle.dapnorm.specs.Accepting.{IsAccepted, accepting, text}
-use Rattle.dapnorm.specs.Comparing.{Input, IsTaken, IsNotRefusedAt, AcceptedBefore, AreSameBefore, are_same, differ}
-use Rattle.dapnorm.specs.ComparingSteps.{HasGone, HasNext, StandAlike, StandsBefore}
+use Rattle.dapnorm.specs.declared.refused.Refused.TheVariants.{InputTooLong, Record, Json, Fraction, Message, Rule, TooManyIds, Grew, Incomplete, TraceTooLong, Trace, Recorder, ReadFault, WriteFault, Memory}
+use Rattle.dapnorm.specs.Accepting.{IsAccepted, accepting, no_message, broken, too_many_ids, grew, text}
+use Rattle.dapnorm.specs.Comparing.{Input, Fault, refused, read_fault, IsRefusedAt, IsTaken, IsNotRefusedAt, AcceptedBefore, AreSameBefore, are_same, differ}
+use Rattle.dapnorm.specs.Judging.{Reason, IsFirstRefusal, faulty, cut, input_too_long, objected}
 use Rattle.dapnorm.specs.JudgingSteps.{record_of}
 use Rattle.dapnorm.specs.Limits.{AreSound}
-use Rattle.dapnorm.specs.Normalising.{Normalises}
-use Rattle.dapnorm.specs.Verdicts.{IsRecordingVerdict, RefusesAt, TellsRefusal, as_came}
+use Rattle.dapnorm.specs.ReadTo.{has_failed, so_far}
+use Rattle.dapnorm.specs.Verdicts.{IsOf, IsRecordingVerdict, RefusesAt, Tells}
 use Rattle.dapnorm.proofs.AcceptingFacts.{accepted_facts, value_laws}
 use Rattle.dapnorm.proofs.InputRefusals.{next_not_refused, taken_not_refused}
 use Rattle.dapnorm.proofs.JudgedRecords.{text_push}
 use Rattle.dapnorm.proofs.OneVerdict.{before_same, before_some, whole_before}
-use Rattle.dapnorm.proofs.RecordingFacts.{record_laws}
+use Rattle.dapnorm.proofs.Outcomes.{refusal_stays}
+use Rattle.dapnorm.proofs.RecordingFacts.{record_facts, record_laws}
 use Rattle.dapnorm.proofs.Standing.{equal_texts}
-use Rattle.dapnorm.proofs.Verdicts.{same_lengths}
 
--- The records before are accepted.
-abbrev pub before_of : (limits : Limits) (bytes : List ℕ) (records : NormalRecords) (messages normal : List Sent) → StandsBefore limits bytes records messages normal
-    → AcceptedBefore (accepting limits) (as_came bytes records.stop) records.number
-before_of limits bytes records messages normal stands = record {
-  values = messages;
-  front = stands.front;
-  rest = records.rest.now ++ drop limits.input bytes;
-  split = sym (take-append-drop limits.input bytes) ∙ ap (λ t. t ++ drop limits.input bytes) stands.taken ∙ append_assoc stands.front records.rest.now (drop limits.input bytes);
-  accepted = stands.accepted;
-  is_number = stands.number_is;
-}
+-- ---- an input of which some bytes have come
 
--- The text of the normal form of what is accepted.
-abbrev normalised_as : (limits : Limits) (front : List ℕ) (messages normal : List Sent) → IsAccepted limits front messages → IsNormal in_whole messages normal → Normalises limits front (text normal)
-normalised_as limits front messages normal accepted is = record { messages = messages; accepts = accepted; normal = normal; is_normal = is; text_is = refl }
+-- What has come is a front of it.
+pub front_of : (bytes : List ℕ) (stop : Option Stop) (input : Input) → IsOf bytes stop input → (more : List ℕ) × (input.bytes ≡ bytes ++ more)
+front_of bytes None input is = is
+front_of bytes (Some End) input is = ([], is.0 ∙ sym (append-nil bytes))
+front_of bytes (Some Full) input is = is
+front_of bytes (Some Failed) input is = ([], is.0 ∙ sym (append-nil bytes))
 
--- There are fewer records than bytes may be.
-pub small_number : (limits : Limits) → AreSound limits → (bytes : List ℕ) (records : NormalRecords) (messages normal : List Sent) → StandsBefore limits bytes records messages normal → records.number < 2 ^ 63
-small_number limits sound bytes records messages normal stands =
-    let few = stands.few in let most = sound.input in omega (arith, few, most, length-take limits.input bytes)
+-- an input by its parts
+same_input : (input : Input) (bytes : List ℕ) (failed : Bool) → input.bytes ≡ bytes → input.failed ≡ failed → record { bytes = bytes; failed = failed } ≡ input
+same_input input bytes failed one two = ap₂ (λ b f. record { bytes = b; failed = f }) (sym one) (sym two)
 
--- What is answered of the next record is that memory was refused, or a refusal there.
-pub as_told : (limits : Limits) (bytes : List ℕ) (messages normal : List Sent) (old new : NormalRecords) (refused : Refused) → HasNext limits bytes messages normal old new (Err refused)
-    → (refused ≡ why.Memory) ⊎ ((refused ≡ why.Memory → ⊥) × RefusesAt limits (as_came bytes old.stop) old.number refused)
-as_told limits bytes messages normal old new (why.InputTooLong n) told = inr ((λ same. absurd (let e = same in cc)), told)
-as_told limits bytes messages normal old new (why.Record n what) told = inr ((λ same. absurd (let e = same in cc)), told)
-as_told limits bytes messages normal old new (why.Json n) told = inr ((λ same. absurd (let e = same in cc)), told)
-as_told limits bytes messages normal old new (why.Fraction n) told = inr ((λ same. absurd (let e = same in cc)), told)
-as_told limits bytes messages normal old new (why.Message n fault) told = inr ((λ same. absurd (let e = same in cc)), told)
-as_told limits bytes messages normal old new (why.Rule n rule) told = inr ((λ same. absurd (let e = same in cc)), told)
-as_told limits bytes messages normal old new (why.TooManyIds n) told = inr ((λ same. absurd (let e = same in cc)), told)
-as_told limits bytes messages normal old new (why.Grew n) told = inr ((λ same. absurd (let e = same in cc)), told)
-as_told limits bytes messages normal old new (why.Incomplete client adapter) told = inr ((λ same. absurd (let e = same in cc)), told)
-as_told limits bytes messages normal old new (why.TraceTooLong m) told = inr ((λ same. absurd (let e = same in cc)), told)
-as_told limits bytes messages normal old new (why.Trace m cause) told = inr ((λ same. absurd (let e = same in cc)), told)
-as_told limits bytes messages normal old new (why.Recorder m fault) told = inr ((λ same. absurd (let e = same in cc)), told)
-as_told limits bytes messages normal old new why.ReadFault told = inr ((λ same. absurd (let e = same in cc)), told)
-as_told limits bytes messages normal old new why.WriteFault told = inr ((λ same. absurd (let e = same in cc)), told)
-as_told limits bytes messages normal old new why.Memory told = inl refl
+module _ (limits : Limits) where
+  -- Where the reader came to its end, it is taken.
+  pub taken_in : (bytes : List ℕ) (input : Input) (messages : List Sent) → IsOf bytes (Some End) input → IsAccepted limits bytes messages → IsTaken (accepting limits) input messages
+  taken_in bytes input messages is accepted = (subst (λ t. IsAccepted limits t messages) (sym is.0) accepted, is.1)
 
--- What holds of the inputs as they came holds where they stop for these reasons.
-pub with_stops : (P : Stop → Stop → Type 0) (x y u v : Stop) → x ≡ u → y ≡ v → P x y → P u v
-with_stops P x y u v one two is = subst (λ s. P s v) one (subst (P x) two is)
+  -- what a refusal tells: that the reader failed, that the record is cut, or something that stays when more bytes come
+  data Kind (because : Refused) (fault : Fault (accepting limits)) : Type 0 where
+    of_reader : fault ≡ read_fault → Kind because fault
+    of_end : fault ≡ refused cut → (n : ℕ) → because ≡ Record n cause.Cut → Kind because fault
+    of_bytes : (why : Reason (accepting limits)) → fault ≡ refused why → why ≢ cut → Kind because fault
 
-module _ (limits : Limits) (sound : AreSound limits) (bytes_a bytes_b : List ℕ) (a b : NormalRecords) (were : StandAlike limits bytes_a bytes_b a b) where
-  abbrev input_a : Input
-  input_a = as_came bytes_a a.stop
+  kind : (because : Refused) (number : ℕ) (fault : Fault (accepting limits)) → Tells limits because number fault → Kind because fault
+  kind (InputTooLong n) number fault told = of_bytes input_too_long told.1 (λ e. absurd (let same = e in cc))
+  kind (Record n cause.BadMarker) number fault told = of_bytes (faulty cause.BadMarker) told.1 (λ e. absurd (let same = e in cc))
+  kind (Record n (cause.Frame f)) number fault told = of_bytes (faulty (cause.Frame f)) told.1 (λ e. absurd (let same = e in cc))
+  kind (Record n cause.NoLineEnd) number fault told = of_bytes (faulty cause.NoLineEnd) told.1 (λ e. absurd (let same = e in cc))
+  kind (Record n cause.Cut) number fault told = of_end told.1 n refl
+  kind (Record n cause.Memory) number fault told = absurd told
+  kind (Json n) number fault told = of_bytes (objected (no_message no_reading)) told.1 (λ e. absurd (let same = e in cc))
+  kind (Fraction n) number fault told = of_bytes (objected (no_message fraction)) told.1 (λ e. absurd (let same = e in cc))
+  kind (Message n f) number fault told = of_bytes (objected (no_message (profile_fault f))) told.1 (λ e. absurd (let same = e in cc))
+  kind (Rule n rule) number fault told = of_bytes (objected (broken rule)) told.1 (λ e. absurd (let same = e in cc))
+  kind (TooManyIds n) number fault told = of_bytes (objected too_many_ids) told.1 (λ e. absurd (let same = e in cc))
+  kind (Grew n) number fault told = of_bytes (objected grew) told.1 (λ e. absurd (let same = e in cc))
+  kind (Incomplete client adapter) number fault told = absurd told
+  kind (TraceTooLong n) number fault told = absurd told
+  kind (Trace n why) number fault told = absurd told
+  kind (Recorder n f) number fault told = absurd told
+  kind ReadFault number fault told = of_reader told
+  kind WriteFault number fault told = absurd told
+  kind Memory number fault told = absurd told
 
-  abbrev input_b : Input
-  input_b = as_came bytes_b b.stop
+  module _ (bytes : List ℕ) (number : ℕ) (because : Refused) (input : Input) where
+    -- more may come
+    module _ (stop : Option Stop) (still : has_failed stop ≡ false) (on : stop ≡ Some End → ⊥) (more : List ℕ) (split : input.bytes ≡ bytes ++ more)
+        (said : RefusesAt limits (so_far bytes stop) number because) (ended : (n : ℕ) → because ≡ Record n cause.Cut → stop ≡ Some End) where
+      on_with : Kind because said.fault → RefusesAt limits input number because
+      on_with (of_reader same) = absurd (true≢false (sym (subst (IsRefusedAt (accepting limits) (so_far bytes stop) number) same said.is_refused).0 ∙ still))
+      on_with (of_end same n is) = absurd (on (ended n is))
+      on_with (of_bytes why same other) = record {
+        fault = said.fault;
+        tells = said.tells;
+        is_refused = subst (IsRefusedAt (accepting limits) input number) (sym same) (
+          subst (λ t. IsFirstRefusal (accepting limits) t number why) (sym split)
+              (refusal_stays (accepting limits) (record_facts limits).laws (record_facts limits).faults (value_laws limits) (accepted_facts limits) bytes more number why other
+              (subst (IsRefusedAt (accepting limits) (so_far bytes stop) number) same said.is_refused).0),
+          λ failed. other,
+        );
+      }
 
-  are : AreSame in_whole were.of_a were.of_b
-  are = normal_is_complete in_whole were.of_a were.of_b were.normal were.a_stands.stands.is_normal were.b_stands.stands.is_normal
+    -- What has come is refused, and so is the input.
+    pub refused_in : (stop : Option Stop) → IsOf bytes stop input → RefusesAt limits (so_far bytes stop) number because → ((n : ℕ) → because ≡ Record n cause.Cut → stop ≡ Some End)
+        → RefusesAt limits input number because
+    refused_in None is said ended = on_with None refl (λ e. absurd (let same = e in cc)) is.0 is.1 said ended (kind because number said.fault said.tells)
+    refused_in (Some End) is said ended = subst (λ i. RefusesAt limits i number because) (same_input input bytes false is.0 is.1) said
+    refused_in (Some Full) is said ended = on_with (Some Full) refl (λ e. absurd (let same = e in cc)) is.0 is.1 said ended (kind because number said.fault said.tells)
+    refused_in (Some Failed) is said ended = subst (λ i. RefusesAt limits i number because) (same_input input bytes true is.0 is.1) said
 
-  pub one_number : b.number ≡ a.number
-  one_number = were.b_stands.number_is ∙ sym (ap (λ n. n + 1) (same_lengths were.of_a were.of_b are)) ∙ sym were.a_stands.number_is
+  -- ---- two inputs
 
-  abbrev before_b : AcceptedBefore (accepting limits) input_b a.number
-  before_b = record {
-    values = were.of_b;
-    front = were.b_stands.front;
-    rest = b.rest.now ++ drop limits.input bytes_b;
-    split = sym (take-append-drop limits.input bytes_b) ∙ ap (λ t. t ++ drop limits.input bytes_b) were.b_stands.taken ∙ append_assoc were.b_stands.front b.rest.now (drop limits.input bytes_b);
-    accepted = were.b_stands.accepted;
-    is_number = sym one_number ∙ were.b_stands.number_is;
-  }
+  pub goes_on : (number : ℕ) (input : Input) → AcceptedBefore (accepting limits) input (number + 1) → IsNotRefusedAt (accepting limits) input number
+  goes_on number input next = next_not_refused (accepting limits) (record_laws limits) (value_laws limits) (accepted_facts limits) input number next
 
-  abbrev before : AreSameBefore (accepting limits) (AreSame in_whole) input_a input_b a.number
-  before = record { of_a = before_of limits bytes_a a were.of_a were.normal were.a_stands; of_b = before_b; same = are }
+  pub has_ended : (number : ℕ) (input : Input) (messages : List Sent) → IsTaken (accepting limits) input messages → IsNotRefusedAt (accepting limits) input number
+  has_ended number input messages taken = taken_not_refused (accepting limits) (record_laws limits) (value_laws limits) (accepted_facts limits) input messages number taken
 
-  -- ---- the record of the one
+  module _ (x y : Input) (number : ℕ) (before : AreSameBefore (accepting limits) (AreSame in_whole) x y number) where
+    abbrev Differ : Type 0
+    Differ = IsRecordingVerdict limits x y (differ number)
 
-  pub refused_by_a : (refused : Refused) → RefusesAt limits input_a a.number refused → TellsRefusal limits input_a input_b (because.Input A refused)
-  refused_by_a refused is = (a.number, record { fault = is.fault; tells = is.tells; is_verdict = (before, is.is_refused) })
+    none_left : (input : Input) (here : AcceptedBefore (accepting limits) input number) (messages : List Sent) → IsTaken (accepting limits) input messages → number ≡ length messages + 1 → here.rest ≡ []
+    none_left input here messages taken is =
+        (before_same (accepting limits) (record_laws limits) (value_laws limits) (accepted_facts limits) input number (length messages + 1) here
+        (whole_before (accepting limits) (record_laws limits) (value_laws limits) (accepted_facts limits) input messages taken) is).2
 
-  module _ (new : NormalRecords) (text_a : List ℕ) (gone : HasGone limits bytes_a were.of_a were.normal a new text_a) where
-    abbrev next_a : AcceptedBefore (accepting limits) input_a (a.number + 1)
-    next_a = record {
-      values = were.of_a ++ gone.message ∷ [];
-      front = gone.stands.front;
-      rest = new.rest.now ++ drop limits.input bytes_a;
-      split = sym (take-append-drop limits.input bytes_a) ∙ ap (λ t. t ++ drop limits.input bytes_a) gone.stands.taken ∙ append_assoc gone.stands.front new.rest.now (drop limits.input bytes_a);
-      accepted = gone.stands.accepted;
-      is_number = let is = were.a_stands.number_is in omega (arith, is, length_push were.of_a gone.message);
-    }
+    some_left : (input : Input) (here : AcceptedBefore (accepting limits) input number) → AcceptedBefore (accepting limits) input (number + 1) → here.rest ≢ []
+    some_left input here next = before_some (accepting limits) (record_laws limits) (value_laws limits) (accepted_facts limits) input number (number + 1) here next (omega arith)
 
-    pub gone_a : IsNotRefusedAt (accepting limits) input_a a.number
-    gone_a = next_not_refused (accepting limits) (record_laws limits) (value_laws limits) (accepted_facts limits) input_a a.number next_a
+    -- Just one of them has ended.
+    pub x_has_ended : (messages : List Sent) → IsTaken (accepting limits) x messages → number ≡ length messages + 1 → AcceptedBefore (accepting limits) y (number + 1) → Differ
+    x_has_ended messages taken is next = (before, has_ended number x messages taken, goes_on number y next, inl (none_left x before.of_a messages taken is, some_left y before.of_b next))
 
-  pub ended_a : IsTaken (accepting limits) input_a were.of_a → IsNotRefusedAt (accepting limits) input_a a.number
-  ended_a taken = taken_not_refused (accepting limits) (record_laws limits) (value_laws limits) (accepted_facts limits) input_a were.of_a a.number taken
+    pub y_has_ended : (messages : List Sent) → IsTaken (accepting limits) y messages → number ≡ length messages + 1 → AcceptedBefore (accepting limits) x (number + 1) → Differ
+    y_has_ended messages taken is next = (before, goes_on number x next, has_ended number y messages taken, inr (inl (some_left x before.of_a next, none_left y before.of_b messages taken is)))
 
-  -- Where a record of the one is accepted, or none is left, it is not refused.
-  pub passes_a : (next : Option (Vec ℕ Global)) (new : NormalRecords) → HasNext limits bytes_a were.of_a were.normal a new (Ok next) → IsNotRefusedAt (accepting limits) input_a a.number
-  passes_a None new is = ended_a is.0
-  passes_a (Some next) new is = gone_a new next.items is
+    -- With this record they are not the same.
+    pub are_apart : (next_x : AcceptedBefore (accepting limits) x (number + 1)) (next_y : AcceptedBefore (accepting limits) y (number + 1)) → (AreSame in_whole next_x.values next_y.values → ⊥) → Differ
+    are_apart next_x next_y apart = (before, goes_on number x next_x, goes_on number y next_y, inr (inr (next_x, next_y, apart)))
 
-  none_left_a : IsTaken (accepting limits) input_a were.of_a → before.of_a.rest ≡ []
-  none_left_a taken =
-      (before_same (accepting limits) (record_laws limits) (value_laws limits) (accepted_facts limits) input_a a.number (length were.of_a + 1) before.of_a
-      (whole_before (accepting limits) (record_laws limits) (value_laws limits) (accepted_facts limits) input_a were.of_a taken) were.a_stands.number_is).2
+  pub both_have_ended : (x y : Input) (of_x of_y : List Sent) → IsTaken (accepting limits) x of_x → IsTaken (accepting limits) y of_y → AreSame in_whole of_x of_y
+      → IsRecordingVerdict limits x y (are_same (equal_places of_x of_y))
+  both_have_ended x y of_x of_y taken_x taken_y are = (record { of_a = of_x; of_b = of_y; taken_a = taken_x; taken_b = taken_y; same = are }, refl)
 
-  -- ---- the record of the other
+  -- ---- the records of two normal forms
 
-  pub refused_by_b : (refused : Refused) → IsNotRefusedAt (accepting limits) input_a a.number → RefusesAt limits input_b b.number refused → TellsRefusal limits input_a input_b (because.Input B refused)
-  refused_by_b refused passes is =
-      let now = subst (λ n. RefusesAt limits input_b n refused) one_number is in
-      (a.number, record { fault = now.fault; tells = now.tells; is_verdict = (before, passes, now.is_refused) })
+  module _ (normal of_x of_y : List Sent) (p q : Sent) (is_x : IsNormal in_whole of_x (normal ++ p ∷ [])) (is_y : IsNormal in_whole of_y (normal ++ q ∷ [])) where
+    -- Where the next records of one normal form are not equal, the messages are not the same.
+    pub not_the_same : (record_of p ≡ record_of q → ⊥) → AreSame in_whole of_x of_y → ⊥
+    not_the_same apart same =
+        let one = normal_is_unique in_whole of_x of_y (normal ++ p ∷ []) (normal ++ q ∷ []) same is_x is_y in
+        apart (append_cancel_left (text normal) (record_of p) (record_of q) (sym (text_push normal p) ∙ ap text one ∙ text_push normal q))
 
-  module _ (new : NormalRecords) (text_b : List ℕ) (gone : HasGone limits bytes_b were.of_b were.normal b new text_b) where
-    abbrev next_b : AcceptedBefore (accepting limits) input_b (a.number + 1)
-    next_b = record {
-      values = were.of_b ++ gone.message ∷ [];
-      front = gone.stands.front;
-      rest = new.rest.now ++ drop limits.input bytes_b;
-      split = sym (take-append-drop limits.input bytes_b) ∙ ap (λ t. t ++ drop limits.input bytes_b) gone.stands.taken ∙ append_assoc gone.stands.front new.rest.now (drop limits.input bytes_b);
-      accepted = gone.stands.accepted;
-      is_number = let is = were.b_stands.number_is in omega (arith, is, one_number, length_push were.of_b gone.message);
-    }
-
-    pub gone_b : IsNotRefusedAt (accepting limits) input_b a.number
-    gone_b = next_not_refused (accepting limits) (record_laws limits) (value_laws limits) (accepted_facts limits) input_b a.number next_b
-
-  pub ended_b : IsTaken (accepting limits) input_b were.of_b → IsNotRefusedAt (accepting limits) input_b a.number
-  ended_b taken = taken_not_refused (accepting limits) (record_laws limits) (value_laws limits) (accepted_facts limits) input_b were.of_b a.number taken
-
-  none_left_b : IsTaken (accepting limits) input_b were.of_b → before.of_b.rest ≡ []
-  none_left_b taken =
-      (before_same (accepting limits) (record_laws limits) (value_laws limits) (accepted_facts limits) input_b a.number (length were.of_b + 1) before.of_b
-      (whole_before (accepting limits) (record_laws limits) (value_laws limits) (accepted_facts limits) input_b were.of_b taken) before.of_b.is_number).2
-
-  -- ---- both
-
-  abbrev Differ : Type 0
-  Differ = IsRecordingVerdict limits input_a input_b (differ a.number)
-
-  -- Both have ended.
-  pub both_ended : IsTaken (accepting limits) input_a were.of_a → IsTaken (accepting limits) input_b were.of_b → IsRecordingVerdict limits input_a input_b (are_same (equal_places were.of_a were.of_b))
-  both_ended taken_a taken_b = (record { of_a = were.of_a; of_b = were.of_b; taken_a = taken_a; taken_b = taken_b; same = are }, refl)
-
-  pub a_has_ended : IsTaken (accepting limits) input_a were.of_a → (new : NormalRecords) (text_b : List ℕ) (gone : HasGone limits bytes_b were.of_b were.normal b new text_b) → Differ
-  a_has_ended taken new text_b gone = (
-    before,
-    ended_a taken,
-    gone_b new text_b gone,
-    inl (none_left_a taken, before_some (accepting limits) (record_laws limits) (value_laws limits) (accepted_facts limits) input_b a.number (a.number + 1) before.of_b (next_b new text_b gone) (omega arith)),
-  )
-
-  pub b_has_ended : IsTaken (accepting limits) input_b were.of_b → (new : NormalRecords) (text_a : List ℕ) (gone : HasGone limits bytes_a were.of_a were.normal a new text_a) → Differ
-  b_has_ended taken new text_a gone = (
-    before,
-    gone_a new text_a gone,
-    ended_b taken,
-    inr (inl (before_some (accepting limits) (record_laws limits) (value_laws limits) (accepted_facts limits) input_a a.number (a.number + 1) before.of_a (next_a new text_a gone) (omega arith), none_left_b taken)),
-  )
-
-  module _ (new_a new_b : NormalRecords) (text_a text_b : List ℕ) (gone : HasGone limits bytes_a were.of_a were.normal a new_a text_a) (went : HasGone limits bytes_b were.of_b were.normal b new_b text_b) where
-    -- The texts of their records are equal exactly where they go on being the same.
-    texts_differ : (text_a ≡ text_b → ⊥) → AreSame in_whole (were.of_a ++ gone.message ∷ []) (were.of_b ++ went.message ∷ []) → ⊥
-    texts_differ apart same =
-        let one = normal_is_unique in_whole (were.of_a ++ gone.message ∷ []) (were.of_b ++ went.message ∷ []) (were.normal ++ gone.named ∷ []) (were.normal ++ went.named ∷ []) same
-        gone.stands.stands.is_normal went.stands.stands.is_normal in
-        let texts : text were.normal ++ record_of gone.named ≡ text were.normal ++ record_of went.named = sym (text_push were.normal gone.named) ∙ ap text one ∙ text_push were.normal went.named in
-        apart (gone.text_is ∙ append_cancel_left (text were.normal) (record_of gone.named) (record_of went.named) texts ∙ sym went.text_is)
-
-    pub texts_apart : (text_a ≡ text_b → ⊥) → Differ
-    texts_apart apart = (before, gone_a new_a text_a gone, gone_b new_b text_b went, inr (inr (next_a new_a text_a gone, next_b new_b text_b went, texts_differ apart)))
-
-    normals_equal : text_a ≡ text_b → were.normal ++ went.named ∷ [] ≡ were.normal ++ gone.named ∷ []
-    normals_equal equal =
-        let texts : text (were.normal ++ gone.named ∷ []) ≡ text (were.normal ++ went.named ∷ []) =
-        text_push were.normal gone.named ∙ ap (λ t. text were.normal ++ t) (sym gone.text_is ∙ equal ∙ went.text_is) ∙ sym (text_push were.normal went.named) in
-        let same = equal_texts limits sound gone.stands.front went.stands.front (text (were.normal ++ gone.named ∷ [])) (text (were.normal ++ went.named ∷ []))
-        (normalised_as limits gone.stands.front (were.of_a ++ gone.message ∷ []) (were.normal ++ gone.named ∷ []) gone.stands.accepted gone.stands.stands.is_normal)
-        (normalised_as limits went.stands.front (were.of_b ++ went.message ∷ []) (were.normal ++ went.named ∷ []) went.stands.accepted went.stands.stands.is_normal) texts in
-        sym (normal_is_unique in_whole (were.of_a ++ gone.message ∷ []) (were.of_b ++ went.message ∷ []) (were.normal ++ gone.named ∷ []) (were.normal ++ went.named ∷ []) same
-        gone.stands.stands.is_normal went.stands.stands.is_normal)
-
-    pub alike_next : text_a ≡ text_b → StandAlike limits bytes_a bytes_b new_a new_b
-    alike_next equal = record {
-      of_a = were.of_a ++ gone.message ∷ [];
-      of_b = were.of_b ++ went.message ∷ [];
-      normal = were.normal ++ gone.named ∷ [];
-      a_stands = gone.stands;
-      b_stands = subst (StandsBefore limits bytes_b new_b (were.of_b ++ went.message ∷ [])) (normals_equal equal) went.stands;
-    }
-
-  -- ---- by what is left of both
-
-  module _ (next_of_a next_of_b : Option (Vec ℕ Global)) (new_a new_b : NormalRecords)
-      (is_a : HasNext limits bytes_a were.of_a were.normal a new_a (Ok next_of_a)) (is_b : HasNext limits bytes_b were.of_b were.normal b new_b (Ok next_of_b)) where
-    pub none_and_none : next_of_a ≡ None → next_of_b ≡ None → IsRecordingVerdict limits input_a input_b (are_same (equal_places were.of_a were.of_b))
-    none_and_none one two =
-        both_ended (subst (λ n. HasNext limits bytes_a were.of_a were.normal a new_a (Ok n)) one is_a).0 (subst (λ n. HasNext limits bytes_b were.of_b were.normal b new_b (Ok n)) two is_b).0
-
-    -- What the names stand for where nothing is left.
-    module _ (one : next_of_a ≡ None) (two : next_of_b ≡ None) where
-      pub names_a : StandFor sorted_numbers new_a.judge.names were.of_a
-      names_a =
-          subst (λ (r : NormalRecords). StandFor sorted_numbers r.judge.names were.of_a) (sym (subst (λ n. HasNext limits bytes_a were.of_a were.normal a new_a (Ok n)) one is_a).1)
-          were.a_stands.stands.names
-
-      pub names_b : StandFor sorted_numbers new_b.judge.names were.of_b
-      names_b =
-          subst (λ (r : NormalRecords). StandFor sorted_numbers r.judge.names were.of_b) (sym (subst (λ n. HasNext limits bytes_b were.of_b were.normal b new_b (Ok n)) two is_b).1)
-          were.b_stands.stands.names
-
-      one_count : (s : Sort) → length (numbers_in sorted_numbers new_a.judge.names s) ≡ length (numbers_in sorted_numbers new_b.judge.names s)
-      one_count s =
-          ap length (names_a s)
-          ∙ ap (λ k. length (numbers_of_class in_whole (class_after k s) were.of_a)) (no_stops were.of_a ∙ sym (no_stops were.of_b))
-          ∙ same_counts in_whole were.of_a were.of_b are (class_after (stops_after in_whole 0 were.of_b) s)
-          ∙ sym (ap length (names_b s))
-
-      pub equal_counts : HaveEqualCounts sorted_numbers new_a.judge.names new_b.judge.names
-      equal_counts = (one_count ClientSeq, one_count AdapterSeq, one_count Frame, one_count Reference)
-
-    pub some_and_none : (x : Vec ℕ Global) → next_of_a ≡ Some x → next_of_b ≡ None → Differ
-    some_and_none x one two =
-        b_has_ended (subst (λ n. HasNext limits bytes_b were.of_b were.normal b new_b (Ok n)) two is_b).0 new_a x.items (subst (λ n. HasNext limits bytes_a were.of_a were.normal a new_a (Ok n)) one is_a)
-
-    pub none_and_some : (y : Vec ℕ Global) → next_of_a ≡ None → next_of_b ≡ Some y → Differ
-    none_and_some y one two =
-        a_has_ended (subst (λ n. HasNext limits bytes_a were.of_a were.normal a new_a (Ok n)) one is_a).0 new_b y.items (subst (λ n. HasNext limits bytes_b were.of_b were.normal b new_b (Ok n)) two is_b)
-
-    module _ (x y : Vec ℕ Global) (one : next_of_a ≡ Some x) (two : next_of_b ≡ Some y) where
-      gone_of_a : HasGone limits bytes_a were.of_a were.normal a new_a x.items
-      gone_of_a = subst (λ n. HasNext limits bytes_a were.of_a were.normal a new_a (Ok n)) one is_a
-
-      gone_of_b : HasGone limits bytes_b were.of_b were.normal b new_b y.items
-      gone_of_b = subst (λ n. HasNext limits bytes_b were.of_b were.normal b new_b (Ok n)) two is_b
-
-      pub some_apart : (x.items ≡ y.items → ⊥) → Differ
-      some_apart apart = texts_apart new_a new_b x.items y.items gone_of_a gone_of_b apart
-
-      pub some_alike : x.items ≡ y.items → StandAlike limits bytes_a bytes_b new_a new_b
-      some_alike equal = alike_next new_a new_b x.items y.items gone_of_a gone_of_b equal
-
-      pub some_shorter : length new_a.rest.now < length a.rest.now
-      some_shorter = gone_of_a.shorter
-
-      pub some_stops : (new_a.stop ≡ a.stop) × (new_b.stop ≡ b.stop)
-      some_stops = (gone_of_a.stop_is, gone_of_b.stop_is)
+    -- Where they are equal, the normal forms are.
+    pub one_form : AreSound limits → (front_x front_y : List ℕ) → IsAccepted limits front_x of_x → IsAccepted limits front_y of_y → record_of p ≡ record_of q → normal ++ q ∷ [] ≡ normal ++ p ∷ []
+    one_form sound front_x front_y accepted_x accepted_y equal =
+        let texts : text (normal ++ p ∷ []) ≡ text (normal ++ q ∷ []) = text_push normal p ∙ ap (λ t. text normal ++ t) equal ∙ sym (text_push normal q) in
+        let same = equal_texts limits sound front_x front_y (text (normal ++ p ∷ [])) (text (normal ++ q ∷ []))
+        (record { messages = of_x; accepts = accepted_x; normal = normal ++ p ∷ []; is_normal = is_x; text_is = refl })
+        (record { messages = of_y; accepts = accepted_y; normal = normal ++ q ∷ []; is_normal = is_y; text_is = refl }) texts in
+        sym (normal_is_unique in_whole of_x of_y (normal ++ p ∷ []) (normal ++ q ∷ []) same is_x is_y)

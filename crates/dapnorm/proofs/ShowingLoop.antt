@@ -10,14 +10,14 @@ use Rattle.dap_recording.specs.RecordReading.{RecordReading, StandsFor as Reads,
 use Rattle.dap_recording.proofs.RecordSteps.{stands_open}
 use Rattle.dap_recording.proofs.RecordOutcomes.{open_none}
 use Rattle.dapnorm.specs.declared.limits.Limits.{Limits}
-use Rattle.dapnorm.specs.declared.reading.Stop.{Stop}
+use Rattle.dap_device.specs.declared.reading.Stop.{Stop}
 use Rattle.dapnorm.specs.declared.refused.Refused.{Refused}
 use Rattle.dapnorm.specs.declared.refused.Refused.TheVariants.{InputTooLong, Record, Json, Fraction, Message, Rule, TooManyIds, Grew, Incomplete, TraceTooLong, Trace, Recorder, ReadFault, WriteFault, Memory}
 use Rattle.dapnorm.specs.Judging.{IsFirstRefusal, faulty, cut, input_too_long, objected}
 use Rattle.dapnorm.specs.Showing.{IsRefused, IsShownBy, lines_from, message_lines, showing}
 use Rattle.dapnorm.specs.ShowingSteps.{HasGoneOn, JudgesInput, RefusesHeld, held_of}
 use Rattle.dapnorm.proofs.Going.{Going, going_start, going_fed, going_record, going_accepted, going_shown, going_objected, going_cut, going_too_long}
-use Rattle.dapnorm.proofs.JudgingLoop.{shown_cause}
+use Rattle.dapnorm.proofs.RecordLoop.{shown_cause}
 use Rattle.dapnorm.proofs.ShowingFacts.{accepted_facts, lines_push, show_fault_laws, show_record_laws, value_laws}
 
 -- The text is the lines of the records so far, and the reader stands for what came behind them.

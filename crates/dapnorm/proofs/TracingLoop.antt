@@ -34,13 +34,13 @@ use Rattle.dap_recording.proofs.TraceSteps.{begun}
 use Rattle.dap_tree.specs.declared.side.Side.{Side}
 use Rattle.dap_tree.specs.declared.side.Side.TheVariants.{Client, Adapter}
 use Rattle.dapnorm.specs.declared.limits.Limits.{Limits}
-use Rattle.dapnorm.specs.declared.reading.Stop.{Stop}
-use Rattle.dapnorm.specs.declared.reading.Stop.TheVariants.{End, Full, Failed}
+use Rattle.dap_device.specs.declared.reading.Stop.{Stop}
+use Rattle.dap_device.specs.declared.reading.Stop.TheVariants.{End, Full, Failed}
 use Rattle.dapnorm.specs.declared.refused.Refused.{Refused}
 use Rattle.dapnorm.specs.declared.refused.Refused.TheVariants.{TraceTooLong, Trace, Recorder, ReadFault, WriteFault, Memory as NoMemory}
-use Rattle.dapnorm.specs.Device.{AllWritten, FrontWritten}
+use Rattle.dap_device.specs.Device.{AllWritten, FrontWritten}
 use Rattle.dapnorm.specs.Limits.{AreSound}
-use Rattle.dapnorm.specs.Reading.{HasCome}
+use Rattle.dap_device.specs.Reading.{HasCome}
 use Rattle.dapnorm.specs.Tracing.{EndsInside, IsInRaw, IsOfEnd, IsOpenWith, IsRecordedAs, IsTraceRefused, SoFar, before_marker, in_count, in_raw, next_piece, of_frame, of_piece, sent_by, a_piece, a_client_frame, an_adapter_frame, at_byte, past_limit, at_end}
 use Rattle.dapnorm.specs.TracingRun.{HasJudgedTrace, HasWrittenRecords, IsNotRefused, RecordsTrace}
 use Rattle.dapnorm.specs.TracingSteps.{HasRecorded, HasSentRecords, HasTraced, RecordsRun, ShowsInRun, Traces}

@@ -6,9 +6,10 @@ use Rattle.dap_session.specs.Rules.{open_requests}
 use Rattle.dapnorm.specs.declared.checked.Checked.{Checked}
 use Rattle.dapnorm.specs.declared.limits.Limits.{Limits}
 use Rattle.dapnorm.specs.declared.refused.Refused.{Refused}
-use Rattle.dapnorm.specs.declared.refused.Refused.TheVariants.{Incomplete, ReadFault, WriteFault, Memory}
-use Rattle.dapnorm.specs.Accepting.{IsAccepted, IsRefused}
-use Rattle.dapnorm.specs.Engine.{Accepts, FailsToRead, RefusesInput}
+use Rattle.dapnorm.specs.declared.refused.Refused.TheVariants.{Incomplete, WriteFault, Memory}
+use Rattle.dapnorm.specs.Accepting.{IsAccepted}
+use Rattle.dapnorm.specs.Engine.{Accepts}
+use Rattle.dapnorm.specs.Streaming.{RefusesNext}
 
 -- The numbers of accepted messages: how many they are, and how many requests of each side have no response.
 pub record AreCounted (checked : Checked) (messages : List Sent) : Type 0 where
@@ -22,7 +23,7 @@ accepted_line checked =
     codes "accepted records=" ++ decimal checked.records ++ codes " open=" ++ decimal checked.client_open ++ codes "," ++ decimal checked.adapter_open ++ codes "\n"
 
 -- `check` over a reader, by what this tells of its bytes and its failures, with limits, and with whether each request must have a response.
-module _ {R : Type 0} (left : R → Option (List ℕ)) (failures : R → ℕ) (limits : Limits) (complete : Bool) where
+module _ {R : Type 0} (left : R → Option (List ℕ)) (given failures : R → ℕ) (limits : Limits) (complete : Bool) where
   -- The input is accepted, with these numbers; where that is asked for, each request has a response.
   pub record HasChecked (old new : R) (checked : Checked) : Type 0 where
     pub messages : List Sent
@@ -42,7 +43,6 @@ module _ {R : Type 0} (left : R → Option (List ℕ)) (failures : R → ℕ) (l
   abbrev pub Checks : R → R → Result Checked Refused → Type 0
   Checks old new (Ok checked) = HasChecked old new checked
   Checks old new (Err (Incomplete client adapter)) = IsIncomplete old new client adapter
-  Checks old new (Err ReadFault) = FailsToRead left failures limits.input (IsAccepted limits) (IsRefused limits) old new
   Checks old new (Err WriteFault) = ⊥
   Checks old new (Err Memory) = Unit {0}
-  Checks old new (Err refused) = RefusesInput left failures limits.input (IsRefused limits) old new refused
+  Checks old new (Err refused) = (text : List ℕ) × RefusesNext left given failures limits old new refused text

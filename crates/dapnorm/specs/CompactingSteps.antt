@@ -6,8 +6,8 @@ use Rattle.dap_recording.specs.declared.record_fault.RecordCause.TheVariants.{Cu
 use Rattle.dap_tree.specs.Doc.{Doc}
 use Rattle.dap_tree.specs.Json.{IsRead, HasFraction, HasNoReading}
 use Rattle.dapnorm.specs.declared.limits.Limits.{Limits}
-use Rattle.dapnorm.specs.declared.reading.Stop.{Stop}
-use Rattle.dapnorm.specs.declared.reading.Stop.TheVariants.{End, Failed}
+use Rattle.dap_device.specs.declared.reading.Stop.{Stop}
+use Rattle.dap_device.specs.declared.reading.Stop.TheVariants.{End, Failed}
 use Rattle.dapnorm.specs.declared.refused.Refused.{Refused}
 use Rattle.dapnorm.specs.declared.refused.Refused.TheVariants as refused
 use Rattle.dapnorm.specs.declared.compacting.ContentFault.{ContentFault}

@@ -11,7 +11,7 @@ use Rattle.dapnorm.specs.declared.verdict.CompareRefused.{CompareRefused}
 use Rattle.dapnorm.specs.declared.verdict.CompareRefused.TheVariants.{Input, Memory}
 use Rattle.dapnorm.specs.declared.verdict.Verdict.{Verdict}
 use Rattle.dapnorm.specs.declared.verdict.Verdict.TheVariants.{Same, Differ}
-use Rattle.dapnorm.specs.Device.{AllWritten, FrontWritten}
+use Rattle.dap_device.specs.Device.{AllWritten, FrontWritten}
 use Rattle.dapnorm.specs.Run.{status_of}
 use Rattle.dapnorm.specs.Verdicts.{Compares}
 
@@ -55,8 +55,8 @@ IsPrinted out failures (Ok verdict) before after status =
 IsPrinted out failures (Err refused) before after status = (after ≡ before) × (status ≡ refusal_status refused)
 
 -- What `compare` answers of the readers is told.
-pub record CompareIsTold {R S W : Type 0} (left_a : R → Option (List ℕ)) (failures_a : R → ℕ) (left_b : S → Option (List ℕ)) (failures_b : S → ℕ)
+pub record CompareIsTold {R S W : Type 0} (left_a : R → Option (List ℕ)) (given_a failures_a : R → ℕ) (left_b : S → Option (List ℕ)) (given_b failures_b : S → ℕ)
     (out : W → Option (List ℕ)) (write_failures : W → ℕ) (limits : Limits) (old_a new_a : R) (old_b new_b : S) (before after : W) (status : ℕ) : Type 0 where
   pub answer : Result Verdict CompareRefused
-  pub compares : Compares left_a failures_a left_b failures_b limits old_a new_a old_b new_b answer
+  pub compares : Compares left_a given_a failures_a left_b given_b failures_b limits old_a new_a old_b new_b answer
   pub printed : IsPrinted out write_failures answer before after status

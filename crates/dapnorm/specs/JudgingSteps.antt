@@ -1,5 +1,5 @@
 -- What the judging of a record does.
-use Rattle.std.specs.Prelude.{◌≡◌, ◌⊎◌, ℕ, ◌+◌, ◌<◌, ◌≤◌, List, [], ◌∷◌, ◌++◌, length, Option, Some, None, Result, Ok, Err}
+use Rattle.std.specs.Prelude.{◌≡◌, ◌⊎◌, ℕ, ◌+◌, ◌<◌, ◌≤◌, List, [], ◌∷◌, ◌++◌, length, Result, Ok, Err}
 use Rattle.dap_tree.specs.Json.{text_of}
 use Rattle.dap_tree.specs.declared.sort.Sort.{Sort}
 use Rattle.dap_message.specs.Message.{Sent, no_reading, fraction, faulty as profile_fault}
@@ -68,10 +68,3 @@ pub record IsTaken (messages normal : List Sent) (held : Held) (judge : Judge) (
 abbrev pub JudgesRecord : List Sent → List Sent → Held → ℕ → Judge → Judge → List ℕ → List ℕ → Result (Unit {0}) Refused → Type 0
 JudgesRecord messages normal held n before after old new (Ok done) = IsTaken messages normal held after old new
 JudgesRecord messages normal held n before after old new (Err because) = RefusesRecord before.limits messages held n because
-
--- Where a record has come, it is taken and record n has ended, or it is refused.
-abbrev pub HasGoneOn : List Sent → List Sent → ℕ → Option WholeRecord → Judge → Judge → List ℕ → List ℕ → Result ℕ Refused → Type 0
-HasGoneOn messages normal n None before after old new (Ok next) = (next ≡ n) × (after ≡ before) × (new ≡ old)
-HasGoneOn messages normal n None before after old new (Err because) = ⊥
-HasGoneOn messages normal n (Some whole) before after old new (Ok next) = (next ≡ n + 1) × IsTaken messages normal (held_of whole) after old new
-HasGoneOn messages normal n (Some whole) before after old new (Err because) = RefusesRecord before.limits messages (held_of whole) n because

@@ -7,8 +7,9 @@ use Rattle.dapnorm.specs.declared.limits.Limits.{Limits}
 use Rattle.dapnorm.specs.declared.refused.Refused.{Refused}
 use Rattle.dapnorm.specs.declared.refused.Refused.TheVariants.{ReadFault, WriteFault, Memory}
 use Rattle.dapnorm.specs.Checking.{Checks, accepted_line}
-use Rattle.dapnorm.specs.Device.{AllWritten, FrontWritten}
+use Rattle.dap_device.specs.Device.{AllWritten, FrontWritten}
 use Rattle.dapnorm.specs.Engine.{Answers}
+use Rattle.dapnorm.specs.Streaming.{Streams}
 
 -- the status of the program for an engine's answer: done, refused, a device that failed, want of memory
 abbrev pub status_of : {U : Type 0} → Result U Refused → ℕ
@@ -34,12 +35,18 @@ HasPrinted out failures (Ok checked) before after (Err refused) = (refused ≡ W
 HasPrinted out failures (Err because) before after (Ok done) = ⊥
 HasPrinted out failures (Err because) before after (Err refused) = (refused ≡ because) × (after ≡ before)
 
-module _ {R W : Type 0} (left : R → Option (List ℕ)) (read_failures : R → ℕ) (out : W → Option (List ℕ)) (write_failures : W → ℕ)
-    (limits : Limits) (complete : Bool) where
+module _ {R W : Type 0} (left : R → Option (List ℕ)) (given read_failures : R → ℕ) (out : W → Option (List ℕ)) (write_failures : W → ℕ)
+    (limits : Limits) where
+  -- The devices are as `normalise` leaves them with its answer, and the status is that of this answer.
+  pub record NormaliseIsTold (old new : R) (before after : W) (status : ℕ) : Type 0 where
+    pub answer : Result (Unit {0}) Refused
+    pub streams : Streams left given read_failures out write_failures limits old new before after answer
+    pub status_is : status ≡ status_of answer
+
   -- What `check` answers of the reader is printed, and the status is that of the answer or of the writer that failed.
-  pub record CheckIsTold (old new : R) (before after : W) (status : ℕ) : Type 0 where
+  pub record CheckIsTold (complete : Bool) (old new : R) (before after : W) (status : ℕ) : Type 0 where
     pub answer : Result Checked Refused
-    pub checks : Checks left read_failures limits complete old new answer
+    pub checks : Checks left given read_failures limits complete old new answer
     pub told : Result (Unit {0}) Refused
     pub printed : HasPrinted out write_failures answer before after told
     pub status_is : status ≡ status_of told

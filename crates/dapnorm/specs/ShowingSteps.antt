@@ -5,8 +5,8 @@ use Rattle.dap_message.specs.Message.{Sent, HasRefusal, no_reading, fraction, fa
 use Rattle.dap_recording.specs.declared.record.Record.{Record as WholeRecord}
 use Rattle.dap_recording.specs.declared.record_fault.RecordCause.TheVariants.{Cut}
 use Rattle.dapnorm.specs.declared.limits.Limits.{Limits}
-use Rattle.dapnorm.specs.declared.reading.Stop.{Stop}
-use Rattle.dapnorm.specs.declared.reading.Stop.TheVariants.{End, Failed}
+use Rattle.dap_device.specs.declared.reading.Stop.{Stop}
+use Rattle.dap_device.specs.declared.reading.Stop.TheVariants.{End, Failed}
 use Rattle.dapnorm.specs.declared.refused.Refused.{Refused}
 use Rattle.dapnorm.specs.declared.refused.Refused.TheVariants.{Record, Json, Fraction, Message, ReadFault, WriteFault, Memory}
 use Rattle.dapnorm.specs.Accepting.{Held, IsMessage}

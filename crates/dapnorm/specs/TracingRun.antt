@@ -3,12 +3,12 @@ use Rattle.std.specs.Prelude.{◌≡◌, ◌⊎◌, ℕ, List, Option, Result, O
 use Rattle.dap_recording.specs.Recording.{recording_text}
 use Rattle.dap_tree.specs.declared.side.Side.{Side}
 use Rattle.dapnorm.specs.declared.limits.Limits.{Limits}
-use Rattle.dapnorm.specs.declared.reading.Stop.{Stop}
-use Rattle.dapnorm.specs.declared.reading.Stop.TheVariants.{End, Failed}
+use Rattle.dap_device.specs.declared.reading.Stop.{Stop}
+use Rattle.dap_device.specs.declared.reading.Stop.TheVariants.{End, Failed}
 use Rattle.dapnorm.specs.declared.refused.Refused.{Refused}
 use Rattle.dapnorm.specs.declared.refused.Refused.TheVariants.{ReadFault, WriteFault, Memory}
-use Rattle.dapnorm.specs.Device.{AllWritten, FrontWritten}
-use Rattle.dapnorm.specs.Reading.{HasCome}
+use Rattle.dap_device.specs.Device.{AllWritten, FrontWritten}
+use Rattle.dap_device.specs.Reading.{HasCome}
 use Rattle.dapnorm.specs.Run.{status_of}
 use Rattle.dapnorm.specs.Tracing.{IsRecordedAs, IsTraceRefused, IsOfEnd}
 

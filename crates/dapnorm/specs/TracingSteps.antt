@@ -10,10 +10,10 @@ use Rattle.dap_recording.specs.RecorderReading.{RecorderReading, StandsForRests,
 use Rattle.dap_recording.specs.Recording.{recording_text}
 use Rattle.dap_tree.specs.declared.side.Side.{Side}
 use Rattle.dapnorm.specs.declared.limits.Limits.{Limits}
-use Rattle.dapnorm.specs.declared.reading.Stop.{Stop}
+use Rattle.dap_device.specs.declared.reading.Stop.{Stop}
 use Rattle.dapnorm.specs.declared.refused.Refused.{Refused}
 use Rattle.dapnorm.specs.declared.refused.Refused.TheVariants.{WriteFault, Memory}
-use Rattle.dapnorm.specs.Device.{AllWritten, FrontWritten}
+use Rattle.dap_device.specs.Device.{AllWritten, FrontWritten}
 use Rattle.dapnorm.specs.Tracing.{sent_by}
 use Rattle.dapnorm.specs.TracingRun.{JudgesTrace}
 

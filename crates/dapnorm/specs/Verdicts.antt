@@ -1,5 +1,5 @@
 -- The verdict on two recordings: how they are the same, the first record where they differ, or the first that is refused of one. Source: own.
-use Rattle.std.specs.Prelude.{◌≡◌, ℕ, ℤ, Bool, true, false, List, Option, Result, Ok, Err}
+use Rattle.std.specs.Prelude.{◌≡◌, ℕ, ℤ, ◌-◌, true, false, List, ◌++◌, Option, Some, Result, Ok, Err}
 use Rattle.dap_message.specs.Message.{Sent}
 use Rattle.dap_rename.specs.Messages.{Class, IsProperId, AreSame, Carries, in_whole, equal_places}
 use Rattle.dap_rename.specs.Pairs.{entries}
@@ -8,8 +8,8 @@ use Rattle.dap_rename.specs.Renamings.{IsRenaming}
 use Rattle.dap_message.specs.Message.{no_reading, fraction, faulty as profile_fault}
 use Rattle.dap_recording.specs.declared.record_fault.RecordCause.TheVariants as cause
 use Rattle.dapnorm.specs.declared.limits.Limits.{Limits}
-use Rattle.dapnorm.specs.declared.reading.Stop.{Stop}
-use Rattle.dapnorm.specs.declared.reading.Stop.TheVariants.{End, Full, Failed}
+use Rattle.dap_device.specs.declared.reading.Stop.{Stop}
+use Rattle.dap_device.specs.declared.reading.Stop.TheVariants.{End, Failed}
 use Rattle.dapnorm.specs.declared.refused.Refused.{Refused}
 use Rattle.dapnorm.specs.declared.refused.Refused.TheVariants.{InputTooLong, Record, Json, Fraction, Message, Rule, TooManyIds, Grew, Incomplete, TraceTooLong, Trace, Recorder, ReadFault, WriteFault, Memory}
 use Rattle.dapnorm.specs.declared.verdict.CompareRefused.{CompareRefused}
@@ -20,18 +20,9 @@ use Rattle.dapnorm.specs.declared.verdict.Which.TheVariants.{A, B}
 use Rattle.dapnorm.specs.Limits.{AreSound}
 use Rattle.dapnorm.specs.Accepting.{accepting, no_message, broken, too_many_ids, grew}
 use Rattle.dapnorm.specs.Judging.{faulty, input_too_long, cut, objected}
-use Rattle.dapnorm.specs.Reading.{HasCome}
+use Rattle.dap_device.specs.Pieces.{HasComeSoFar}
+use Rattle.dapnorm.specs.ReadTo.{IsBounded, IsReadTo}
 use Rattle.dapnorm.specs.Comparing.{Input, Fault, refused, read_fault, IsTaken, IsRefusedAt, Verdict, IsVerdict, are_same, differ, refused_a, refused_b, HasOneVerdict}
-
--- the reader has failed
-abbrev pub has_failed : Stop → Bool
-has_failed End = false
-has_failed Full = false
-has_failed Failed = true
-
--- The input whose bytes came, and no more for this reason.
-abbrev pub as_came : List ℕ → Stop → Input
-as_came bytes stop = record { bytes = bytes; failed = has_failed stop }
 
 -- Two recordings are the same if a renaming carries the messages of the one to those of the other, and then by the pairs of equal places.
 abbrev pub RecordingVerdict : Limits → Type 0
@@ -68,34 +59,48 @@ pub record RefusesAt (limits : Limits) (input : Input) (number : ℕ) (why : Ref
   pub tells : Tells limits why number fault
   pub is_refused : IsRefusedAt (accepting limits) input number fault
 
--- The verdict on the inputs is a refusal of the one or of the other, and it is told. Memory that was refused tells nothing.
+-- The verdict on the inputs is a refusal of the one or of the other at this record, and it is told. Memory that was refused tells nothing.
 pub record IsRefusalOf (limits : Limits) (number : ℕ) (why : Refused) (verdict : Fault (accepting limits) → RecordingVerdict limits) (a b : Input) : Type 0 where
   pub fault : Fault (accepting limits)
   pub tells : Tells limits why number fault
   pub is_verdict : IsRecordingVerdict limits a b (verdict fault)
 
-abbrev pub TellsRefusal : Limits → Input → Input → CompareRefused → Type 0
-TellsRefusal limits a b (because.Input A why) = (number : ℕ) × IsRefusalOf limits number why (refused_a number) a b
-TellsRefusal limits a b (because.Input B why) = (number : ℕ) × IsRefusalOf limits number why (refused_b number) a b
-TellsRefusal limits a b because.Memory = Unit {0}
+abbrev pub TellsRefusal : Limits → Input → Input → ℕ → CompareRefused → Type 0
+TellsRefusal limits a b number (because.Input A why) = IsRefusalOf limits number why (refused_a number) a b
+TellsRefusal limits a b number (because.Input B why) = IsRefusalOf limits number why (refused_b number) a b
+TellsRefusal limits a b number because.Memory = Unit {0}
 
--- The verdict is answered.
-abbrev pub TellsVerdict : Limits → Input → Input → Result CodeVerdict CompareRefused → Type 0
-TellsVerdict limits a b (Ok (code.Same renaming)) = IsRecordingVerdict limits a b (are_same (entries (pairs_of renaming)))
-TellsVerdict limits a b (Ok (code.Differ number)) = IsRecordingVerdict limits a b (differ number)
-TellsVerdict limits a b (Err refusal) = TellsRefusal limits a b refusal
+-- The verdict is answered. It is that of this record, unless the inputs are the same.
+abbrev pub TellsVerdict : Limits → Input → Input → ℕ → Result CodeVerdict CompareRefused → Type 0
+TellsVerdict limits a b number (Ok (code.Same renaming)) = IsRecordingVerdict limits a b (are_same (entries (pairs_of renaming)))
+TellsVerdict limits a b number (Ok (code.Differ n)) = (n ≡ number) × IsRecordingVerdict limits a b (differ number)
+TellsVerdict limits a b number (Err refusal) = TellsRefusal limits a b number refusal
 
--- Two readers, by what they tell of their bytes and their failures.
-module _ {R S : Type 0} (left_a : R → Option (List ℕ)) (failures_a : R → ℕ) (left_b : S → Option (List ℕ)) (failures_b : S → ℕ) (limits : Limits) where
-  -- These bytes came from the readers, and no more for these reasons, and the verdict on them is answered.
+-- An input of which these bytes have come: all of it where the reader has ended or failed, and else a front of it, whatever comes behind.
+abbrev pub IsOf : List ℕ → Option Stop → Input → Type 0
+IsOf bytes (Some End) input = (input.bytes ≡ bytes) × (input.failed ≡ false)
+IsOf bytes (Some Failed) input = (input.bytes ≡ bytes) × (input.failed ≡ true)
+IsOf bytes stop input = (more : List ℕ) × (input.bytes ≡ bytes ++ more)
+
+-- how far the second input is read where the verdict is that of this record: before it, where the first is refused there
+abbrev pub read_of_b : ℕ → Result CodeVerdict CompareRefused → ℕ
+read_of_b number (Err (because.Input A why)) = number - 1
+read_of_b number answer = number
+
+-- Two readers, by what they tell of their bytes, and by their counts.
+module _ {R S : Type 0} (left_a : R → Option (List ℕ)) (given_a failures_a : R → ℕ) (left_b : S → Option (List ℕ)) (given_b failures_b : S → ℕ) (limits : Limits) where
+  -- So much came from the readers, no more than this record asked for, and the verdict on the inputs, whatever else they hold, is answered.
   pub record HasCompared (old_a new_a : R) (old_b new_b : S) (answer : Result CodeVerdict CompareRefused) : Type 0 where
+    pub number : ℕ
     pub bytes_a : List ℕ
-    pub stop_a : Stop
-    pub came_a : HasCome left_a failures_a old_a new_a limits.input bytes_a stop_a
+    pub stop_a : Option Stop
+    pub came_a : HasComeSoFar left_a given_a failures_a old_a new_a bytes_a stop_a
+    pub read_a : IsReadTo (accepting limits) bytes_a number
     pub bytes_b : List ℕ
-    pub stop_b : Stop
-    pub came_b : HasCome left_b failures_b old_b new_b limits.input bytes_b stop_b
-    pub tells : TellsVerdict limits (as_came bytes_a stop_a) (as_came bytes_b stop_b) answer
+    pub stop_b : Option Stop
+    pub came_b : HasComeSoFar left_b given_b failures_b old_b new_b bytes_b stop_b
+    pub read_b : IsReadTo (accepting limits) bytes_b (read_of_b number answer)
+    pub tells : (a b : Input) → IsOf bytes_a stop_a a → IsOf bytes_b stop_b b → TellsVerdict limits a b number answer
 
   abbrev pub Compares : R → R → S → S → Result CodeVerdict CompareRefused → Type 0
   Compares old_a new_a old_b new_b (Err because.Memory) = Unit {0}
@@ -124,3 +129,7 @@ pub record IsCarried (limits : Limits) (a b : Input) (how : List (Class × ℤ �
 
 abbrev pub SameIsCarried : Type 0
 SameIsCarried = (limits : Limits) → AreSound limits → (a b : Input) (how : List (Class × ℤ × ℤ)) → IsRecordingVerdict limits a b (are_same how) → IsCarried limits a b how
+
+-- What was read no further than a record asks for is bounded there.
+abbrev pub ReadingIsBounded : Type 0
+ReadingIsBounded = (limits : Limits) → (bytes : List ℕ) (number : ℕ) → IsReadTo (accepting limits) bytes number → IsBounded (accepting limits) bytes number

@@ -1,21 +1,21 @@
 //! Judges recordings.
-ghost use Rattle.std.specs.Prelude.{◌+◌, ◌<◌, ◌≤◌, ◌^◌};
+ghost use Rattle.std.specs.Prelude.{◌+◌, ◌<◌, ◌≤◌, ◌^◌, false};
 ghost use Rattle.dapnorm.specs.Checking.{Checks};
 ghost use Rattle.dapnorm.specs.Limits.{AreSound};
 
 use crate::checked::Checked;
-use crate::device::Source;
-use crate::judging_input::{Keep, judge_input};
 use crate::limits::Limits;
-use crate::reading::read_all;
+use crate::normal_records::NormalRecords;
 use crate::refused::Refused;
+use dap_device::Source;
+use dap_message::Side;
 use std::alloc::Global;
 
 /// Reads a recording and judges it: its records, their messages, the rules of the session, how many ids there are, and how
 /// long its normal text is. It accepts and refuses what [`normalise`](crate::normalise) does.
 ///
-/// It reads its whole input, at most one byte past `limits.input`. Records are counted from 1 in the order of the
-/// input. With `complete` each request must have a response.
+/// One record is read and judged before the next one: at most 65,536 bytes are read past it, and at most one byte past
+/// `limits.input`. Records are counted from 1 in the order of the input. With `complete` each request must have a response.
 ///
 /// # Errors
 ///
@@ -33,25 +33,40 @@ pub fn check<R: Source>(
 
     // The numbers of an accepted recording are answered, or its first refusal. That it is incomplete is answered
     // exactly where that is asked for, and that the reader failed exactly where it did.
-    ensures answer { Checks R.left R.failures limits complete reader.old reader.new result }
+    ensures answer { Checks R.left R.given R.failures limits complete reader.old reader.new result }
 
     // It takes at most one byte past the limit.
     ensures taken { R.given reader.new ≤ R.given reader.old + limits.input + 1 }
 {
-    let input = match read_all(alloc, reader, limits.input) {
-        Ok(input) => input,
-        Err(_) => return Err(Refused::Memory),
-    };
-    let accepted = judge_input(
-        alloc,
-        input.bytes.as_slice(),
-        input.stop,
-        limits,
-        Keep::Length,
-    )?;
-    let checked = accepted.checked;
+    let checked = count_records(alloc, reader, limits)?;
     if complete && (checked.client_open != 0 || checked.adapter_open != 0) {
         return Err(Refused::Incomplete(checked.client_open, checked.adapter_open));
     }
     Ok(checked)
+}
+
+/// Judges all records, and answers how many they are and what they leave open.
+fn count_records<R: Source>(
+    alloc: Global,
+    reader: &mut R,
+    limits: Limits,
+) -> Result<Checked, Refused>
+    requires limits { AreSound limits }
+    requires given { R.given reader.old < 2 ^ 62 }
+    requires failures { R.failures reader.old < 2 ^ 62 }
+    ensures answer { Checks R.left R.given R.failures limits false reader.old reader.new result }
+    ensures taken { R.given reader.new ≤ R.given reader.old + limits.input + 1 }
+{
+    let Ok(mut records) = NormalRecords::new(alloc, limits) else {
+        return Err(Refused::Memory);
+    };
+    let mut text = Vec::new(alloc);
+    while records.next(alloc, reader, &mut text)? {
+        text.clear();
+    }
+    Ok(Checked {
+        records: records.number() - 1,
+        client_open: records.open(Side::Client),
+        adapter_open: records.open(Side::Adapter),
+    })
 }

@@ -3,15 +3,13 @@ ghost use Rattle.std.specs.Prelude.{◌≡◌, ◌+◌, ◌<◌, ◌≤◌, ◌^
 ghost use Rattle.dap_tree.specs.Doc.{Doc};
 ghost use Rattle.dapnorm.specs.Compacting.{Compacts, Fits, IsRefused, text};
 ghost use Rattle.dapnorm.specs.CompactingSteps.{Appended, HasGoneOn, JudgesInput, refusal_at};
-ghost use Rattle.dapnorm.specs.Reading.{HasLength};
+ghost use Rattle.dap_device.specs.Reading.{HasLength};
 ghost use Rattle.dapnorm.specs.Engine.{Answers};
 ghost use Rattle.dapnorm.specs.Limits.{AreSound};
 
-use crate::device::{Sink, Source};
 use crate::limits::Limits;
-use crate::reading::{Input, Stop, read_all};
 use crate::refused::Refused;
-use crate::writing::write_and_flush;
+use dap_device::{Input, Sink, Source, Stop, read_all, write_and_flush};
 use dap_frame::{Content, FrameFault, Framer, write_frame};
 use dap_recording::RecordCause;
 use dap_tree::{TreeFault, read_tree, write_tree};

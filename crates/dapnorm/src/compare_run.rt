@@ -2,16 +2,15 @@
 ghost use Rattle.std.specs.Prelude.{◌≡◌, ◌+◌, ◌<◌, ◌≤◌, ◌^◌};
 ghost use Rattle.std.specs.List.{flat_map};
 ghost use Rattle.dapnorm.specs.ComparingRun.{CompareIsTold, first_line, pair_line, pairs_in, refusal_status, sort_word, verdict_status, verdict_text};
-ghost use Rattle.dapnorm.specs.Device.{HasWrittenAll};
+ghost use Rattle.dap_device.specs.Device.{HasWrittenAll};
 ghost use Rattle.dapnorm.specs.Limits.{AreSound};
 
 use crate::comparing::compare;
-use crate::device::{DeviceFault, Sink, Source};
 use crate::limits::Limits;
 use crate::refused::Refused;
 use crate::verdict::{CompareRefused, Verdict};
-use crate::writing::{write_all, write_and_flush};
 use arrayvec::ArrayString;
+use dap_device::{DeviceFault, Sink, Source, write_all, write_and_flush};
 use dap_rename::Pair;
 use dap_tree::Sort;
 use itoa::Buffer;
@@ -167,7 +166,7 @@ pub fn run_compare<A: Source, B: Source, W: Sink, E: Sink>(
     requires error_failures { E.failures errors.old < 2 ^ 62 }
 
     // The output is the lines of the verdict, and the status is that of `compare`'s answer or of a writer that failed.
-    ensures told { CompareIsTold A.left A.failures B.left B.failures W.out W.failures limits reader_a.old reader_a.new reader_b.old reader_b.new writer.old writer.new result }
+    ensures told { CompareIsTold A.left A.given A.failures B.left B.given B.failures W.out W.failures limits reader_a.old reader_a.new reader_b.old reader_b.new writer.old writer.new result }
 
     // It takes at most one byte past the limit of each.
     ensures taken_a { A.given reader_a.new ≤ A.given reader_a.old + limits.input + 1 }

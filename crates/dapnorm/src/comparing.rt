@@ -1,15 +1,13 @@
 //! Compares recordings.
 ghost use Rattle.std.specs.Prelude.{◌≡◌, ◌+◌, ◌<◌, ◌≤◌, ◌^◌};
 ghost use Rattle.dapnorm.specs.Limits.{AreSound};
-ghost use Rattle.dapnorm.specs.Reading.{FitsStop};
-ghost use Rattle.dapnorm.specs.Verdicts.{Compares, TellsVerdict, as_came};
+ghost use Rattle.dapnorm.specs.Verdicts.{Compares};
 
-use crate::device::Source;
 use crate::limits::Limits;
 use crate::normal_records::NormalRecords;
-use crate::reading::{Input, read_all};
 use crate::refused::Refused;
 use crate::verdict::{CompareRefused, Verdict, Which};
+use dap_device::Source;
 use std::alloc::Global;
 
 /// Whose refusal it is. That memory was refused is nobody's.
@@ -23,54 +21,11 @@ fn refusal_of(which: Which, refused: Refused) -> CompareRefused
     }
 }
 
-/// The verdict on what was read of two inputs.
-///
-/// Record by record that of `a` is judged first, then that of `b`. Behind a difference or a refusal nothing is judged.
-fn compare_inputs(
-    alloc: Global,
-    a: &Input,
-    b: &Input,
-    limits: Limits,
-) -> Result<Verdict, CompareRefused>
-    requires sound { AreSound limits }
-    requires a_fits { FitsStop limits.input a.now.bytes.items a.now.stop }
-    requires b_fits { FitsStop limits.input b.now.bytes.items b.now.stop }
-    ensures { TellsVerdict limits (as_came a.now.bytes.items a.now.stop) (as_came b.now.bytes.items b.now.stop) result }
-{
-    let mut records_a = NormalRecords::new(alloc, a, limits);
-    let mut records_b = NormalRecords::new(alloc, b, limits);
-    loop {
-        let number = records_a.number();
-        let next_a = match records_a.next(alloc) {
-            Ok(next) => next,
-            Err(refused) => return Err(refusal_of(Which::A, refused)),
-        };
-        let next_b = match records_b.next(alloc) {
-            Ok(next) => next,
-            Err(refused) => return Err(refusal_of(Which::B, refused)),
-        };
-        match (next_a, next_b) {
-            (None, None) => {
-                let Ok(renaming) = records_a.renaming_to(alloc, &records_b) else {
-                    return Err(CompareRefused::Memory);
-                };
-                return Ok(Verdict::Same(renaming));
-            }
-            (Some(x), Some(y)) => {
-                if x.as_slice() != y.as_slice() {
-                    return Ok(Verdict::Differ(number));
-                }
-            }
-            (Some(_), None) => return Ok(Verdict::Differ(number)),
-            (None, Some(_)) => return Ok(Verdict::Differ(number)),
-        }
-    }
-}
-
 /// Compares two recordings: says how the ids of the one are renamed to those of the other, or where they differ.
 ///
-/// It reads each input whole, at most one byte past `limits.input` of each, and then judges record by record, first that of
-/// A and then that of B. Records are counted from 1. Behind a difference or a refusal nothing is judged.
+/// Record by record that of A is read and judged first, then that of B; behind a difference or a refusal nothing more is
+/// judged. At most 65,536 bytes are read past a record, and at most one byte past `limits.input` of each. Records are
+/// counted from 1.
 ///
 /// # Errors
 ///
@@ -89,19 +44,46 @@ pub fn compare<A: Source, B: Source>(
     requires failures_b { B.failures reader_b.old < 2 ^ 62 }
 
     // The one verdict on the two inputs is answered. That a reader failed is answered only where it did.
-    ensures answer { Compares A.left A.failures B.left B.failures limits reader_a.old reader_a.new reader_b.old reader_b.new result }
+    ensures answer { Compares A.left A.given A.failures B.left B.given B.failures limits reader_a.old reader_a.new reader_b.old reader_b.new result }
 
     // It takes at most one byte past the limit of each.
     ensures taken_a { A.given reader_a.new ≤ A.given reader_a.old + limits.input + 1 }
     ensures taken_b { B.given reader_b.new ≤ B.given reader_b.old + limits.input + 1 }
 {
-    let a = match read_all(alloc, reader_a, limits.input) {
-        Ok(input) => input,
-        Err(_) => return Err(CompareRefused::Memory),
+    let Ok(mut records_a) = NormalRecords::new(alloc, limits) else {
+        return Err(CompareRefused::Memory);
     };
-    let b = match read_all(alloc, reader_b, limits.input) {
-        Ok(input) => input,
-        Err(_) => return Err(CompareRefused::Memory),
+    let Ok(mut records_b) = NormalRecords::new(alloc, limits) else {
+        return Err(CompareRefused::Memory);
     };
-    compare_inputs(alloc, &a, &b, limits)
+    let mut text_a = Vec::new(alloc);
+    let mut text_b = Vec::new(alloc);
+    loop {
+        text_a.clear();
+        text_b.clear();
+        let number = records_a.number();
+        let some_a = match records_a.next(alloc, reader_a, &mut text_a) {
+            Ok(some) => some,
+            Err(refused) => return Err(refusal_of(Which::A, refused)),
+        };
+        let some_b = match records_b.next(alloc, reader_b, &mut text_b) {
+            Ok(some) => some,
+            Err(refused) => return Err(refusal_of(Which::B, refused)),
+        };
+        match (some_a, some_b) {
+            (false, false) => {
+                let Ok(renaming) = records_a.renaming_to(alloc, &records_b) else {
+                    return Err(CompareRefused::Memory);
+                };
+                return Ok(Verdict::Same(renaming));
+            }
+            (true, true) => {
+                if text_a.as_slice() != text_b.as_slice() {
+                    return Ok(Verdict::Differ(number));
+                }
+            }
+            (true, false) => return Ok(Verdict::Differ(number)),
+            (false, true) => return Ok(Verdict::Differ(number)),
+        }
+    }
 }

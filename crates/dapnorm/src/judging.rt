@@ -26,7 +26,7 @@ pub struct Judge {
 }
 
 impl Judge {
-    ghost use Rattle.dapnorm.specs.JudgingSteps.{HasGoneOn, JudgesRecord, StandsFor, held_of, judge_limits};
+    ghost use Rattle.dapnorm.specs.JudgingSteps.{JudgesRecord, StandsFor, held_of, judge_limits};
 
     /// A judge before the first record.
     pub fn new(alloc: Global, limits: Limits) -> Judge
@@ -49,7 +49,7 @@ impl Judge {
     }
 
     /// Judges the record of that number, and appends the record of its normal form to `out`.
-    fn judge(
+    pub fn judge(
         &mut self,
         alloc: Global,
         number: u64,
@@ -72,25 +72,6 @@ impl Judge {
         };
         self.written = append_record(alloc, number, &renamed, self.written, self.limits, out)?;
         Ok(())
-    }
-
-    /// Judges a record that has come, and answers the number of the next one.
-    pub fn judge_next(
-        &mut self,
-        alloc: Global,
-        number: u64,
-        whole: &Option<Record>,
-        out: &mut Vec<u8>,
-    ) -> Result<u64, Refused>
-        requires { number < 2 ^ 63 }
-        ensures judged { (messages normal : List Sent) → StandsFor self.old messages normal → HasGoneOn messages normal number whole.now self.old self.new out.old.items out.new.items result }
-        ensures limits { judge_limits self.new ≡ judge_limits self.old }
-    {
-        let Some(record) = whole else {
-            return Ok(number);
-        };
-        self.judge(alloc, number, record, out)?;
-        Ok(number + 1)
     }
 
     /// The names of the messages so far.

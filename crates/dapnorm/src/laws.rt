@@ -2,7 +2,7 @@
 ghost use Rattle.dapnorm.specs.Accepting.{RecordingHasOneOutcome, RecordingRefusalStays};
 ghost use Rattle.dapnorm.specs.Normalising.{HasOneNormalForm, NormalIsAccepted, AcceptedIsNormalised, OneNormalText, NormalStandsStill, EqualTextsTell};
 ghost use Rattle.dapnorm.specs.Showing.{ShowHasOneOutcome, ShowRefusalStays};
-ghost use Rattle.dapnorm.specs.Verdicts.{RecordingsHaveOneVerdict, SameIsCarried, SameIsToldExactly};
+ghost use Rattle.dapnorm.specs.Verdicts.{ReadingIsBounded, RecordingsHaveOneVerdict, SameIsCarried, SameIsToldExactly};
 ghost use Rattle.dapnorm.specs.Compacting.{CompactHasOneOutcome, CompactRefusalStays};
 ghost use Rattle.dapnorm.specs.Tracing.{TracesHaveOneOutcome, TraceRefusalStays};
 
@@ -50,6 +50,12 @@ pub fn two_recordings_have_one_verdict()
     ensures one { RecordingsHaveOneVerdict }
     ensures same { SameIsToldExactly }
     ensures carried { SameIsCarried }
+{}
+
+/// What `normalise`, `check` and `compare` have read at a record: at most 65,536 bytes past it, or past the byte that shows a
+/// fault of it.
+pub fn reading_is_bounded()
+    ensures { ReadingIsBounded }
 {}
 
 /// `record` records a trace as one list of messages, or refuses it for one reason behind one list of messages, and not both. A

@@ -1,17 +1,14 @@
 //! Normalises recordings.
-ghost use Rattle.std.specs.Prelude.{◌+◌, ◌<◌, ◌≤◌, ◌^◌, IfErr, IfOk};
-ghost use Rattle.dapnorm.specs.Accepting.{IsRefused};
-ghost use Rattle.dapnorm.specs.Engine.{Answers};
+ghost use Rattle.std.specs.Prelude.{◌≡◌, ◌+◌, ◌<◌, ◌≤◌, ◌^◌, IfErr, IfOk};
 ghost use Rattle.dapnorm.specs.Limits.{AreSound};
 ghost use Rattle.dapnorm.specs.Normalising.{IsCanonical, RefusesBytes};
+ghost use Rattle.dapnorm.specs.Streaming.{Flushes, Streams};
 
-use crate::device::{Sink, Source};
-use crate::judging_input::{Keep, judge_input};
 use crate::limits::Limits;
+use crate::normal_records::NormalRecords;
 use crate::normalised::Normalised;
-use crate::reading::{Stop, read_all};
 use crate::refused::Refused;
-use crate::writing::write_and_flush;
+use dap_device::{MemorySource, Sink, Source, write_all};
 use std::alloc::Global;
 
 /// The normal text of a recording: its messages in order, each as its canonical content, in which ids count from 1.
@@ -29,24 +26,37 @@ pub fn normalise_bytes(alloc: Global, bytes: &[u8], limits: Limits) -> Result<No
     ensures ok { IfOk result (λ text. IsCanonical limits bytes.now text) }
     ensures err { IfErr result (λ refused. RefusesBytes limits bytes.now refused) }
 {
-    let stop = if limits.input < bytes.len() as u64 {
-        Stop::Full
-    } else {
-        Stop::End
+    let Ok(mut records) = NormalRecords::new(alloc, limits) else {
+        return Err(Refused::Memory);
     };
-    let accepted = judge_input(alloc, bytes, stop, limits, Keep::Text)?;
-    Ok(Normalised::new(accepted.text))
+    let mut reader = MemorySource::new(bytes);
+    let mut text = Vec::new(alloc);
+    while records.next(alloc, &mut reader, &mut text)? {}
+    Ok(Normalised::new(text))
 }
 
-/// Reads a recording and writes its normal text, as [`normalise_bytes`] answers it.
+/// Gives the answer once all that was written is flushed.
+fn flushed<W: Sink>(writer: &mut W, answer: Result<(), Refused>) -> Result<(), Refused>
+    requires { W.failures writer.old < 2 ^ 63 }
+    ensures { Flushes W.out W.failures writer.old writer.new answer result }
+{
+    match writer.flush() {
+        Ok(()) => answer,
+        Err(_) => Err(Refused::WriteFault),
+    }
+}
+
+/// Reads a recording and writes its normal text, as [`normalise_bytes`] answers it, record by record.
 ///
-/// It reads its whole input, at most one byte past `limits.input`, judges it, and writes last: nothing is written where it
-/// is refused. Records are counted from 1 in the order of the input.
+/// One record is read, judged and written before the next one: at most 65,536 bytes are read past it, and at most one byte
+/// past `limits.input`. Where a record is refused, the normal text of those before it has been written. What was written is
+/// flushed at the end, also before a refusal is answered. Records are counted from 1 in the order of the input.
 ///
 /// # Errors
 ///
 /// The first refusal of the input; `ReadFault` where the reader failed and what came before is not refused; `WriteFault`
-/// where the writer failed; `Memory`.
+/// where the writer failed, also in place of a refusal where the flush before it failed; `Memory`, which nothing is flushed
+/// before.
 pub fn normalise<R: Source, W: Sink>(
     alloc: Global,
     reader: &mut R,
@@ -58,26 +68,28 @@ pub fn normalise<R: Source, W: Sink>(
     requires read_failures { R.failures reader.old < 2 ^ 62 }
     requires write_failures { W.failures writer.old < 2 ^ 62 }
 
-    // The normal text of the input goes out, or its first refusal is answered and nothing goes out. A fault of a device is
-    // answered exactly where that device failed.
-    ensures answer { Answers R.left R.failures W.out W.failures limits.input (IsCanonical limits) (IsRefused limits) reader.old reader.new writer.old writer.new result }
+    // The normal text of the input goes out. Where a record is refused, the text of those before it does; where the writer
+    // fails, a front of the text does. A fault of a device is answered exactly where that device failed.
+    ensures answer { Streams R.left R.given R.failures W.out W.failures limits reader.old reader.new writer.old writer.new result }
 
     // It takes at most one byte past the limit.
     ensures taken { R.given reader.new ≤ R.given reader.old + limits.input + 1 }
 {
-    let input = match read_all(alloc, reader, limits.input) {
-        Ok(input) => input,
-        Err(_) => return Err(Refused::Memory),
+    let Ok(mut records) = NormalRecords::new(alloc, limits) else {
+        return Err(Refused::Memory);
     };
-    let accepted = judge_input(
-        alloc,
-        input.bytes.as_slice(),
-        input.stop,
-        limits,
-        Keep::Text,
-    )?;
-    match write_and_flush(writer, accepted.text.as_slice()) {
-        Ok(()) => Ok(()),
-        Err(_) => Err(Refused::WriteFault),
+    let mut text = Vec::new(alloc);
+    loop {
+        text.clear();
+        match records.next(alloc, reader, &mut text) {
+            Ok(true) => {
+                if write_all(writer, text.as_slice()).is_err() {
+                    return Err(Refused::WriteFault);
+                }
+            }
+            Ok(false) => return flushed(writer, Ok(())),
+            Err(Refused::Memory) => return Err(Refused::Memory),
+            Err(refused) => return flushed(writer, Err(refused)),
+        }
     }
 }

@@ -1,25 +1,22 @@
 //! Does a job, and tells of it what the program tells: lines and a status.
 ghost use Rattle.std.specs.Prelude.{◌≡◌, ◌+◌, ◌<◌, ◌≤◌, ◌^◌, Bool};
 ghost use Rattle.dapnorm.specs.Compacting.{Compacts, IsRefused};
-ghost use Rattle.dapnorm.specs.Accepting.{IsRefused as IsRecordingRefused};
 ghost use Rattle.dapnorm.specs.Limits.{AreSound};
-ghost use Rattle.dapnorm.specs.Normalising.{IsCanonical};
-ghost use Rattle.dapnorm.specs.Run.{Answered, CheckIsTold, HasPrinted, TellsUsage, status_of};
+ghost use Rattle.dapnorm.specs.Run.{Answered, CheckIsTold, HasPrinted, NormaliseIsTold, TellsUsage, status_of};
 ghost use Rattle.dapnorm.specs.Showing.{IsShownBy, IsRefused as IsShowRefused};
 ghost use Rattle.dapnorm.specs.TracingRun.{TraceIsTold};
 
 use crate::checked::Checked;
 use crate::checking::check;
 use crate::compacting::compact;
-use crate::device::{Sink, Source};
 use crate::jobs::{Job, UsageFault};
 use crate::limits::Limits;
 use crate::normalising::normalise;
 use crate::refused::Refused;
 use crate::showing::show;
 use crate::tracing::record;
-use crate::writing::write_and_flush;
 use arrayvec::ArrayString;
+use dap_device::{Sink, Source, write_and_flush};
 use std::alloc::Global;
 use std::fmt::Write;
 
@@ -103,10 +100,10 @@ pub fn run_stream<R: Source, W: Sink, E: Sink>(
     ensures record_trace { job.now ≡ Job.Record → TraceIsTold R.left R.failures W.out W.failures limits reader.old reader.new writer.old writer.new result }
 
     // The output is the normal text that `normalise` writes, and the status that of its answer.
-    ensures normalise { job.now ≡ Job.Normalise → Answered R.left R.failures W.out W.failures limits.input (IsCanonical limits) (IsRecordingRefused limits) reader.old reader.new writer.old writer.new result }
+    ensures normalise { job.now ≡ Job.Normalise → NormaliseIsTold R.left R.given R.failures W.out W.failures limits reader.old reader.new writer.old writer.new result }
 
     // The output is the line of what `check` accepts, and the status that of its answer or of a writer that failed.
-    ensures check { (complete : Bool) → job.now ≡ Job.Check complete → CheckIsTold R.left R.failures W.out W.failures limits complete reader.old reader.new writer.old writer.new result }
+    ensures check { (complete : Bool) → job.now ≡ Job.Check complete → CheckIsTold R.left R.given R.failures W.out W.failures limits complete reader.old reader.new writer.old writer.new result }
 
     // The output is the lines that `show` writes, and the status that of its answer.
     ensures show { job.now ≡ Job.Show → Answered R.left R.failures W.out W.failures limits.input (IsShownBy limits) (IsShowRefused limits) reader.old reader.new writer.old writer.new result }

@@ -2,17 +2,15 @@
 ghost use Rattle.std.specs.Prelude.{◌≡◌, ◌+◌, ◌<◌, ◌≤◌, ◌^◌, string_bytes};
 ghost use Rattle.dapnorm.specs.Engine.{Answers};
 ghost use Rattle.dapnorm.specs.Limits.{AreSound};
-ghost use Rattle.dapnorm.specs.Reading.{HasLength};
+ghost use Rattle.dap_device.specs.Reading.{HasLength};
 ghost use Rattle.dapnorm.specs.Showing.{IsRefused, IsShownBy};
 ghost use Rattle.dapnorm.specs.ShowingSteps.{HasGoneOn, JudgesInput};
 
-use crate::device::{Sink, Source};
 use crate::limits::Limits;
 use crate::lines::push_lines;
 use crate::messages::read_message;
-use crate::reading::{Input, Stop, read_all};
 use crate::refused::Refused;
-use crate::writing::write_and_flush;
+use dap_device::{Input, Sink, Source, Stop, read_all, write_and_flush};
 use dap_recording::{Record, RecordCause, RecordReader};
 use std::alloc::Global;
 

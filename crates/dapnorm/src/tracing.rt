@@ -4,15 +4,13 @@ ghost use Rattle.dap_frame.specs.declared.limits.FrameLimits.{FrameLimits};
 ghost use Rattle.dap_recording.specs.RecorderReading.{StandsForRests, recorder_limits, text_of};
 ghost use Rattle.dap_tree.specs.declared.side.Side.{Side};
 ghost use Rattle.dapnorm.specs.Limits.{AreSound};
-ghost use Rattle.dapnorm.specs.Reading.{FitsStop};
+ghost use Rattle.dap_device.specs.Reading.{FitsStop};
 ghost use Rattle.dapnorm.specs.TracingRun.{RecordsTrace};
 ghost use Rattle.dapnorm.specs.TracingSteps.{HasRecorded, HasSentRecords, RecordsRun, Traces};
 
-use crate::device::{Sink, Source};
 use crate::limits::Limits;
-use crate::reading::{Stop, read_all};
 use crate::refused::Refused;
-use crate::writing::write_and_flush;
+use dap_device::{Sink, Source, Stop, read_all, write_and_flush};
 use dap_message::Side;
 use dap_recording::{Recorder, RecorderFault, TraceReader};
 use std::alloc::Global;

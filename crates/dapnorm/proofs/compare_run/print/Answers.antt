@@ -2,8 +2,8 @@ use Rattle.std.proofs.Common.{◌∙◌, subst}
 use Rattle.std.specs.List.{flat_map}
 use Rattle.std.proofs.lemmas.Result.{err_from_is_err_and}
 use Rattle.dapnorm.specs.ComparingRun.{first_line, pair_line, pairs_in}
-use Rattle.dapnorm.specs.Device.{AllWritten, FrontWritten}
-use Rattle.dapnorm.proofs.Sending.{all_then_all, all_then_flush, all_then_front}
+use Rattle.dap_device.specs.Device.{AllWritten, FrontWritten}
+use Rattle.dap_device.proofs.Sending.{all_then_all, all_then_flush, all_then_front}
 use Rattle.dapnorm.proofs.compare_run.print.Goals as goal
 
 pub returns-in_err-write_pairs : goal.returns-in_err-write_pairs

@@ -1,7 +1,7 @@
 use Rattle.std.proofs.Common.{arith, ◌∙◌}
 use Rattle.std.proofs.lemmas.Result.{err_from_is_err_and}
 use Rattle.dapnorm.specs.ComparingRun.{pair_line}
-use Rattle.dapnorm.proofs.Sending.{line_not_sent, line_sent}
+use Rattle.dap_device.proofs.Sending.{line_not_sent, line_sent}
 use Rattle.dapnorm.proofs.compare_run.write_pairs.Goals as goal
 
 pub returns-in_err-write_all : goal.returns-in_err-write_all

@@ -1,7 +1,7 @@
 use Rattle.std.proofs.Common.{take}
 use Rattle.std.specs.List.{flat_map}
 use Rattle.dapnorm.specs.ComparingRun.{pair_line}
-use Rattle.dapnorm.specs.Device.{AllWritten}
+use Rattle.dap_device.specs.Device.{AllWritten}
 use Rattle.dapnorm.proofs.compare_run.write_pairs.Given as goal
 
 -- the lines of the pairs so far went out

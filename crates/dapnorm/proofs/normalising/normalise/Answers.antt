@@ -1,46 +1,95 @@
-use Rattle.std.proofs.Common.{Ok, Err, refl, subst}
-use Rattle.std.proofs.lemmas.Result.{err_from_is_err_and}
-use Rattle.std.specs.Io.KnownBytes.{Appends}
-use Rattle.dapnorm.specs.Device.{FrontWritten}
-use Rattle.dapnorm.specs.InputJudging.{JudgesInput}
-use Rattle.dapnorm.specs.declared.judging_input.Keep.TheVariants.{Text}
-use Rattle.dapnorm.proofs.InputAnswers.{normalise_accepts, normalise_refuses}
+use Rattle.std.proofs.Common.{refl, sym, ◌∙◌, subst}
+use Rattle.std.proofs.KnownBytes.{Appends-nil, Keeps-refl}
+use Rattle.dap_device.specs.Device.{AllWritten, FrontWritten}
+use Rattle.dapnorm.proofs.StreamAnswers.{ended, gone}
+use Rattle.dapnorm.proofs.StreamLoop.{all_taken, at_start, few_taken, gone_taken, on}
+use Rattle.dapnorm.proofs.StreamWriting.{all_written, failed_to_write, front_written, given_up, given_up_at, has_refused, has_streamed, written_on}
 use Rattle.dapnorm.proofs.normalising.normalise.Goals as goal
 
-pub returns-in_err-accepted-clause-answer : goal.returns-in_err-accepted-clause-answer
-returns-in_err-accepted-clause-answer g c =
-    let because = err_from_is_err_and c.from_residual.result c.from_residual.ensures.1 in
-    let refused = c.in_err-accepted.field-0.0 in
-    let told = subst (λ bytes. JudgesInput c.args.limits Text bytes c.in-Ok.input.stop (Err refused)) c.as_slice.ensures.value c.in_err-accepted.ensures in
-    rw (because.1, because.2)
-    (normalise_refuses g.R.Source.left g.R.Source.failures c.args.limits Text c.args.reader.now c.read_all.new.reader c.in-Ok.input.bytes.items c.in-Ok.input.stop
-    c.in-Ok.ensures.came c.requires.limits (Unit {0}) g.W.Sink.out g.W.Sink.failures c.args.writer.now refused told)
+pub returns-in_default-clause-answer : goal.returns-in_default-clause-answer
+returns-in_default-clause-answer g c = given_up g.R.Source.left g.R.Source.given g.R.Source.failures g.W.Sink.out g.W.Sink.failures c.args.limits c.args.reader.now c.args.writer.now
 
-pub returns-in-Ok-write_and_flush-clause-answer : goal.returns-in-Ok-write_and_flush-clause-answer
-returns-in-Ok-write_and_flush-clause-answer g c =
-    let given = c.in_ok-accepted.accepted in
-    let judged = subst (λ bytes. JudgesInput c.args.limits Text bytes c.in-Ok.input.stop (Ok given)) c.as_slice.ensures.value c.in_ok-accepted.ensures in
+pub loop-writer-init : goal.loop-writer-init
+loop-writer-init g c = record {
+  going = at_start g.R.Source.left g.R.Source.given g.R.Source.failures c.args.limits c.args.reader.now c.in-Ok.records c.in-Ok.ensures.stands;
+  written = Appends-nil (g.W.Sink.out c.args.writer.now);
+  no_failure = refl;
+}
+
+pub loop-writer-smaller : goal.loop-writer-smaller
+loop-writer-smaller g c =
+    let was = c.loop-writer.invariant.going in
+    (gone g.R.Source.left g.R.Source.given g.R.Source.failures c.args.limits c.args.reader.now c.loop-writer.reader c.loop-writer.records was c.next.new.self c.next.new.reader _ _ _
+    (c.in-Ok-true.ensures c.args.limits was.bytes was.messages was.normal was.stands) c.in-Ok-true.field-0-test).shorter
+
+pub loop-writer-preserved : goal.loop-writer-preserved
+loop-writer-preserved g c =
+    let was = c.loop-writer.invariant.going in
+    let more = gone g.R.Source.left g.R.Source.given g.R.Source.failures c.args.limits c.args.reader.now c.loop-writer.reader c.loop-writer.records was c.next.new.self c.next.new.reader _ _ _
+    (c.in-Ok-true.ensures c.args.limits was.bytes was.messages was.normal was.stands) c.in-Ok-true.field-0-test in
+    let here = rw c.clear.ensures.items at more in
+    let all = subst (AllWritten g.W.Sink.out g.W.Sink.failures c.loop-writer.writer c.write_all.new.writer) c.as_slice.ensures.value
+    (all_written g.W.Sink.out g.W.Sink.failures c.loop-writer.writer c.write_all.new.writer c.write_all.result c.as_slice.result.now c.write_all.ensures (sym c.is_err.ensures.value ∙ c.if-is_err.false)) in
+    let written = written_on g.R.Source.left g.R.Source.given g.R.Source.failures g.W.Sink.out g.W.Sink.failures c.args.limits c.args.reader.now c.args.writer.now c.loop-writer.reader c.loop-writer.records was
+    c.loop-writer.writer c.loop-writer.invariant.written c.loop-writer.invariant.no_failure c.next.new.self c.next.new.reader c.next.new.text.items here c.write_all.new.writer all in
     record {
-      text = given.text.items;
-      accepts =
-          normalise_accepts g.R.Source.left g.R.Source.failures c.args.limits Text c.args.reader.now c.read_all.new.reader c.in-Ok.input.bytes.items c.in-Ok.input.stop
-          c.in-Ok.ensures.came refl given judged;
-      written = subst (Appends (g.W.Sink.out c.args.writer.now) (g.W.Sink.out c.write_and_flush.new.writer)) c.as_slice-2.ensures.value c.in-Ok-write_and_flush.ensures.appended;
-      no_failure = c.in-Ok-write_and_flush.ensures.no_failure;
+      going = on g.R.Source.left g.R.Source.given g.R.Source.failures c.args.limits c.args.reader.now c.loop-writer.reader c.loop-writer.records was c.next.new.self c.next.new.reader _ _ here;
+      written = written.0;
+      no_failure = written.1;
     }
 
-pub returns-clause-answer : goal.returns-clause-answer
-returns-clause-answer g c =
-    let given = c.in_ok-accepted.accepted in
-    let judged = subst (λ bytes. JudgesInput c.args.limits Text bytes c.in-Ok.input.stop (Ok given)) c.as_slice.ensures.value c.in_ok-accepted.ensures in
-    let told = subst (FrontWritten g.W.Sink.out g.W.Sink.failures c.args.writer.now c.write_and_flush.new.writer) c.as_slice-2.ensures.value c.in-Err-write_and_flush.ensures in
+pub returns-then-is_err-clause-answer : goal.returns-then-is_err-clause-answer
+returns-then-is_err-clause-answer g c =
+    let was = c.loop-writer.invariant.going in
+    let more = gone g.R.Source.left g.R.Source.given g.R.Source.failures c.args.limits c.args.reader.now c.loop-writer.reader c.loop-writer.records was c.next.new.self c.next.new.reader _ _ _
+    (c.in-Ok-true.ensures c.args.limits was.bytes was.messages was.normal was.stands) c.in-Ok-true.field-0-test in
+    let here = rw c.clear.ensures.items at more in
+    let front = subst (FrontWritten g.W.Sink.out g.W.Sink.failures c.loop-writer.writer c.write_all.new.writer) c.as_slice.ensures.value
+    (front_written g.W.Sink.out g.W.Sink.failures c.loop-writer.writer c.write_all.new.writer c.write_all.result c.as_slice.result.now c.write_all.ensures (sym c.is_err.ensures.value ∙ c.if-is_err.true)) in
+    failed_to_write g.R.Source.left g.R.Source.given g.R.Source.failures g.W.Sink.out g.W.Sink.failures c.args.limits c.args.reader.now c.args.writer.now c.loop-writer.reader c.loop-writer.records was
+    c.loop-writer.writer c.loop-writer.invariant.written c.loop-writer.invariant.no_failure c.next.new.self c.next.new.reader c.next.new.text.items here c.write_all.new.writer front
+
+pub returns-then-is_err-clause-taken : goal.returns-then-is_err-clause-taken
+returns-then-is_err-clause-taken g c =
+    let was = c.loop-writer.invariant.going in
+    gone_taken g.R.Source.left g.R.Source.given g.R.Source.failures c.args.limits c.args.reader.now c.loop-writer.reader c.loop-writer.records was c.next.new.self c.next.new.reader _ _
+    (gone g.R.Source.left g.R.Source.given g.R.Source.failures c.args.limits c.args.reader.now c.loop-writer.reader c.loop-writer.records was c.next.new.self c.next.new.reader _ _ _
+    (c.in-Ok-true.ensures c.args.limits was.bytes was.messages was.normal was.stands) c.in-Ok-true.field-0-test)
+
+pub returns-in-Ok-false-clause-answer : goal.returns-in-Ok-false-clause-answer
+returns-in-Ok-false-clause-answer g c =
+    let was = c.loop-writer.invariant.going in
+    let end = ended g.R.Source.left g.R.Source.given g.R.Source.failures c.args.limits c.args.reader.now c.loop-writer.reader c.loop-writer.records was c.next.new.self c.next.new.reader _ _ _
+    (c.in-Ok-false.ensures c.args.limits was.bytes was.messages was.normal was.stands) c.in-Ok-false.field-0-test in
+    has_streamed g.R.Source.left g.R.Source.given g.R.Source.failures g.W.Sink.out g.W.Sink.failures c.args.limits c.args.reader.now c.args.writer.now c.loop-writer.reader c.loop-writer.records was
+    c.loop-writer.writer c.loop-writer.invariant.written c.loop-writer.invariant.no_failure c.next.new.self c.next.new.reader c.requires.limits _ _ end c.flushed.new.writer c.flushed.result c.flushed.ensures
+
+pub returns-in-Ok-false-clause-taken : goal.returns-in-Ok-false-clause-taken
+returns-in-Ok-false-clause-taken g c =
+    let was = c.loop-writer.invariant.going in
+    all_taken g.R.Source.left g.R.Source.given g.R.Source.failures c.args.limits c.args.reader.now c.loop-writer.reader c.loop-writer.records was c.next.new.reader c.next.new.self _ _
+    (ended g.R.Source.left g.R.Source.given g.R.Source.failures c.args.limits c.args.reader.now c.loop-writer.reader c.loop-writer.records was c.next.new.self c.next.new.reader _ _ _
+    (c.in-Ok-false.ensures c.args.limits was.bytes was.messages was.normal was.stands) c.in-Ok-false.field-0-test)
+
+pub returns-in-Err-Memory-clause-answer : goal.returns-in-Err-Memory-clause-answer
+returns-in-Err-Memory-clause-answer g c =
+    let was = c.loop-writer.invariant.going in
+    given_up_at g.R.Source.left g.R.Source.given g.R.Source.failures g.W.Sink.out g.W.Sink.failures c.args.limits c.args.reader.now c.args.writer.now c.loop-writer.reader c.loop-writer.records was
+    c.loop-writer.writer c.loop-writer.invariant.written c.loop-writer.invariant.no_failure c.next.new.self c.next.new.reader _
+    (c.in-Err-Memory.ensures c.args.limits was.bytes was.messages was.normal was.stands) c.loop-writer.writer (Keeps-refl (g.W.Sink.out c.loop-writer.writer)) refl
+
+pub returns-in-Err-Memory-clause-taken : goal.returns-in-Err-Memory-clause-taken
+returns-in-Err-Memory-clause-taken g c =
+    let was = c.loop-writer.invariant.going in
+    few_taken g.R.Source.left g.R.Source.given g.R.Source.failures c.args.limits c.args.reader.now c.loop-writer.reader c.loop-writer.records was c.next.new.reader c.next.new.self _
+    (c.in-Err-Memory.ensures c.args.limits was.bytes was.messages was.normal was.stands)
+
+pub returns-in-Err : goal.returns-in-Err
+returns-in-Err g c =
+    let was = c.loop-writer.invariant.going in
+    let stopped = c.in-Err.ensures c.args.limits was.bytes was.messages was.normal was.stands in
     record {
-      text = given.text.items;
-      accepts =
-          normalise_accepts g.R.Source.left g.R.Source.failures c.args.limits Text c.args.reader.now c.read_all.new.reader c.in-Ok.input.bytes.items c.in-Ok.input.stop
-          c.in-Ok.ensures.came refl given judged;
-      count = told.count;
-      within = told.within;
-      written = told.appended;
-      failure = told.failure;
+      answer = has_refused g.R.Source.left g.R.Source.given g.R.Source.failures g.W.Sink.out g.W.Sink.failures c.args.limits c.args.reader.now c.args.writer.now c.loop-writer.reader c.loop-writer.records was
+          c.loop-writer.writer c.loop-writer.invariant.written c.loop-writer.invariant.no_failure c.next.new.self c.next.new.reader _ stopped c.flushed-in-Err.new.writer c.flushed-in-Err.result c.flushed-in-Err.ensures;
+      taken = few_taken g.R.Source.left g.R.Source.given g.R.Source.failures c.args.limits c.args.reader.now c.loop-writer.reader c.loop-writer.records was c.next.new.reader c.next.new.self _ stopped;
     }

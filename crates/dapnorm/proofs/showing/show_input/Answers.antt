@@ -2,7 +2,7 @@ use Rattle.std.proofs.Common.{arith, rules, eqb, true, length-take, ◌≡◌, �
 use Rattle.std.proofs.lemmas.Bool.{false≢true, eqb-true}
 use Rattle.std.proofs.lemmas.List.{take_rest, nil_from_length}
 use Rattle.std.proofs.lemmas.Result.{err_from_is_err_and}
-use Rattle.dapnorm.specs.Reading.{HasLength}
+use Rattle.dap_device.specs.Reading.{HasLength}
 use Rattle.dapnorm.proofs.Going.{read_is_taken}
 use Rattle.dapnorm.proofs.ShowingLoop.{Showing, start, step, shown, refused_next, too_long, accepted, is_cut, not_refused}
 use Rattle.dapnorm.proofs.showing.show_input.Goals as goal

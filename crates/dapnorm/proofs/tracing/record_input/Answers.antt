@@ -2,7 +2,7 @@ use Rattle.std.proofs.Common.{arith, eqb, true, false, length-take, ◌≡◌, �
 use Rattle.std.proofs.lemmas.Bool.{false≢true, eqb-true}
 use Rattle.std.proofs.lemmas.List.{take_rest, nil_from_length}
 use Rattle.dapnorm.specs.declared.refused.Refused.TheVariants.{TraceTooLong, Trace, Recorder, ReadFault}
-use Rattle.dapnorm.specs.Reading.{FitsStop}
+use Rattle.dap_device.specs.Reading.{FitsStop}
 use Rattle.dapnorm.specs.TracingSteps.{HasTraced}
 use Rattle.dapnorm.proofs.Going.{read_is_taken}
 use Rattle.dapnorm.proofs.TracingLoop.{Tracing, start, fed_none, fed_run, no_run, run_recorded, recorded_before, run_done, fault_in_piece, run_faulty, too_long, failed, cut_in_piece, all_recorded, cut_in_frame, last_small}

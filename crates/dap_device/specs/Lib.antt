@@ -1,0 +1,5 @@
+pub mod Counts
+pub mod Device
+pub mod Memory
+pub mod Pieces
+pub mod Reading

@@ -1,0 +1,131 @@
+//! Devices over memory, which tell their bytes.
+ghost use Rattle.std.specs.Prelude.{◌≡◌, ◌<◌, ◌^◌, ◌↔◌, Some, length, [], IfOk, IsErr};
+ghost use Rattle.dap_device.specs.Device.{HasWritten};
+ghost use Rattle.dap_device.specs.Memory.{TakenBytes};
+
+use crate::device::{DeviceFault, Sink, Source};
+use std::alloc::{AllocError, Global};
+use std::marker::Model;
+
+/// Reads from bytes in memory. It never fails.
+#[derive(Drop)]
+pub struct MemorySource<'a> {
+    rest: &'a [u8],
+    given: u64,
+}
+
+impl<'a> Model for MemorySource<'a> {
+    ghost use Rattle.dap_device.specs.Memory.{GivenBytes};
+
+    ghost Value = { GivenBytes };
+
+    ghost view = { λ s. record { left = s.rest.now; given = s.given } };
+}
+
+impl<'a> MemorySource<'a> {
+    /// A source of these bytes. It takes no memory.
+    pub fn new(bytes: &'a [u8]) -> MemorySource<'a>
+        ensures { result ≡ record { left = bytes.entry.now; given = 0 } }
+    {
+        MemorySource {
+            rest: bytes,
+            given: 0,
+        }
+    }
+}
+
+impl Source for MemorySource<'_> {
+    ghost left = { λ s. Some s.left };
+
+    ghost given = { λ s. s.given };
+
+    ghost failures = { λ s. 0 };
+
+    fn read(&mut self, buffer: &mut [u8]) -> Result<usize, DeviceFault> {
+        let count = self.rest.len().min(buffer.len());
+        let (front, rest) = self.rest.split_at(count);
+        buffer[..count].copy_from_slice(front);
+        self.rest = rest;
+        self.given += count as u64;
+        Ok(count)
+    }
+
+    fn given(&self) -> u64 {
+        self.given
+    }
+
+    fn failures(&self) -> u64 {
+        0
+    }
+}
+
+/// Writes into room in memory that was made beforehand, so that its calls take no memory.
+#[derive(Drop)]
+pub struct MemorySink {
+    bytes: Vec<u8>,
+    room: usize,
+    failures: u64,
+}
+
+impl Model for MemorySink {
+    ghost use Rattle.dap_device.specs.Memory.{TakenBytes};
+
+    ghost Value = { TakenBytes };
+
+    ghost view = { λ s. record { out = s.bytes.items; room = s.room; failures = s.failures } };
+
+    ghost use Rattle.std.specs.Prelude.{◌≤◌, vec_len, vec_capacity};
+
+    ghost invariant = { λ s. (vec_len s.bytes ≤ s.room) × (s.room ≤ vec_capacity s.bytes) };
+}
+
+impl MemorySink {
+    /// A sink with room for so many bytes, and no more.
+    pub fn new(alloc: Global, room: usize) -> Result<MemorySink, AllocError>
+        ensures { IfOk result (λ s. s ≡ record { out = []; room = room; failures = 0 }) }
+    {
+        Ok(MemorySink {
+            bytes: Vec::with_capacity(alloc, room)?,
+            room,
+            failures: 0,
+        })
+    }
+
+    /// What went out.
+    pub fn bytes(&self) -> &[u8]
+        ensures { result.now ≡ self.now.out }
+    {
+        self.bytes.as_slice()
+    }
+}
+
+impl Sink for MemorySink {
+    ghost out = { λ s. Some s.out };
+
+    ghost failures = { λ s. s.failures };
+
+    /// Takes what there is room for. Only a write of some bytes into a full sink fails.
+    fn write(&mut self, bytes: &[u8]) -> Result<usize, DeviceFault>
+        requires { self.old.failures < 2 ^ 63 }
+        ensures written { HasWritten (λ (s : TakenBytes). Some s.out) (λ (s : TakenBytes). s.failures) self.old self.new result bytes.now }
+        ensures room { self.new.room ≡ self.old.room }
+        ensures full { IsErr result ↔ ((0 < length bytes.now) × (length self.old.out ≡ self.old.room)) }
+    {
+        let room = self.room - self.bytes.len();
+        if room == 0 && !bytes.is_empty() {
+            self.failures += 1;
+            return Err(DeviceFault {});
+        }
+        let count = bytes.len().min(room);
+        self.bytes.extend_from_slice(&bytes[..count]).unwrap();
+        Ok(count)
+    }
+
+    fn flush(&mut self) -> Result<(), DeviceFault> {
+        Ok(())
+    }
+
+    fn failures(&self) -> u64 {
+        self.failures
+    }
+}

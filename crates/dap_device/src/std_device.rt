@@ -1,0 +1,126 @@
+//! Devices over the readers and writers of std, which tell no bytes.
+ghost use Rattle.std.specs.Prelude.{◌≡◌, None};
+
+use crate::device::{DeviceFault, Sink, Source};
+use std::io::{ErrorKind, Read, Write};
+use std::marker::Model;
+
+/// Reads from a reader of std. A read that a signal interrupted is made again.
+#[derive(Drop)]
+pub struct StdSource<R> {
+    reader: R,
+    given: u64,
+    failures: u64,
+}
+
+impl<R> Model for StdSource<R> {
+    ghost use Rattle.dap_device.specs.Counts.{SourceCounts};
+
+    ghost Value = { SourceCounts };
+
+    ghost view = { λ s. record { given = s.given; failures = s.failures } };
+}
+
+impl<R: Read> StdSource<R> {
+    /// A source that has given nothing yet. It takes no memory.
+    pub fn new(reader: R) -> StdSource<R>
+        ensures { result ≡ record { given = 0; failures = 0 } }
+    {
+        StdSource {
+            reader,
+            given: 0,
+            failures: 0,
+        }
+    }
+}
+
+impl<R: Read> Source for StdSource<R> {
+    ghost left = { λ s. None };
+
+    ghost given = { λ s. s.given };
+
+    ghost failures = { λ s. s.failures };
+
+    fn read(&mut self, buffer: &mut [u8]) -> Result<usize, DeviceFault> {
+        for _ in 0..u64::MAX {
+            match self.reader.read(buffer) {
+                Ok(count) => {
+                    self.given += count as u64;
+                    return Ok(count);
+                }
+                Err(error) if error.kind() == ErrorKind::Interrupted => {}
+                Err(_) => break,
+            }
+        }
+        self.failures += 1;
+        Err(DeviceFault {})
+    }
+
+    fn given(&self) -> u64 {
+        self.given
+    }
+
+    fn failures(&self) -> u64 {
+        self.failures
+    }
+}
+
+/// Writes to a writer of std. A write that a signal interrupted is made again.
+#[derive(Drop)]
+pub struct StdSink<W> {
+    writer: W,
+    failures: u64,
+}
+
+impl<W> Model for StdSink<W> {
+    ghost use Rattle.dap_device.specs.Counts.{SinkCounts};
+
+    ghost Value = { SinkCounts };
+
+    ghost view = { λ s. record { failures = s.failures } };
+}
+
+impl<W: Write> StdSink<W> {
+    /// A sink that has taken nothing yet. It takes no memory.
+    pub fn new(writer: W) -> StdSink<W>
+        ensures { result ≡ record { failures = 0 } }
+    {
+        let failures = 0;
+        StdSink { writer, failures }
+    }
+}
+
+impl<W: Write> Sink for StdSink<W> {
+    ghost out = { λ s. None };
+
+    ghost failures = { λ s. s.failures };
+
+    fn write(&mut self, bytes: &[u8]) -> Result<usize, DeviceFault> {
+        for _ in 0..u64::MAX {
+            match self.writer.write(bytes) {
+                Ok(count) => {
+                    if count == 0 && !bytes.is_empty() {
+                        self.failures += 1;
+                    }
+                    return Ok(count);
+                }
+                Err(error) if error.kind() == ErrorKind::Interrupted => {}
+                Err(_) => break,
+            }
+        }
+        self.failures += 1;
+        Err(DeviceFault {})
+    }
+
+    fn flush(&mut self) -> Result<(), DeviceFault> {
+        if self.writer.flush().is_err() {
+            self.failures += 1;
+            return Err(DeviceFault {});
+        }
+        Ok(())
+    }
+
+    fn failures(&self) -> u64 {
+        self.failures
+    }
+}

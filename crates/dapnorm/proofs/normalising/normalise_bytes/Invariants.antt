@@ -1,0 +1,16 @@
+use Rattle.std.proofs.Common.{◌≡◌, Some}
+use Rattle.dap_device.specs.Memory.{GivenBytes}
+use Rattle.dapnorm.specs.Accepting.{text}
+use Rattle.dapnorm.specs.NormalSteps.{remaining}
+use Rattle.dapnorm.proofs.StreamLoop.{Going}
+use Rattle.dapnorm.proofs.normalising.normalise_bytes.Given as goal
+
+abbrev pub invariant-loop-text : goal.invariant-loop-text
+invariant-loop-text l =
+    record {
+      going : Going (λ (s : GivenBytes). Some s.left) (λ (s : GivenBytes). s.given) (λ (s : GivenBytes). 0) l.fn.limits record { left = l.fn.bytes; given = 0 } l.reader l.records;
+      text_is : l.text.items ≡ text going.normal;
+    }
+
+abbrev pub decreases-loop-text : goal.decreases-loop-text
+decreases-loop-text l = remaining l.records
