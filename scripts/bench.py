@@ -3,11 +3,9 @@ import hashlib
 import json
 import os
 import random
-import resource
 import subprocess
 import sys
 import tempfile
-import time
 
 from one_direction import records
 
@@ -126,20 +124,28 @@ def normalise_sessions(folder):
         beside_script("normalise", path, size)
 
 
+def run(arguments, source, out):
+    """One run, which has to end well: its seconds, and the most memory that it held in bytes."""
+    reads, writes = os.pipe()
+    with open(reads, "rb") as told:
+        starter = [sys.executable, "-I", "-S", os.path.join(TOP, "scripts", "measured.py"), str(writes), *arguments]
+        process = subprocess.Popen(starter, stdin=source, stdout=out, pass_fds=[writes])
+        os.close(writes)
+        seconds, status, memory = told.read().split()
+        process.wait()
+    if int(status) != 0:
+        sys.exit(f"{arguments} ended with status {int(status)}")
+    return float(seconds), int(memory)
+
+
 def measure(arguments, given):
     """The shortest of some runs in seconds, the most memory in bytes, and a digest of the output."""
     best, memory, digest = None, 0, None
     for _ in range(ROUNDS):
         with open(given, "rb") as source, tempfile.TemporaryFile() as out:
-            begun = time.monotonic()
-            process = subprocess.Popen(arguments, stdin=source, stdout=out)
-            _, status, usage = os.wait4(process.pid, 0)
-            taken = time.monotonic() - begun
-            process.returncode = os.waitstatus_to_exitcode(status)
-            if process.returncode != 0:
-                sys.exit(f"{arguments} ended with status {process.returncode}")
+            taken, held = run(arguments, source, out)
             best = taken if best is None else min(best, taken)
-            memory = max(memory, usage.ru_maxrss * 1024)
+            memory = max(memory, held)
             out.seek(0)
             digest = hashlib.file_digest(out, "sha256").hexdigest()
     return best, memory, digest
