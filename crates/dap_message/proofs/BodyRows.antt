@@ -51,7 +51,7 @@ found-elsewhere (each ∷ ps) d e a h = cc
 found-elsewhere (named k ∷ []) d e a h = rw (a.0, a.1 k (negated (bytes_eq k (codes "body")) h)) refl
 found-elsewhere (named k ∷ p ∷ ps) d e a h = ap (λ o. option_map_or (found (p ∷ ps)) o []) (a.1 k (negated (bytes_eq k (codes "body")) h))
 
-asked-outside : (k : Option Kind) (n : Option (List ℕ)) (d e : Doc) → AlikeOutside d e → is_asked k n e ≡ is_asked k n d
+pub asked-outside : (k : Option Kind) (n : Option (List ℕ)) (d e : Doc) → AlikeOutside d e → is_asked k n e ≡ is_asked k n d
 asked-outside None n d e a = refl
 asked-outside (Some Request) None d e a = ap (is_text (codes "request")) (a.1 (codes "type") refl)
 asked-outside (Some Response) None d e a = ap (is_text (codes "response")) (a.1 (codes "type") refl)

@@ -33,7 +33,7 @@ object-default k e (list ds) = refl
 object-default k e (object ms) = refl
 object-default k e (id s z) = refl
 
-object-if : (b : Bool) (d : Doc) → is_object (cond b (with_capabilities d) d) ≡ is_object d
+pub object-if : (b : Bool) (d : Doc) → is_object (cond b (with_capabilities d) d) ≡ is_object d
 unfolding with_capabilities
 object-if true d = object-change (codes "body") (false_at capabilities) (default_to (codes "body") (object no_members) d) ∙ object-default (codes "body") (object no_members) d
 object-if false d = refl

@@ -11,6 +11,7 @@ pub mod BodyRows
 pub mod FilledFits
 pub mod Pending
 pub mod Apart
+pub mod AskedRows
 pub mod Shapes
 pub mod TypedAgain
 pub mod Names

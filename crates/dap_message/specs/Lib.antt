@@ -6,6 +6,7 @@ pub mod Steps
 pub mod Marks
 pub mod Capabilities
 pub mod Envelope
+pub mod Asked
 pub mod Numbers
 pub mod Views
 pub mod Shown

@@ -1,43 +1,38 @@
 //! The first thing that is wrong with a message.
-ghost use Rattle.std.specs.Prelude.{◌≡◌, map};
+ghost use Rattle.std.specs.Prelude.{◌≡◌, Some, IfOk, IfErr, map};
 ghost use Rattle.dap_tree.specs.View.{view};
-ghost use Rattle.dap_message.specs.Rows.{row_fault, first_fault, row_of};
-ghost use Rattle.dap_message.specs.Faults.{row_broken, fault};
+ghost use Rattle.dap_message.specs.Asked.{asked_rows, kind_told, rows_in, fault_by, first_by};
+ghost use Rattle.dap_message.specs.Rows.{row_of};
+ghost use Rattle.dap_message.specs.Faults.{fault};
 
-use crate::asked::{is_asked, is_of_kind};
+use crate::asked::kind_of;
 use crate::broken::{Cause, cause_of};
 use crate::fault::MessageFault;
-use crate::profile::{Kind, PROFILE, Row};
+use crate::profile::{Kind, Row};
 use dap_tree::Tree;
 
-pub(crate) fn fault_of(tree: &Tree) -> Option<MessageFault>
-    ensures { result ≡ fault (view tree.now) }
+/// The kind of a message, or why the tree is none before any row is looked at.
+pub(crate) fn message_kind(tree: &Tree) -> Result<Kind, MessageFault>
+    ensures kind { IfOk result (λ k. kind_told (view tree.now) ≡ Some k) }
+    ensures rows { IfOk result
+        (λ _. fault (view tree.now) ≡ first_by (asked_rows (view tree.now)) (view tree.now)) }
+    ensures err { IfErr result (λ f. fault (view tree.now) ≡ Some f) }
 {
     let Tree::Object(_) = tree else {
-        return Some(MessageFault::NotObject);
+        return Err(MessageFault::NotObject);
     };
-    if is_of_kind(tree, Kind::Request)
-        || is_of_kind(tree, Kind::Response)
-        || is_of_kind(tree, Kind::Event)
-    {
-        broken_row(tree)
-    } else {
-        Some(MessageFault::UnknownType)
+    match kind_of(tree) {
+        Some(kind) => Ok(kind),
+        None => Err(MessageFault::UnknownType),
     }
 }
 
-#[tactic(auto, unfolding(crate::specs::Faults::row_broken))]
-fn broken_row(tree: &Tree) -> Option<MessageFault>
-    ensures { result ≡ row_broken (view tree.now) }
+/// The fault of the first of these rows that the tree breaks.
+pub(crate) fn first_broken(stretches: &[&[Row]], tree: &Tree) -> Option<MessageFault>
+    ensures { result ≡ first_by (rows_in stretches.now) (view tree.now) }
 {
-    first_broken(&PROFILE, tree)
-}
-
-fn first_broken(rows: &[Row], tree: &Tree) -> Option<MessageFault>
-    ensures { result ≡ first_fault (map row_of rows.now) (view tree.now) }
-{
-    for row in rows {
-        let fault = fault_of_row(row, tree);
+    for rows in stretches {
+        let fault = first_of(rows, tree);
         if fault.is_some() {
             return fault;
         }
@@ -45,12 +40,21 @@ fn first_broken(rows: &[Row], tree: &Tree) -> Option<MessageFault>
     None
 }
 
-fn fault_of_row(row: &Row, tree: &Tree) -> Option<MessageFault>
-    ensures { result ≡ row_fault (row_of row.now) (view tree.now) }
+fn first_of(rows: &[Row], tree: &Tree) -> Option<MessageFault>
+    ensures { result ≡ first_by (map row_of rows.now) (view tree.now) }
 {
-    if !is_asked(row, tree) {
-        return None;
+    for row in rows {
+        let fault = fault_by(row, tree);
+        if fault.is_some() {
+            return fault;
+        }
     }
+    None
+}
+
+fn fault_by(row: &Row, tree: &Tree) -> Option<MessageFault>
+    ensures { result ≡ fault_by (row_of row.now) (view tree.now) }
+{
     match cause_of(row, tree)? {
         Cause::Missing => Some(MessageFault::Missing(row.number)),
         Cause::WrongType => Some(MessageFault::WrongType(row.number)),

@@ -2,12 +2,12 @@
 ghost use Rattle.std.specs.Prelude.{◌≡◌, map};
 ghost use Rattle.dap_tree.specs.Doc.{change_child, change_items, map_items};
 ghost use Rattle.dap_tree.specs.View.{view, items_view};
-ghost use Rattle.dap_message.specs.Marks.{sort_of, is_id_of, marked, edit, mark_row, mark_rows, mark};
+ghost use Rattle.dap_message.specs.Asked.{asked_rows, rows_in, mark_by, marks_by};
+ghost use Rattle.dap_message.specs.Marks.{sort_of, is_id_of, marked, edit, mark};
 ghost use Rattle.dap_message.specs.Rows.{row_of, steps_of};
 ghost use Rattle.dap_message.specs.Steps.{place_of};
 
-use crate::asked::is_asked;
-use crate::profile::{PROFILE, Place, Row, Want};
+use crate::profile::{Place, Row, Want};
 use dap_tree::{Side, Sort, Tree};
 
 /// One step of a place: to a member, or to each element.
@@ -17,15 +17,18 @@ enum Step {
     Each,
 }
 
-#[tactic(auto, unfolding(crate::specs::Marks::mark))]
-pub(crate) fn mark(tree: &mut Tree, side: Side)
+/// Marks the ids of a tree that these rows are asked of.
+pub(crate) fn mark(tree: &mut Tree, stretches: &[&[Row]], side: Side)
+    requires { rows_in stretches.now ≡ asked_rows (view tree.old) }
     ensures { view tree.new ≡ mark side (view tree.old) }
 {
-    mark_rows(tree, &PROFILE, side);
+    for rows in stretches {
+        mark_rows(tree, rows, side);
+    }
 }
 
 fn mark_rows(tree: &mut Tree, rows: &[Row], side: Side)
-    ensures { view tree.new ≡ mark_rows (map row_of rows.now) side (view tree.old) }
+    ensures { view tree.new ≡ marks_by (map row_of rows.now) side (view tree.old) }
 {
     for row in rows {
         mark_row(tree, row, side);
@@ -33,12 +36,10 @@ fn mark_rows(tree: &mut Tree, rows: &[Row], side: Side)
 }
 
 fn mark_row(tree: &mut Tree, row: &Row, side: Side)
-    ensures { view tree.new ≡ mark_row (row_of row.now) side (view tree.old) }
+    ensures { view tree.new ≡ mark_by (row_of row.now) side (view tree.old) }
 {
     if let Some(sort) = sort_of(side, row.want) {
-        if is_asked(row, tree) {
-            mark_place(tree, row.place, sort);
-        }
+        mark_place(tree, row.place, sort);
     }
 }
 

@@ -116,6 +116,105 @@ fn least_broken_row(rt: HostRuntime) -> Result<(), Fail> {
     Ok(())
 }
 
+/// Rows that are met later, in a later element or behind a later member, may have a lower number.
+#[test]
+fn least_of_several_broken_rows(rt: HostRuntime) -> Result<(), Fail> {
+    let alloc = rt.alloc();
+    assert!(rt;
+        has_fault(
+            from_client(
+                alloc,
+                "{\"arguments\":{\"breakpoints\":[{\"line\":\"1\"},2],\"source\":{}},\"command\":\"setBreakpoints\",\"seq\":1,\"type\":\"request\"}"
+            ),
+            MessageFault::WrongType(15)
+        )
+    );
+    assert!(rt;
+        has_fault(
+            from_client(
+                alloc,
+                "{\"arguments\":{\"breakpoints\":[{\"line\":\"1\"},2]},\"command\":\"setBreakpoints\",\"type\":\"request\"}"
+            ),
+            MessageFault::Missing(1)
+        )
+    );
+    assert!(rt;
+        has_fault(
+            from_adapter(
+                alloc,
+                "{\"body\":{\"stackFrames\":[{\"column\":\"1\",\"id\":1,\"line\":1,\"name\":\"a\"},{\"column\":1,\"line\":1,\"name\":\"b\"}],\"totalFrames\":\"2\"},\"command\":\"stackTrace\",\"request_seq\":2,\"seq\":2,\"success\":true,\"type\":\"response\"}"
+            ),
+            MessageFault::Missing(62)
+        )
+    );
+    assert!(rt;
+        has_fault(
+            from_adapter(
+                alloc,
+                "{\"body\":{\"stackFrames\":[{\"column\":1,\"id\":1,\"line\":1,\"name\":\"a\"}],\"totalFrames\":\"2\"},\"command\":\"stackTrace\",\"request_seq\":2,\"seq\":2,\"success\":true,\"type\":\"response\"}"
+            ),
+            MessageFault::WrongType(66)
+        )
+    );
+    assert!(rt;
+        has_fault(
+            from_adapter(
+                alloc,
+                "{\"body\":{\"supportSuspendDebuggee\":1,\"supportsLogPoints\":1},\"command\":\"initialize\",\"message\":1,\"request_seq\":1,\"seq\":1,\"success\":true,\"type\":\"response\"}"
+            ),
+            MessageFault::WrongType(7)
+        )
+    );
+    Ok(())
+}
+
+/// Each element of a list, and each of two members side by side.
+#[test]
+fn ids_of_several_places(rt: HostRuntime) -> Result<(), Fail> {
+    let alloc = rt.alloc();
+    assert!(rt;
+        has_ids(
+            alloc,
+            from_client(
+                alloc,
+                "{\"arguments\":{\"frameId\":5,\"name\":\"a\",\"variablesReference\":6},\"command\":\"dataBreakpointInfo\",\"seq\":2,\"type\":\"request\"}"
+            ),
+            &[(Sort::Frame, 5), (Sort::Reference, 6), (Sort::ClientSeq, 2)]
+        )
+    );
+    assert!(rt;
+        has_ids(
+            alloc,
+            from_adapter(
+                alloc,
+                "{\"body\":{\"stackFrames\":[{\"column\":1,\"id\":8,\"line\":1,\"name\":\"a\"},{\"column\":1,\"id\":0,\"line\":1,\"name\":\"b\"},{\"column\":1,\"id\":9,\"line\":1,\"name\":\"c\"}],\"totalFrames\":3},\"command\":\"stackTrace\",\"request_seq\":2,\"seq\":3,\"success\":true,\"type\":\"response\"}"
+            ),
+            &[
+                (Sort::Frame, 8),
+                (Sort::Frame, 0),
+                (Sort::Frame, 9),
+                (Sort::ClientSeq, 2),
+                (Sort::AdapterSeq, 3)
+            ]
+        )
+    );
+    assert!(rt;
+        has_ids(
+            alloc,
+            from_adapter(
+                alloc,
+                "{\"body\":{\"variables\":[{\"name\":\"a\",\"value\":\"1\",\"variablesReference\":0},{\"name\":\"b\",\"value\":\"2\",\"variablesReference\":7}]},\"command\":\"variables\",\"request_seq\":2,\"seq\":3,\"success\":true,\"type\":\"response\"}"
+            ),
+            &[
+                (Sort::Reference, 7),
+                (Sort::ClientSeq, 2),
+                (Sort::AdapterSeq, 3)
+            ]
+        )
+    );
+    Ok(())
+}
+
 #[test]
 fn arguments_of_scopes(rt: HostRuntime) -> Result<(), Fail> {
     let alloc = rt.alloc();

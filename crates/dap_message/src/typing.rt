@@ -3,9 +3,10 @@ ghost use Rattle.dap_tree.specs.Doc.{is_plain};
 ghost use Rattle.dap_tree.specs.View.{view};
 ghost use Rattle.dap_message.specs.Message.{IsTypedAs, HasIdsByPath, Refuses};
 
+use crate::asked::asked_rows;
 use crate::capabilities::fill;
 use crate::fault::MessageFault;
-use crate::first_fault::fault_of;
+use crate::first_fault::{first_broken, message_kind};
 use crate::marks::mark;
 use crate::message::Message;
 use dap_tree::{Side, Tree};
@@ -23,11 +24,13 @@ pub fn typed(alloc: Global, side: Side, tree: Tree) -> Result<Message, MessageFa
     ensures ids { IfOk result (HasIdsByPath side (view tree)) }
     ensures err { IfErr result (Refuses (view tree)) }
 {
-    if let Some(fault) = fault_of(&tree) {
+    let kind = message_kind(&tree)?;
+    let rows = asked_rows(&tree, kind);
+    if let Some(fault) = first_broken(&rows, &tree) {
         return Err(fault);
     }
     let mut tree = tree;
     fill(&mut tree, side, alloc)?;
-    mark(&mut tree, side);
+    mark(&mut tree, &rows, side);
     Ok(Message::new(side, tree))
 }

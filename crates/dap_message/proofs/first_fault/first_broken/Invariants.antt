@@ -1,7 +1,9 @@
 use Rattle.dap_tree.specs.View.{view}
-use Rattle.std.proofs.Common.{◌≡◌, drop, map}
-use Rattle.dap_message.specs.Rows.{first_fault, row_of}
+use Rattle.std.proofs.Common.{◌≡◌, drop}
+use Rattle.dap_message.specs.Asked.{rows_in, first_by}
 use Rattle.dap_message.proofs.first_fault.first_broken.Given as goal
 
-abbrev pub invariant-loop-row : goal.invariant-loop-row
-invariant-loop-row l = first_fault (map row_of l.rows) (view l.tree) ≡ first_fault (map row_of (drop l.row-index l.rows)) (view l.tree)
+abbrev pub invariant-loop-rows : goal.invariant-loop-rows
+invariant-loop-rows l =
+    first_by (rows_in l.stretches) (view l.tree)
+    ≡ first_by (rows_in (drop l.rows-index l.stretches)) (view l.tree)

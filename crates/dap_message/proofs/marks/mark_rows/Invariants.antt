@@ -1,9 +1,9 @@
 use Rattle.dap_tree.specs.View.{view}
 use Rattle.std.proofs.Common.{◌≡◌, drop, map}
 use Rattle.dap_message.specs.Rows.{row_of}
-use Rattle.dap_message.specs.Marks.{mark_rows}
+use Rattle.dap_message.specs.Asked.{marks_by}
 use Rattle.dap_message.proofs.marks.mark_rows.Given as goal
 
 -- the rows that are left make of the tree what all make of the first one
 abbrev pub invariant-loop-row : goal.invariant-loop-row
-invariant-loop-row l = mark_rows (map row_of (drop l.row-index l.rows)) l.side (view l.tree) ≡ mark_rows (map row_of l.rows) l.side (view l.initial.tree)
+invariant-loop-row l = marks_by (map row_of (drop l.row-index l.rows)) l.side (view l.tree) ≡ marks_by (map row_of l.rows) l.side (view l.initial.tree)

@@ -1,10 +1,12 @@
 use Rattle.dap_tree.specs.View.{view}
 use Rattle.std.proofs.Common.{rules, ◌∙◌, ap, refl, sym, subst}
+use Rattle.dap_message.specs.Asked.{asked_rows}
 use Rattle.dap_message.specs.Capabilities.{filled}
 use Rattle.dap_message.specs.Faults.{Fits}
 use Rattle.dap_message.specs.Marks.{mark, IsMarked}
 use Rattle.dap_message.specs.Message.{message_of}
 use Rattle.dap_message.specs.Profile.{profile}
+use Rattle.dap_message.proofs.AskedRows.{asked-filled}
 use Rattle.dap_message.proofs.Keeps.{sound-message, proper-message}
 use Rattle.dap_message.proofs.Envelopes.{enveloped-message}
 use Rattle.dap_message.proofs.Listed.{shows_all-typed}
@@ -32,3 +34,8 @@ returns-clause-ids c =
     let side = c.args.side in
     let d = view c.args.tree in
     subst (IsMarked profile side (filled side d)) (sym (c.new.ensures.doc ∙ c.mark.ensures ∙ ap (mark side) c.in_ok-fill.ensures)) (mark_is_marked side (filled side d))
+
+pub mark-requires : goal.mark-requires
+mark-requires c =
+    let d = view c.args.tree in
+    c.asked_rows-rows.ensures ∙ sym (asked-filled c.args.side d) ∙ ap asked_rows (sym c.in_ok-fill.ensures)
