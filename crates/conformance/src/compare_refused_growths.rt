@@ -3,10 +3,10 @@
 //!
 //! tests/fault_injection.py runs these under a shim that refuses. Without it each makes one turn with ample memory.
 use crate::comparing::{EXCHANGED, FRAMES};
-use crate::examples::LIMITS;
+use crate::examples::{LIMITS, index_tables};
 use crate::recordings::{INITIALIZE, INITIALIZE_RESPONSE, recording};
 use dap_message::{Message, Side, typed};
-use dap_rename::{NameFault, Names, Pair, PairFault, Renaming, SortedNames, Tables};
+use dap_rename::{NameFault, Names, Pair, PairFault, Renaming};
 use dap_tree::{Sort, read_tree};
 use dapnorm::{
     CompareRefused, MemorySink, MemorySource, Refused, Rule, Verdict, Which, compare, run_compare,
@@ -138,17 +138,6 @@ fn a_renaming_is_refused_in_turn(rt: HostRuntime) -> Result<(), Fail> {
     Ok(())
 }
 
-/// Empty names.
-fn no_names(alloc: Global) -> Names<SortedNames> {
-    let tables = Tables {
-        client_seq: SortedNames::new(alloc, 9),
-        adapter_seq: SortedNames::new(alloc, 9),
-        frame: SortedNames::new(alloc, 9),
-        reference: SortedNames::new(alloc, 9),
-    };
-    Names::new(alloc, tables)
-}
-
 /// A request of the client, with ample memory.
 fn request(alloc: Global) -> Result<Message, Fail> {
     let Ok(tree) = read_tree(alloc, SCOPES_REQUEST.as_bytes()) else {
@@ -163,7 +152,7 @@ fn request(alloc: Global) -> Result<Message, Fail> {
 #[test]
 fn the_renaming_between_names_is_refused_in_turn(rt: HostRuntime) -> Result<(), Fail> {
     let alloc = rt.alloc();
-    let mut names = no_names(alloc);
+    let mut names = Names::new(alloc, index_tables(alloc, 9));
     if names.rename(request(alloc)?).is_err() {
         return Err("not renamed".into());
     }

@@ -1,6 +1,13 @@
 //! What the tests begin with.
+ghost use Rattle.std.specs.Prelude.{◌<◌, ◌^◌};
+ghost use Rattle.dap_rename.specs.IndexNames.{index_numbers};
+ghost use Rattle.dap_rename.specs.Names.{AreEmpty};
+
 use dap_frame::FrameLimits;
+use dap_rename::{IndexNames, Tables};
 use dapnorm::Limits;
+use std::alloc::Global;
+use std::hash::{BuildHasherDefault, FoldHasher};
 
 /// The limits of the program.
 pub const LIMITS: Limits = Limits {
@@ -16,3 +23,20 @@ pub const LIMITS: Limits = Limits {
 pub const LOOSE: &[u8] = b"Content-Length: 15\r\n\r\n{ \"b\":1,\"a\":2 }";
 
 pub const CANONICAL: &[u8] = b"Content-Length: 13\r\n\r\n{\"a\":2,\"b\":1}";
+
+/// A table over an index set with its default hasher.
+pub type IndexTable = IndexNames<BuildHasherDefault<FoldHasher>>;
+
+/// Empty tables for so many ids of each sort.
+pub fn index_tables(alloc: Global, ids: usize) -> Tables<IndexTable>
+    requires { ids < 2 ^ 31 }
+    ensures { AreEmpty index_numbers result }
+{
+    let hasher = BuildHasherDefault::new();
+    Tables {
+        client_seq: IndexNames::new(alloc, ids, hasher),
+        adapter_seq: IndexNames::new(alloc, ids, hasher),
+        frame: IndexNames::new(alloc, ids, hasher),
+        reference: IndexNames::new(alloc, ids, hasher),
+    }
+}

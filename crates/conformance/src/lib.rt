@@ -28,6 +28,12 @@ mod failing_normalise;
 #[cfg(test)]
 mod fault_lines;
 #[cfg(test)]
+mod handed_refused_growths;
+#[cfg(test)]
+mod handed_tables;
+#[cfg(test)]
+mod name_tables;
+#[cfg(test)]
 mod normalise_refused_growths;
 #[cfg(test)]
 mod normalising;
@@ -57,3 +63,5 @@ mod streaming;
 mod traces;
 #[cfg(test)]
 mod typed_recordings;
+#[cfg(test)]
+mod worked;

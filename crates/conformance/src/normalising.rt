@@ -511,15 +511,21 @@ fn a_filled_content_may_pass_its_limit(rt: HostRuntime) -> Result<(), Fail> {
     Ok(())
 }
 
+/// A session with three frames.
+pub const THREE_FRAMES: [Line; 4] = [
+    INITIALIZE,
+    INITIALIZE_RESPONSE,
+    STACK_TRACE,
+    (
+        "<",
+        "{\"body\":{\"stackFrames\":[{\"column\":1,\"id\":1000,\"line\":3,\"name\":\"f\"},{\"column\":1,\"id\":1001,\"line\":9,\"name\":\"g\"},{\"column\":1,\"id\":1002,\"line\":9,\"name\":\"g\"}]},\"command\":\"stackTrace\",\"request_seq\":2,\"seq\":2,\"success\":true,\"type\":\"response\"}",
+    ),
+];
+
 #[test]
 fn too_many_ids(rt: HostRuntime) -> Result<(), Fail> {
     let alloc = rt.alloc();
-    let three_frames: Line = (
-        "<",
-        "{\"body\":{\"stackFrames\":[{\"column\":1,\"id\":1000,\"line\":3,\"name\":\"f\"},{\"column\":1,\"id\":1001,\"line\":9,\"name\":\"g\"},{\"column\":1,\"id\":1002,\"line\":9,\"name\":\"g\"}]},\"command\":\"stackTrace\",\"request_seq\":2,\"seq\":2,\"success\":true,\"type\":\"response\"}",
-    );
-    let lines = [INITIALIZE, INITIALIZE_RESPONSE, STACK_TRACE, three_frames];
-    let input = recording(alloc, lines.as_slice())?;
+    let input = recording(alloc, THREE_FRAMES.as_slice())?;
     let two = Limits { ids: 2, ..LIMITS };
     let written = [INITIALIZE, FILLED_RESPONSE, STACK_TRACE];
     let refused = refusal(alloc, input.as_slice(), two, written.as_slice())?;

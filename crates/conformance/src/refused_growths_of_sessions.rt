@@ -2,11 +2,11 @@
 //! memory, and never another. After want of memory each is as before, and takes the same again.
 //!
 //! tests/fault_injection.py runs these under a shim that refuses. Without it each makes one turn with ample memory.
-use crate::examples::LIMITS;
+use crate::examples::{LIMITS, index_tables};
 use crate::recordings::{INITIALIZE, INITIALIZE_RESPONSE, recording};
 use dap_message::{Message, MessageFault, Side, typed};
 use dap_recording::{RecordCause, RecordReader, write_record};
-use dap_rename::{NameFault, Names, SortedNames, Tables};
+use dap_rename::{NameFault, Names};
 use dap_session::{Session, SessionFault};
 use dap_tree::{Sort, read_tree};
 use fault_injection::{refuse_growth, was_refused};
@@ -128,15 +128,7 @@ fn a_session_is_refused_in_turn(rt: HostRuntime) -> Result<(), Fail> {
 fn names_are_refused_in_turn(rt: HostRuntime) -> Result<(), Fail> {
     let alloc = rt.alloc();
     for turn in 1..1000u16 {
-        let mut names = Names::new(
-            alloc,
-            Tables {
-                client_seq: SortedNames::new(alloc, 4),
-                adapter_seq: SortedNames::new(alloc, 4),
-                frame: SortedNames::new(alloc, 4),
-                reference: SortedNames::new(alloc, 4),
-            },
-        );
+        let mut names = Names::new(alloc, index_tables(alloc, 4));
         let first = message(alloc, Side::Adapter, SCOPES)?;
         let again = message(alloc, Side::Adapter, SCOPES)?;
         refuse_growth(alloc, turn);

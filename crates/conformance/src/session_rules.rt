@@ -104,32 +104,25 @@ fn breaks(
     Ok(())
 }
 
+/// A line that breaks each rule behind lines that break none.
+pub const BROKEN_ALONE: [(&[Line], Line, Rule); 11] = [
+    (&BEGUN, CLIENT_EVENT, Rule::EventFromClient),
+    (&[], STOPPED, Rule::NotInitialized),
+    (&[INITIALIZE], THREADS, Rule::StillInitializing),
+    (&BEGUN, INITIALIZE_AGAIN, Rule::InitializeTwice),
+    (&DISCONNECTED, THREADS_NEW, Rule::AfterDisconnect),
+    (&BEGUN, THREADS_USED, Rule::SeqUsed),
+    (&BEGUN, CONFIGURATION_DONE, Rule::ConfiguredEarly),
+    (&CONFIGURED, CONFIGURATION_DONE_NEW, Rule::ConfiguredTwice),
+    (&BEGUN, TO_NONE, Rule::NoRequest),
+    (&BEGUN, INITIALIZE_RESPONSE, Rule::AnsweredTwice),
+    (&ASKED, THREADS_ANSWERED_OTHERWISE, Rule::OtherCommand),
+];
+
 #[test]
 fn each_rule_broken_alone(rt: HostRuntime) -> Result<(), Fail> {
     let alloc = rt.alloc();
-    let initializing = [INITIALIZE];
-    let (begun, asked, disconnected, configured) = (BEGUN, ASKED, DISCONNECTED, CONFIGURED);
-    for (before, last, rule) in [
-        (begun.as_slice(), CLIENT_EVENT, Rule::EventFromClient),
-        ([].as_slice(), STOPPED, Rule::NotInitialized),
-        (initializing.as_slice(), THREADS, Rule::StillInitializing),
-        (begun.as_slice(), INITIALIZE_AGAIN, Rule::InitializeTwice),
-        (disconnected.as_slice(), THREADS_NEW, Rule::AfterDisconnect),
-        (begun.as_slice(), THREADS_USED, Rule::SeqUsed),
-        (begun.as_slice(), CONFIGURATION_DONE, Rule::ConfiguredEarly),
-        (
-            configured.as_slice(),
-            CONFIGURATION_DONE_NEW,
-            Rule::ConfiguredTwice,
-        ),
-        (begun.as_slice(), TO_NONE, Rule::NoRequest),
-        (begun.as_slice(), INITIALIZE_RESPONSE, Rule::AnsweredTwice),
-        (
-            asked.as_slice(),
-            THREADS_ANSWERED_OTHERWISE,
-            Rule::OtherCommand,
-        ),
-    ] {
+    for (before, last, rule) in BROKEN_ALONE {
         breaks(&rt, alloc, before, last, rule)?;
     }
     Ok(())

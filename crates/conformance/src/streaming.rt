@@ -1,75 +1,19 @@
 //! The engines that hold one record at a time: how the bytes of a recording come does not matter, and little is read behind
 //! what is answered.
-use crate::checking::{
-    FAILED, LEAST, OPEN, OPEN_ON_BOTH_SIDES, REFUSED_ENVELOPES, REFUSED_LINES, REFUSED_RECORDS,
-    nested, several_faults,
-};
-use crate::comparing::{
-    EXCHANGED, FRAMES, NEW_FRAME, STALE_FRAME, UNNUMBERED, faulty_behind_a_difference,
-};
+use crate::comparing::UNNUMBERED;
 use crate::devices::{TestSink, TestSource};
 use crate::examples::LIMITS;
-use crate::normalising::{NORMAL_FORMS, REFUSED_CONTENTS};
 use crate::recordings::{
     ANSWERED_TWICE, CONFIGURED, FILLED_RESPONSE, INITIALIZE, INITIALIZE_RESPONSE,
     NORMAL_CONFIGURED, OUTPUT, last_end, recording,
 };
+use crate::worked::{Outcome, is_one, worked};
 use dapnorm::{
-    Checked, CompareRefused, Limits, MemorySink, MemorySource, RecordCause, Refused, Rule, Source,
-    Verdict, Which, check, compare, normalise,
+    CompareRefused, Limits, MemorySink, MemorySource, RecordCause, Refused, Rule, Source, Verdict,
+    Which, check, compare, normalise,
 };
 use std::alloc::{AllocError, Global};
 use std::test::Fail;
-
-/// The recordings of the tests of `normalise`, `check` and `compare`.
-fn worked(alloc: Global) -> Result<Vec<Vec<u8>>, Fail> {
-    let mut all = Vec::new(alloc);
-    for (lines, normal_lines) in NORMAL_FORMS {
-        all.push(recording(alloc, lines)?)?;
-        all.push(recording(alloc, normal_lines)?)?;
-    }
-    for (lines, _, _) in REFUSED_CONTENTS {
-        all.push(recording(alloc, lines)?)?;
-    }
-    for (line, _) in REFUSED_LINES {
-        let lines = [INITIALIZE, INITIALIZE_RESPONSE, line];
-        all.push(recording(alloc, lines.as_slice())?)?;
-    }
-    for (content, _) in REFUSED_ENVELOPES {
-        all.push(recording(alloc, [(">", content)].as_slice())?)?;
-    }
-    for (bytes, _) in REFUSED_RECORDS {
-        all.push(Vec::from_slice(alloc, bytes)?)?;
-    }
-    for lines in [
-        OPEN.as_slice(),
-        OPEN_ON_BOTH_SIDES.as_slice(),
-        FAILED.as_slice(),
-        LEAST.as_slice(),
-        FRAMES.as_slice(),
-        EXCHANGED.as_slice(),
-        UNNUMBERED.as_slice(),
-        STALE_FRAME.as_slice(),
-        NEW_FRAME.as_slice(),
-        &CONFIGURED[..4],
-    ] {
-        all.push(recording(alloc, lines)?)?;
-    }
-    all.push(faulty_behind_a_difference(alloc)?)?;
-    all.push(several_faults(alloc)?)?;
-    all.push(nested(alloc, 125)?)?;
-    all.push(nested(alloc, 126)?)?;
-    Ok(all)
-}
-
-/// What the engines answer of one recording, and what is written of it.
-#[derive(Drop)]
-struct Outcome {
-    normalised: Result<(), Refused>,
-    written: Vec<u8>,
-    checked: Result<Checked, Refused>,
-    complete: Result<Checked, Refused>,
-}
 
 /// The answers where a read gives at most so many bytes.
 fn answers(alloc: Global, bytes: &[u8], piece: usize) -> Result<Outcome, Fail> {
@@ -113,16 +57,6 @@ fn verdict(alloc: Global, a: &[u8], b: &[u8], piece: usize) -> Result<Verdict, C
     let mut source_b = TestSource::new(b);
     source_b.piece = piece;
     compare(alloc, &mut source_a, &mut source_b, LIMITS)
-}
-
-/// Whether these are one answer of `compare`.
-fn is_one(x: &Result<Verdict, CompareRefused>, y: &Result<Verdict, CompareRefused>) -> bool {
-    match (x, y) {
-        (Ok(Verdict::Same(x)), Ok(Verdict::Same(y))) => x.pairs() == y.pairs(),
-        (Ok(Verdict::Differ(x)), Ok(Verdict::Differ(y))) => x == y,
-        (Err(x), Err(y)) => x == y,
-        _ => false,
-    }
 }
 
 #[test]

@@ -7,7 +7,6 @@ pub mod Occurring
 pub mod Sameness
 pub mod Normals
 pub mod Places
-pub mod Telling
 pub mod Grown
 pub mod Standing
 pub mod Carried

@@ -8,6 +8,5 @@ pub mod PlainNames
 pub mod Pairs
 pub mod Renaming
 pub mod Carrying
-pub mod Entries
-pub mod SortedNames
+pub mod IndexNames
 pub mod Laws

@@ -6,23 +6,23 @@
 #![tactic(auto)]
 
 mod carries;
+mod index_names;
+#[cfg(test)]
+mod index_names_tests;
 pub mod laws;
 mod name_table;
 mod names;
 mod pair;
 mod plain_names;
 mod renaming;
-mod sorted_names;
-#[cfg(test)]
-mod sorted_names_tests;
 mod tables;
 #[cfg(test)]
 mod tests;
 
+pub use index_names::IndexNames;
 pub use name_table::{NameFault, NameTable};
 pub use names::Names;
 pub use pair::{Pair, PairFault};
 pub use plain_names::PlainNames;
 pub use renaming::Renaming;
-pub use sorted_names::SortedNames;
 pub use tables::Tables;

@@ -76,7 +76,7 @@ fn gets_ids<T: NameTable>(
     matches!(renamed.ids(alloc), Ok(ids) if ids.as_slice() == expected)
 }
 
-fn is_named<T: NameTable>(table: &mut T, number: i64, expected: i64) -> bool {
+pub(crate) fn is_named<T: NameTable>(table: &mut T, number: i64, expected: i64) -> bool {
     matches!(table.name(number), Ok(name) if name == expected)
 }
 

@@ -1,12 +1,11 @@
 -- A record that is judged behind others: the judge goes on to stand for its message too, or it is refused.
-use Rattle.std.proofs.Common.{◌≡◌, ◌⊎◌, inl, inr, ℕ, ◌+◌, ◌<◌, ◌≤◌, List, [], ◌∷◌, ◌++◌, length, None, Err, sym, ◌∙◌, ap, subst, arith, append-nil, length-append}
+use Rattle.std.proofs.Common.{◌≡◌, ◌⊎◌, inl, inr, ℕ, ℤ, ◌+◌, ◌<◌, ◌≤◌, List, [], ◌∷◌, ◌++◌, length, None, Err, sym, ◌∙◌, ap, subst, arith, append-nil, length-append}
 use Rattle.std.specs.List.{AllByRecursion}
 use Rattle.dap_tree.specs.Json.{text_of}
 use Rattle.dap_tree.specs.declared.sort.Sort.{Sort}
 use Rattle.dap_message.specs.Message.{Sent}
 use Rattle.dap_rename.specs.Messages.{AreProper, HasFewIds, HasTooManyIds, IsNormal, IsRenamed, in_whole, numbers_of_class}
 use Rattle.dap_rename.specs.Names.{StandFor, limit_in}
-use Rattle.dap_rename.specs.SortedNames.{sorted_limit, sorted_numbers}
 use Rattle.dap_rename.proofs.Normals.{normal_of_next, whole_is_told}
 use Rattle.dap_rename.proofs.Lists.{each-append}
 use Rattle.dap_session.specs.Rules.{first_broken}
@@ -24,11 +23,11 @@ pub text_push : (messages : List Sent) (m : Sent) → text (messages ++ m ∷ []
 text_push messages m = text-append messages (m ∷ []) ∙ ap (λ t. text messages ++ t) (append-nil (record_of m))
 
 -- No message has been judged.
-pub none_stand : (judge : Judge) → Stands judge.session [] → StandFor sorted_numbers judge.names [] → ((s : Sort) → limit_in sorted_limit judge.names s ≡ judge.limits.ids) → judge.written ≡ 0
-    → StandsFor judge [] []
-none_stand judge session names limits written = record {
+pub none_stand : {T : Type 0} {numbers : T → List ℤ} {table_limit : T → ℕ} (judge : Judge T) → Stands judge.session [] → StandFor numbers judge.names [] → ((s : Sort) → limit_in table_limit judge.names s ≡ judge.limits.ids) → judge.written ≡ 0
+    → StandsFor numbers table_limit judge [] []
+none_stand judge session stand limits written = record {
   session = session;
-  names = names;
+  names = stand;
   name_limits = limits;
   proper = tt;
   is_normal = normal [] tt;
@@ -36,15 +35,15 @@ none_stand judge session names limits written = record {
   written = written;
 }
 
-module _ (old : Judge) (messages names : List Sent) (was : StandsFor old messages names) (held : Held) (m : Sent) (is : IsMessage held m) (keeps : first_broken messages m ≡ None) where
+module _ {T : Type 0} {numbers : T → List ℤ} {table_limit : T → ℕ} (old : Judge T) (messages names : List Sent) (was : StandsFor numbers table_limit old messages names) (held : Held) (m : Sent) (is : IsMessage held m) (keeps : first_broken messages m ≡ None) where
   -- more ids than the tables take
-  pub objects_to_ids : HasTooManyIds in_whole (limit_in sorted_limit old.names) (messages ++ m ∷ []) → Objects old.limits messages held too_many_ids
+  pub objects_to_ids : HasTooManyIds in_whole (limit_in table_limit old.names) (messages ++ m ∷ []) → Objects old.limits messages held too_many_ids
   objects_to_ids many =
       let limit = was.name_limits many.of.0 in
       let more = many.many in
       (m, is, keeps, record { of = many.of; many = omega (arith, limit, more) })
 
-  module _ (few : HasFewIds in_whole (limit_in sorted_limit old.names) (messages ++ m ∷ [])) (named : Sent) (renamed : IsRenamed in_whole messages m named) where
+  module _ (few : HasFewIds in_whole (limit_in table_limit old.names) (messages ++ m ∷ [])) (named : Sent) (renamed : IsRenamed in_whole messages m named) where
     few_ids : HasFewIds in_whole (id_limit old.limits) (messages ++ m ∷ [])
     few_ids c = subst (λ limit. length (numbers_of_class in_whole c (messages ++ m ∷ [])) ≤ limit) (was.name_limits c.0) (few c)
 
@@ -85,10 +84,10 @@ module _ (old : Judge) (messages names : List Sent) (was : StandsFor old message
     refused_to_write Memory n before after told = tt
 
     -- the record is taken
-    pub taken : (new : Judge) (before after : List ℕ) → length (text_of named.doc) ≤ old.limits.frame.content → after ≡ before ++ record_of named
+    pub taken : (new : Judge T) (before after : List ℕ) → length (text_of named.doc) ≤ old.limits.frame.content → after ≡ before ++ record_of named
         → new.written ≡ old.written + length (record_of named) → new.written ≤ old.limits.input → new.limits ≡ old.limits
-        → Stands new.session (messages ++ m ∷ []) → StandFor sorted_numbers new.names (messages ++ m ∷ [])
-        → ((s : Sort) → limit_in sorted_limit new.names s ≡ limit_in sorted_limit old.names s) → IsTaken messages names held new before after
+        → Stands new.session (messages ++ m ∷ []) → StandFor numbers new.names (messages ++ m ∷ [])
+        → ((s : Sort) → limit_in table_limit new.names s ≡ limit_in table_limit old.names s) → IsTaken numbers table_limit messages names held new before after
     taken new before after content appended written short limits session stand name_limits =
         let fits : Fits old.limits (names ++ named ∷ []) = record {
           each = each-append (λ (n : Sent). length (text_of n.doc) ≤ old.limits.frame.content) names (named ∷ []) was.fits.each (content, tt);

@@ -1,5 +1,5 @@
 -- What the next record of an input may answer.
-use Rattle.std.proofs.Common.{◌≡◌, ◌≢◌, ◌⊎◌, inl, inr, ℕ, ◌+◌, ◌<◌, ◌≤◌, true, false, List, [], ◌∷◌, ◌++◌, length, take, drop, Option, Some, None, Result, Ok, Err, refl, sym, ◌∙◌, ap, subst, arith, append_assoc, append-nil, length-append, take_all, take_at}
+use Rattle.std.proofs.Common.{◌≡◌, ◌≢◌, ◌⊎◌, inl, inr, ℕ, ℤ, ◌+◌, ◌<◌, ◌≤◌, true, false, List, [], ◌∷◌, ◌++◌, length, take, drop, Option, Some, None, Result, Ok, Err, refl, sym, ◌∙◌, ap, subst, arith, append_assoc, append-nil, length-append, take_all, take_at}
 use Rattle.std.proofs.lemmas.List.{drop_at, length_push}
 use Rattle.dap_device.specs.Pieces.{HasComeSoFar, Window}
 use Rattle.dap_device.specs.declared.reading.Stop.{Stop}
@@ -121,8 +121,8 @@ read_later limits bytes number later le read = record { before = read.before; la
     on (inr (earlier, early, ends)) = inr (earlier, omega (arith, early, le), ends)
 
 -- Nothing of the input has been read.
-pub none_read : (limits : Limits) (new : NormalRecords) → StandsBetween limits.frame new.records → new.records.pieces ≡ record { unread = []; taken = 0; limit = limits.input } → new.records.number ≡ 1
-    → StandsFor new.judge [] [] → judge_limits new.judge ≡ limits → StandsBefore limits [] new [] []
+pub none_read : {T : Type 0} {numbers : T → List ℤ} {table_limit : T → ℕ} (limits : Limits) (new : NormalRecords T) → StandsBetween limits.frame new.records → new.records.pieces ≡ record { unread = []; taken = 0; limit = limits.input } → new.records.number ≡ 1
+    → StandsFor numbers table_limit new.judge [] [] → judge_limits new.judge ≡ limits → StandsBefore numbers table_limit limits [] new [] []
 none_read limits new between pieces number stands judge_limits_are = record {
   front = [];
   accepted = (accepted_facts limits).accepted_of_run [] [] (run_none (accepting limits) [] 0);
@@ -139,8 +139,8 @@ none_read limits new between pieces number stands judge_limits_are = record {
 
 -- ---- the next record
 
-module _ {R : Type 0} (left : R → Option (List ℕ)) (given failures : R → ℕ) (limits : Limits) (bytes : List ℕ) (old : NormalRecords) (messages normal : List Sent)
-    (was : StandsBefore limits bytes old messages normal) (new : Records) (before after : R) where
+module _ {T R : Type 0} {numbers : T → List ℤ} {table_limit : T → ℕ} (left : R → Option (List ℕ)) (given failures : R → ℕ) (limits : Limits) (bytes : List ℕ) (old : NormalRecords T) (messages normal : List Sent)
+    (was : StandsBefore numbers table_limit limits bytes old messages normal) (new : Records) (before after : R) where
   module _ (answer : Result (Option WholeRecord) Refused) (read : ReadsNext left given failures limits.frame old.records new before after answer) where
     abbrev pub all : List ℕ
     all = bytes ++ read.more
@@ -263,16 +263,16 @@ module _ {R : Type 0} (left : R → Option (List ℕ)) (given failures : R → �
         }
 
     abbrev pub Stopped : Refused → Type 0
-    Stopped because = HasStoppedAt left given failures limits bytes messages normal old record { records = new; judge = old.judge } before after because
+    Stopped because = HasStoppedAt numbers table_limit left given failures limits bytes messages normal old record { records = new; judge = old.judge } before after because
 
-    stopped_for : (because : Refused) → SaysOf left given failures limits bytes messages normal old record { records = new; judge = old.judge } before after all read.stop because
+    stopped_for : (because : Refused) → SaysOf numbers table_limit left given failures limits bytes messages normal old record { records = new; judge = old.judge } before after all read.stop because
         → ((n : ℕ) → because ≡ Record n cause.Cut → read.stop ≡ Some End) → Stopped because
     stopped_for because says ended = record { more = read.more; stop = read.stop; came = read.came; within = within; read_to = read_to; says = says; cut = ended }
 
   -- ---- no record has come
 
   pub refused_read : (because : Refused) → ReadsNext left given failures limits.frame old.records new before after (Err because)
-      → HasStoppedAt left given failures limits bytes messages normal old record { records = new; judge = old.judge } before after because
+      → HasStoppedAt numbers table_limit left given failures limits bytes messages normal old record { records = new; judge = old.judge } before after because
   refused_read because read = told because read.finds
     where
       numbered : {n : ℕ} (b : ℕ → Refused) → n ≡ old.records.number → Refuses (Err because) read (b old.records.number) → Refuses (Err because) read (b n)
@@ -300,7 +300,7 @@ module _ {R : Type 0} (left : R → Option (List ℕ)) (given failures : R → �
       told Memory is = stopped_for (Err because) read Memory tt (λ m same. absurd (let e = same in cc))
 
   pub none_left : (text : List ℕ) → ReadsNext left given failures limits.frame old.records new before after (Ok None)
-      → HasEnded left given failures limits bytes messages normal old record { records = new; judge = old.judge } before after text text
+      → HasEnded numbers table_limit left given failures limits bytes messages normal old record { records = new; judge = old.judge } before after text text
   none_left text read =
       let found = read.finds in
       let short = short_end (Ok None) read found.0 in
@@ -316,7 +316,7 @@ module _ {R : Type 0} (left : R → Option (List ℕ)) (given failures : R → �
 
   -- ---- a record has come
 
-  module _ (whole : WholeRecord) (read : ReadsNext left given failures limits.frame old.records new before after (Ok (Some whole))) (judge : Judge) (text longer : List ℕ) where
+  module _ (whole : WholeRecord) (read : ReadsNext left given failures limits.frame old.records new before after (Ok (Some whole))) (judge : Judge T) (text longer : List ℕ) where
     found : HasWhole limits.frame old.records new (rest (Ok (Some whole)) read) read.more whole
     found = read.finds.1
 
@@ -329,7 +329,7 @@ module _ {R : Type 0} (left : R → Option (List ℕ)) (given failures : R → �
         (taken (Ok (Some whole)) read short) whole found.front new.pieces.unread found.split found.is_record why objects
 
     abbrev SaysHere : Refused → Type 0
-    SaysHere because = SaysOf left given failures limits bytes messages normal old record { records = new; judge = judge } before after (all (Ok (Some whole)) read) read.stop because
+    SaysHere because = SaysOf numbers table_limit left given failures limits bytes messages normal old record { records = new; judge = judge } before after (all (Ok (Some whole)) read) read.stop because
 
     refused_for : (because : Refused) → RefusesRecord limits messages (held_of whole) old.records.number because → SaysHere because
     refused_for (InputTooLong m) h = absurd h
@@ -355,9 +355,9 @@ module _ {R : Type 0} (left : R → Option (List ℕ)) (given failures : R → �
     refused_for Memory h = tt
 
     abbrev Judged : Result (Unit {0}) Refused → Type 0
-    Judged answer = (ms ns : List Sent) → StandsFor old.judge ms ns → JudgesRecord ms ns (held_of whole) old.records.number old.judge judge text longer answer
+    Judged answer = (ms ns : List Sent) → StandsFor numbers table_limit old.judge ms ns → JudgesRecord numbers table_limit ms ns (held_of whole) old.records.number old.judge judge text longer answer
 
-    pub refused_judge : (because : Refused) → Judged (Err because) → HasStoppedAt left given failures limits bytes messages normal old record { records = new; judge = judge } before after because
+    pub refused_judge : (because : Refused) → Judged (Err because) → HasStoppedAt numbers table_limit left given failures limits bytes messages normal old record { records = new; judge = judge } before after because
     refused_judge because judged = record {
       more = read.more;
       stop = read.stop;
@@ -372,7 +372,7 @@ module _ {R : Type 0} (left : R → Option (List ℕ)) (given failures : R → �
         refuses = subst (λ l. RefusesRecord l messages (held_of whole) old.records.number because) was.judge_limits_are (judged messages normal was.stands)
 
     -- the record is accepted
-    pub gone_on : judge_limits judge ≡ judge_limits old.judge → Judged (Ok tt) → HasGone left given failures limits bytes messages normal old record { records = new; judge = judge } before after text longer
+    pub gone_on : judge_limits judge ≡ judge_limits old.judge → Judged (Ok tt) → HasGone numbers table_limit left given failures limits bytes messages normal old record { records = new; judge = judge } before after text longer
     gone_on same_judge judged =
         let added = judged messages normal was.stands in
         let limits_are = same_judge ∙ was.judge_limits_are in

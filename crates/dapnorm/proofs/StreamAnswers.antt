@@ -1,5 +1,5 @@
 -- What the engines answer that judge a recording record by record.
-use Rattle.std.proofs.Common.{◌≡◌, ℕ, ◌+◌, ◌<◌, Bool, true, false, List, ◌++◌, Option, Result, Ok, Err, sym, ◌∙◌, subst, arith}
+use Rattle.std.proofs.Common.{◌≡◌, ℕ, ℤ, ◌+◌, ◌<◌, Bool, true, false, List, ◌++◌, Option, Result, Ok, Err, sym, ◌∙◌, subst, arith}
 use Rattle.std.proofs.lemmas.Bool.{true≢false}
 use Rattle.dap_message.specs.Message.{Sent}
 use Rattle.dap_session.specs.Rules.{open_requests}
@@ -16,24 +16,24 @@ use Rattle.dapnorm.specs.JudgingSteps.{StandsFor}
 use Rattle.dapnorm.specs.NormalSteps.{HasEnded, HasGone, HasNext, HasStoppedAt}
 use Rattle.dapnorm.proofs.StreamLoop.{Going, all_came, refuses_next}
 
-module _ {R : Type 0} (left : R → Option (List ℕ)) (given failures : R → ℕ) (limits : Limits) (start reader : R) (records : NormalRecords)
-    (was : Going left given failures limits start reader records) (new : NormalRecords) (after : R) where
+module _ {T R : Type 0} {numbers : T → List ℤ} {table_limit : T → ℕ} (left : R → Option (List ℕ)) (given failures : R → ℕ) (limits : Limits) (start reader : R) (records : NormalRecords T)
+    (was : Going numbers table_limit left given failures limits start reader records) (new : NormalRecords T) (after : R) where
   abbrev pub Next : List ℕ → List ℕ → Result Bool Refused → Type 0
-  Next before longer answer = HasNext left given failures limits was.bytes was.messages was.normal records new reader after before longer answer
+  Next before longer answer = HasNext numbers table_limit left given failures limits was.bytes was.messages was.normal records new reader after before longer answer
 
   -- whether a record has come
-  pub gone : (some : Bool) (before longer : List ℕ) → Next before longer (Ok some) → some ≡ true → HasGone left given failures limits was.bytes was.messages was.normal records new reader after before longer
+  pub gone : (some : Bool) (before longer : List ℕ) → Next before longer (Ok some) → some ≡ true → HasGone numbers table_limit left given failures limits was.bytes was.messages was.normal records new reader after before longer
   gone true before longer next is = next
   gone false before longer next is = absurd (true≢false (sym is))
 
-  pub ended : (some : Bool) (before longer : List ℕ) → Next before longer (Ok some) → some ≡ false → HasEnded left given failures limits was.bytes was.messages was.normal records new reader after before longer
+  pub ended : (some : Bool) (before longer : List ℕ) → Next before longer (Ok some) → some ≡ false → HasEnded numbers table_limit left given failures limits was.bytes was.messages was.normal records new reader after before longer
   ended true before longer next is = absurd (true≢false is)
   ended false before longer next is = next
 
   -- ---- `check`
 
   module _ (complete : Bool) where
-    pub check_refuses : (because : Refused) → HasStoppedAt left given failures limits was.bytes was.messages was.normal records new reader after because → Checks left given failures limits complete start after (Err because)
+    pub check_refuses : (because : Refused) → HasStoppedAt numbers table_limit left given failures limits was.bytes was.messages was.normal records new reader after because → Checks left given failures limits complete start after (Err because)
     check_refuses (InputTooLong n) stopped = (text was.normal, refuses_next left given failures limits start reader records was after new (InputTooLong n) stopped stopped.says)
     check_refuses (Record n why) stopped = (text was.normal, refuses_next left given failures limits start reader records was after new (Record n why) stopped stopped.says)
     check_refuses (Json n) stopped = (text was.normal, refuses_next left given failures limits start reader records was after new (Json n) stopped stopped.says)
@@ -50,9 +50,9 @@ module _ {R : Type 0} (left : R → Option (List ℕ)) (given failures : R → �
     check_refuses WriteFault stopped = absurd stopped.says.tells
     check_refuses Memory stopped = tt
 
-    module _ (before longer : List ℕ) (end : HasEnded left given failures limits was.bytes was.messages was.normal records new reader after before longer) where
-      judge_stands : StandsFor new.judge was.messages was.normal
-      judge_stands = subst (λ judge. StandsFor judge was.messages was.normal) (sym end.judge_is) was.stands.stands
+    module _ (before longer : List ℕ) (end : HasEnded numbers table_limit left given failures limits was.bytes was.messages was.normal records new reader after before longer) where
+      judge_stands : StandsFor numbers table_limit new.judge was.messages was.normal
+      judge_stands = subst (λ judge. StandsFor numbers table_limit judge was.messages was.normal) (sym end.judge_is) was.stands.stands
 
       pub some_records : 0 < new.records.number
       some_records = let is = was.stands.number_is in let same = end.number_is in omega (arith, is, same)
@@ -62,8 +62,8 @@ module _ {R : Type 0} (left : R → Option (List ℕ)) (given failures : R → �
 
       abbrev pub Open : ℕ → ℕ → Type 0
       Open client adapter =
-          ((messages normal : List Sent) → StandsFor new.judge messages normal → client ≡ open_requests Client messages)
-          × ((messages normal : List Sent) → StandsFor new.judge messages normal → adapter ≡ open_requests Adapter messages)
+          ((messages normal : List Sent) → StandsFor numbers table_limit new.judge messages normal → client ≡ open_requests Client messages)
+          × ((messages normal : List Sent) → StandsFor numbers table_limit new.judge messages normal → adapter ≡ open_requests Adapter messages)
 
       module _ (client adapter : ℕ) (are_open : Open client adapter) where
         pub check_accepts : (checked : Checked) → checked.records + 1 ≡ new.records.number → checked.client_open ≡ client → checked.adapter_open ≡ adapter

@@ -1,5 +1,5 @@
 -- What `compare` answers while it reads two inputs.
-use Rattle.std.proofs.Common.{◌≡◌, ◌⊎◌, inl, inr, ℕ, ◌+◌, Bool, true, false, List, [], ◌∷◌, ◌++◌, length, Option, Some, None, Ok, Err, refl, sym, ◌∙◌, ap, subst, arith, append_assoc, append-nil}
+use Rattle.std.proofs.Common.{◌≡◌, ◌⊎◌, inl, inr, ℕ, ℤ, ◌+◌, Bool, true, false, List, [], ◌∷◌, ◌++◌, length, Option, Some, None, Ok, Err, refl, sym, ◌∙◌, ap, subst, arith, append_assoc, append-nil}
 use Rattle.std.proofs.lemmas.List.{length_push}
 use Rattle.dap_device.specs.Pieces.{HasComeSoFar}
 use Rattle.dap_device.specs.declared.reading.Stop.{Stop}
@@ -11,7 +11,6 @@ use Rattle.dap_rename.specs.Messages.{AreSame, IsNormal, class_after, in_whole, 
 use Rattle.dap_rename.specs.Names.{HaveEqualCounts, StandFor, numbers_in}
 use Rattle.dap_rename.specs.Pairs.{entries}
 use Rattle.dap_rename.specs.Renaming.{pairs_of}
-use Rattle.dap_rename.specs.SortedNames.{sorted_numbers}
 use Rattle.dap_rename.specs.declared.renaming.Renaming.{Renaming}
 use Rattle.dap_rename.proofs.Normals.{same_counts}
 use Rattle.dap_rename.proofs.Sameness.{normal_is_complete}
@@ -35,8 +34,8 @@ use Rattle.dapnorm.proofs.StreamLoop.{Going, before_in, came_on, next_in}
 use Rattle.dapnorm.proofs.Verdicts.{same_lengths}
 
 -- What is answered of the next record is that memory was refused, or a refusal there.
-pub as_told : {R : Type 0} (left : R → Option (List ℕ)) (given failures : R → ℕ) (limits : Limits) (bytes : List ℕ) (messages normal : List Sent) (old new : NormalRecords) (before after : R) (refused : Refused)
-    → (stopped : HasStoppedAt left given failures limits bytes messages normal old new before after refused)
+pub as_told : {T R : Type 0} {numbers : T → List ℤ} {table_limit : T → ℕ} (left : R → Option (List ℕ)) (given failures : R → ℕ) (limits : Limits) (bytes : List ℕ) (messages normal : List Sent) (old new : NormalRecords T) (before after : R) (refused : Refused)
+    → (stopped : HasStoppedAt numbers table_limit left given failures limits bytes messages normal old new before after refused)
     → (refused ≡ why.Memory) ⊎ ((refused ≡ why.Memory → ⊥) × RefusesAt limits (so_far (bytes ++ stopped.more) stopped.stop) old.records.number refused)
 as_told left given failures limits bytes messages normal old new before after (why.InputTooLong n) stopped = inr ((λ same. absurd (let e = same in cc)), stopped.says)
 as_told left given failures limits bytes messages normal old new before after (why.Record n what) stopped = inr ((λ same. absurd (let e = same in cc)), stopped.says)
@@ -54,9 +53,9 @@ as_told left given failures limits bytes messages normal old new before after wh
 as_told left given failures limits bytes messages normal old new before after why.WriteFault stopped = inr ((λ same. absurd (let e = same in cc)), stopped.says)
 as_told left given failures limits bytes messages normal old new before after why.Memory stopped = inl refl
 
-module _ {R S : Type 0} (left_a : R → Option (List ℕ)) (given_a failures_a : R → ℕ) (left_b : S → Option (List ℕ)) (given_b failures_b : S → ℕ) (limits : Limits)
-    (start_a reader_a : R) (records_a : NormalRecords) (a : Going left_a given_a failures_a limits start_a reader_a records_a)
-    (start_b reader_b : S) (records_b : NormalRecords) (b : Going left_b given_b failures_b limits start_b reader_b records_b) (alike : a.normal ≡ b.normal) where
+module _ {T R S : Type 0} {numbers : T → List ℤ} {table_limit : T → ℕ} (left_a : R → Option (List ℕ)) (given_a failures_a : R → ℕ) (left_b : S → Option (List ℕ)) (given_b failures_b : S → ℕ) (limits : Limits)
+    (start_a reader_a : R) (records_a : NormalRecords T) (a : Going numbers table_limit left_a given_a failures_a limits start_a reader_a records_a)
+    (start_b reader_b : S) (records_b : NormalRecords T) (b : Going numbers table_limit left_b given_b failures_b limits start_b reader_b records_b) (alike : a.normal ≡ b.normal) where
   abbrev pub number : ℕ
   number = records_a.records.number
 
@@ -96,7 +95,7 @@ module _ {R S : Type 0} (left_a : R → Option (List ℕ)) (given_a failures_a :
 
   -- ---- a refusal
 
-  pub refused_by_a : (new : NormalRecords) (after : R) (refused : Refused) (stopped : HasStoppedAt left_a given_a failures_a limits a.bytes a.messages a.normal records_a new reader_a after refused)
+  pub refused_by_a : (new : NormalRecords T) (after : R) (refused : Refused) (stopped : HasStoppedAt numbers table_limit left_a given_a failures_a limits a.bytes a.messages a.normal records_a new reader_a after refused)
       → RefusesAt limits (so_far (a.bytes ++ stopped.more) stopped.stop) number refused
       → HasCompared left_a given_a failures_a left_b given_b failures_b limits start_a after start_b reader_b (Err (because.Input A refused))
   refused_by_a new after refused stopped said = record {
@@ -125,7 +124,7 @@ module _ {R S : Type 0} (left_a : R → Option (List ℕ)) (given_a failures_a :
     pub passes : (x : Input) → IsOf (a.bytes ++ more) stop x → IsNotRefusedAt (accepting limits) x number
 
   pub refused_by_b : (passed_to : R) (more : List ℕ) (stop : Option Stop) → Passed passed_to more stop
-      → (new : NormalRecords) (after : S) (refused : Refused) (stopped : HasStoppedAt left_b given_b failures_b limits b.bytes b.messages b.normal records_b new reader_b after refused)
+      → (new : NormalRecords T) (after : S) (refused : Refused) (stopped : HasStoppedAt numbers table_limit left_b given_b failures_b limits b.bytes b.messages b.normal records_b new reader_b after refused)
       → RefusesAt limits (so_far (b.bytes ++ stopped.more) stopped.stop) records_b.records.number refused
       → HasCompared left_a given_a failures_a left_b given_b failures_b limits start_a passed_to start_b after (Err (because.Input B refused))
   refused_by_b passed_to more stop passed new after refused stopped said = record {
@@ -149,8 +148,8 @@ module _ {R S : Type 0} (left_a : R → Option (List ℕ)) (given_a failures_a :
 
   -- ---- the record of the one
 
-  module _ (new_a : NormalRecords) (after_a : R) (text_a longer_a : List ℕ) where
-    pub gone_passed : (gone : HasGone left_a given_a failures_a limits a.bytes a.messages a.normal records_a new_a reader_a after_a text_a longer_a) → Passed after_a gone.more None
+  module _ (new_a : NormalRecords T) (after_a : R) (text_a longer_a : List ℕ) where
+    pub gone_passed : (gone : HasGone numbers table_limit left_a given_a failures_a limits a.bytes a.messages a.normal records_a new_a reader_a after_a text_a longer_a) → Passed after_a gone.more None
     gone_passed gone = record {
       came = gone.came;
       read_to = gone.read_to;
@@ -158,7 +157,7 @@ module _ {R S : Type 0} (left_a : R → Option (List ℕ)) (given_a failures_a :
           goes_on limits number x (next_in left_a given_a failures_a limits start_a reader_a records_a a new_a after_a text_a longer_a gone x is_x.0 is_x.1);
     }
 
-    pub ended_passed : (ended : HasEnded left_a given_a failures_a limits a.bytes a.messages a.normal records_a new_a reader_a after_a text_a longer_a) → Passed after_a ended.more (Some End)
+    pub ended_passed : (ended : HasEnded numbers table_limit left_a given_a failures_a limits a.bytes a.messages a.normal records_a new_a reader_a after_a text_a longer_a) → Passed after_a ended.more (Some End)
     ended_passed ended = record {
       came = ended.came;
       read_to = ended.read_to;
@@ -166,25 +165,25 @@ module _ {R S : Type 0} (left_a : R → Option (List ℕ)) (given_a failures_a :
     }
 
     -- whether a record has come, or none is left
-    pub passed_by : (some : Bool) → HasNext left_a given_a failures_a limits a.bytes a.messages a.normal records_a new_a reader_a after_a text_a longer_a (Ok some)
+    pub passed_by : (some : Bool) → HasNext numbers table_limit left_a given_a failures_a limits a.bytes a.messages a.normal records_a new_a reader_a after_a text_a longer_a (Ok some)
         → (more : List ℕ) × (stop : Option Stop) × Passed after_a more stop
     passed_by true gone = (gone.more, None, gone_passed gone)
     passed_by false ended = (ended.more, Some End, ended_passed ended)
 
   -- ---- the records of both
 
-  module _ (new_a : NormalRecords) (after_a : R) (text_a longer_a : List ℕ) (new_b : NormalRecords) (after_b : S) (text_b longer_b : List ℕ) where
+  module _ (new_a : NormalRecords T) (after_a : R) (text_a longer_a : List ℕ) (new_b : NormalRecords T) (after_b : S) (text_b longer_b : List ℕ) where
     abbrev pub Gone_a : Type 0
-    Gone_a = HasGone left_a given_a failures_a limits a.bytes a.messages a.normal records_a new_a reader_a after_a text_a longer_a
+    Gone_a = HasGone numbers table_limit left_a given_a failures_a limits a.bytes a.messages a.normal records_a new_a reader_a after_a text_a longer_a
 
     abbrev pub Ended_a : Type 0
-    Ended_a = HasEnded left_a given_a failures_a limits a.bytes a.messages a.normal records_a new_a reader_a after_a text_a longer_a
+    Ended_a = HasEnded numbers table_limit left_a given_a failures_a limits a.bytes a.messages a.normal records_a new_a reader_a after_a text_a longer_a
 
     abbrev pub Gone_b : Type 0
-    Gone_b = HasGone left_b given_b failures_b limits b.bytes b.messages b.normal records_b new_b reader_b after_b text_b longer_b
+    Gone_b = HasGone numbers table_limit left_b given_b failures_b limits b.bytes b.messages b.normal records_b new_b reader_b after_b text_b longer_b
 
     abbrev pub Ended_b : Type 0
-    Ended_b = HasEnded left_b given_b failures_b limits b.bytes b.messages b.normal records_b new_b reader_b after_b text_b longer_b
+    Ended_b = HasEnded numbers table_limit left_b given_b failures_b limits b.bytes b.messages b.normal records_b new_b reader_b after_b text_b longer_b
 
     next_y : (gone : Gone_b) (y : Input) → IsOf (b.bytes ++ gone.more) None y → AcceptedBefore (accepting limits) y (number + 1)
     next_y gone y is_y = subst (λ n. AcceptedBefore (accepting limits) y (n + 1)) one_number (next_in left_b given_b failures_b limits start_b reader_b records_b b new_b after_b text_b longer_b gone y is_y.0 is_y.1)
@@ -261,20 +260,20 @@ module _ {R S : Type 0} (left_a : R → Option (List ℕ)) (given_a failures_a :
           ∙ ap (λ n. n ++ went.named ∷ []) alike
 
     module _ (end_a : Ended_a) (end_b : Ended_b) where
-      pub names_a : StandFor sorted_numbers new_a.judge.names a.messages
-      names_a = subst (λ judge. StandFor sorted_numbers judge.names a.messages) (sym end_a.judge_is) a.stands.stands.names
+      pub names_a : StandFor numbers new_a.judge.names a.messages
+      names_a = subst (λ judge. StandFor numbers judge.names a.messages) (sym end_a.judge_is) a.stands.stands.names
 
-      pub names_b : StandFor sorted_numbers new_b.judge.names b.messages
-      names_b = subst (λ judge. StandFor sorted_numbers judge.names b.messages) (sym end_b.judge_is) b.stands.stands.names
+      pub names_b : StandFor numbers new_b.judge.names b.messages
+      names_b = subst (λ judge. StandFor numbers judge.names b.messages) (sym end_b.judge_is) b.stands.stands.names
 
-      one_count : (s : Sort) → length (numbers_in sorted_numbers new_a.judge.names s) ≡ length (numbers_in sorted_numbers new_b.judge.names s)
+      one_count : (s : Sort) → length (numbers_in numbers new_a.judge.names s) ≡ length (numbers_in numbers new_b.judge.names s)
       one_count s =
           ap length (names_a s)
           ∙ ap (λ k. length (numbers_of_class in_whole (class_after k s) a.messages)) (no_stops a.messages ∙ sym (no_stops b.messages))
           ∙ same_counts in_whole a.messages b.messages are (class_after (stops_after in_whole 0 b.messages) s)
           ∙ sym (ap length (names_b s))
 
-      pub equal_counts : HaveEqualCounts sorted_numbers new_a.judge.names new_b.judge.names
+      pub equal_counts : HaveEqualCounts numbers new_a.judge.names new_b.judge.names
       equal_counts = (one_count ClientSeq, one_count AdapterSeq, one_count Frame, one_count Reference)
 
       pub both_ended : (renaming : Renaming) → entries (pairs_of renaming) ≡ equal_places a.messages b.messages

@@ -1,5 +1,5 @@
 -- What `normalise` answers, and what it has then written.
-use Rattle.std.proofs.Common.{◌≡◌, inl, inr, ℕ, ◌+◌, List, [], ◌∷◌, ◌++◌, Option, Some, None, Result, Ok, Err, refl, sym, ◌∙◌, ap, subst, arith, append-nil}
+use Rattle.std.proofs.Common.{◌≡◌, inl, inr, ℕ, ℤ, ◌+◌, List, [], ◌∷◌, ◌++◌, Option, Some, None, Result, Ok, Err, refl, sym, ◌∙◌, ap, subst, arith, append-nil}
 use Rattle.std.proofs.lemmas.Bool.{true≢false}
 use Rattle.std.proofs.lemmas.List.{length_push}
 use Rattle.std.specs.Prelude.{is_err, true, false}
@@ -58,11 +58,11 @@ module _ {R W : Type 0} (left : R → Option (List ℕ)) (given read_failures : 
         no_failure = refl;
       }
 
-  module _ (reader : R) (records : NormalRecords) (was : Going left given read_failures limits start reader records) (writer : W)
-      (written : Appends (out before) (out writer) (text was.normal)) (no_failure : write_failures writer ≡ write_failures before) (new : NormalRecords) (after : R) where
+  module _ {T : Type 0} {numbers : T → List ℤ} {table_limit : T → ℕ} (reader : R) (records : NormalRecords T) (was : Going numbers table_limit left given read_failures limits start reader records) (writer : W)
+      (written : Appends (out before) (out writer) (text was.normal)) (no_failure : write_failures writer ≡ write_failures before) (new : NormalRecords T) (after : R) where
     -- ---- one more record
 
-    module _ (longer : List ℕ) (gone : HasGone left given read_failures limits was.bytes was.messages was.normal records new reader after [] longer) where
+    module _ (longer : List ℕ) (gone : HasGone numbers table_limit left given read_failures limits was.bytes was.messages was.normal records new reader after [] longer) where
       next_text : text (was.normal ++ gone.named ∷ []) ≡ text was.normal ++ longer
       next_text = text_push was.normal gone.named ∙ ap (λ t. text was.normal ++ t) (sym gone.appended)
 
@@ -124,7 +124,7 @@ module _ {R W : Type 0} (left : R → Option (List ℕ)) (given read_failures : 
     abbrev pub Answer : W → Result (Unit {0}) Refused → Type 0
     Answer end answer = Streams left given read_failures out write_failures limits start after before end answer
 
-    pub has_streamed : AreSound limits → (text_before longer : List ℕ) → HasEnded left given read_failures limits was.bytes was.messages was.normal records new reader after text_before longer
+    pub has_streamed : AreSound limits → (text_before longer : List ℕ) → HasEnded numbers table_limit left given read_failures limits was.bytes was.messages was.normal records new reader after text_before longer
         → (end : W) (answer : Result (Unit {0}) Refused) → Flushes out write_failures writer end (Ok tt) answer → Answer end answer
     has_streamed sound text_before longer ended end answer (inl done) = subst (Answer end) (sym done.0) (record {
       text = text was.normal;
@@ -141,7 +141,7 @@ module _ {R W : Type 0} (left : R → Option (List ℕ)) (given read_failures : 
         subst (Answer end) (sym failed.0)
         (failed_to_flush (Some End) (come_to left given read_failures limits start reader records was after ended.more (Some End) ended.came ended.read_to) end failed.1.kept failed.1.failure)
 
-    module _ (because : Refused) (stopped : HasStoppedAt left given read_failures limits was.bytes was.messages was.normal records new reader after because) where
+    module _ (because : Refused) (stopped : HasStoppedAt numbers table_limit left given read_failures limits was.bytes was.messages was.normal records new reader after because) where
       pub given_up_at : (end : W) → Keeps (out writer) (out end) → write_failures end ≡ write_failures writer → HasGivenUp left given read_failures out write_failures limits start after before end
       given_up_at end same failures = record {
         number = records.records.number;
@@ -162,7 +162,7 @@ module _ {R W : Type 0} (left : R → Option (List ℕ)) (given read_failures : 
       }
 
     module _ (end : W) (same : Keeps (out writer) (out end)) (failures : write_failures end ≡ write_failures writer) where
-      refused_for : (because : Refused) → HasStoppedAt left given read_failures limits was.bytes was.messages was.normal records new reader after because → Answer end (Err because)
+      refused_for : (because : Refused) → HasStoppedAt numbers table_limit left given read_failures limits was.bytes was.messages was.normal records new reader after because → Answer end (Err because)
       refused_for (InputTooLong n) stopped = refused_at (InputTooLong n) stopped stopped.says end same failures
       refused_for (Record n why) stopped = refused_at (Record n why) stopped stopped.says end same failures
       refused_for (Json n) stopped = refused_at (Json n) stopped stopped.says end same failures
@@ -179,7 +179,7 @@ module _ {R W : Type 0} (left : R → Option (List ℕ)) (given read_failures : 
       refused_for WriteFault stopped = absurd stopped.says.tells
       refused_for Memory stopped = given_up_at Memory stopped end same failures
 
-    pub has_refused : (because : Refused) → HasStoppedAt left given read_failures limits was.bytes was.messages was.normal records new reader after because
+    pub has_refused : (because : Refused) → HasStoppedAt numbers table_limit left given read_failures limits was.bytes was.messages was.normal records new reader after because
         → (end : W) (answer : Result (Unit {0}) Refused) → Flushes out write_failures writer end (Err because) answer → Answer end answer
     has_refused because stopped end answer (inl done) = subst (Answer end) (sym done.0) (refused_for end done.1 done.2 because stopped)
     has_refused because stopped end answer (inr failed) =

@@ -1,5 +1,5 @@
 -- What `normalise_bytes` answers of bytes that are given as a whole.
-use Rattle.std.proofs.Common.{◌≡◌, ◌≢◌, ℕ, true, List, [], ◌∷◌, ◌++◌, Option, Some, None, refl, sym, ◌∙◌, ap, subst, arith, append-nil}
+use Rattle.std.proofs.Common.{◌≡◌, ◌≢◌, ℕ, ℤ, true, List, [], ◌∷◌, ◌++◌, Option, Some, None, refl, sym, ◌∙◌, ap, subst, arith, append-nil}
 use Rattle.std.proofs.lemmas.Bool.{true≢false}
 use Rattle.dap_device.specs.Memory.{GivenBytes}
 use Rattle.dap_device.specs.Pieces.{HasComeSoFar, HasPaused}
@@ -50,12 +50,12 @@ module _ (limits : Limits) (sound : AreSound limits) (bytes : List ℕ) where
   abbrev pub start : GivenBytes
   start = record { left = bytes; given = 0 }
 
-  module _ (reader : GivenBytes) (records : NormalRecords) (was : Going left_in given_by no_failures limits start reader records) (after : GivenBytes) where
+  module _ {T : Type 0} {numbers : T → List ℤ} {table_limit : T → ℕ} (reader : GivenBytes) (records : NormalRecords T) (was : Going numbers table_limit left_in given_by no_failures limits start reader records) (after : GivenBytes) where
     -- What has come is a front of the bytes.
     split : (more : List ℕ) (stop : Option Stop) → HasComeSoFar left_in given_by no_failures reader after more stop → bytes ≡ (was.bytes ++ more) ++ after.left
     split more stop came = (came_on left_in given_by no_failures start reader after was.bytes more stop was.came came).came
 
-    module _ (new : NormalRecords) (text_before longer : List ℕ) (end : HasEnded left_in given_by no_failures limits was.bytes was.messages was.normal records new reader after text_before longer) where
+    module _ (new : NormalRecords T) (text_before longer : List ℕ) (end : HasEnded numbers table_limit left_in given_by no_failures limits was.bytes was.messages was.normal records new reader after text_before longer) where
       whole : bytes ≡ was.bytes ++ end.more
       whole = split end.more (Some End) end.came ∙ ap (λ t. (was.bytes ++ end.more) ++ t) end.came.paused.0 ∙ append-nil (was.bytes ++ end.more)
 
@@ -71,7 +71,7 @@ module _ (limits : Limits) (sound : AreSound limits) (bytes : List ℕ) where
       pub canonical_whole : (written : List ℕ) → written ≡ text was.normal → IsCanonical limits bytes written
       canonical_whole written same = subst (IsCanonical limits bytes) (sym same) (canonical limits sound bytes (text was.normal) normalised_whole)
 
-    module _ (new : NormalRecords) (because : Refused) (stopped : HasStoppedAt left_in given_by no_failures limits was.bytes was.messages was.normal records new reader after because) where
+    module _ (new : NormalRecords T) (because : Refused) (stopped : HasStoppedAt numbers table_limit left_in given_by no_failures limits was.bytes was.messages was.normal records new reader after because) where
       abbrev all : List ℕ
       all = was.bytes ++ stopped.more
 
@@ -107,7 +107,7 @@ module _ (limits : Limits) (sound : AreSound limits) (bytes : List ℕ) where
       never_fails (Some Full) paused failed = true≢false (sym failed)
       never_fails (Some Failed) paused failed = omega (arith, paused)
 
-    pub refuses_bytes : (new : NormalRecords) (because : Refused) → HasStoppedAt left_in given_by no_failures limits was.bytes was.messages was.normal records new reader after because → RefusesBytes limits bytes because
+    pub refuses_bytes : (new : NormalRecords T) (because : Refused) → HasStoppedAt numbers table_limit left_in given_by no_failures limits was.bytes was.messages was.normal records new reader after because → RefusesBytes limits bytes because
     refuses_bytes new (InputTooLong n) stopped = told new (InputTooLong n) stopped input_too_long (λ e. absurd (let same = e in cc)) n stopped.says.fault stopped.says.tells stopped.says.is_refused
     refuses_bytes new (Record n cause.BadMarker) stopped = told new (Record n cause.BadMarker) stopped (faulty cause.BadMarker) (λ e. absurd (let same = e in cc)) n stopped.says.fault stopped.says.tells stopped.says.is_refused
     refuses_bytes new (Record n (cause.Frame f)) stopped = told new (Record n (cause.Frame f)) stopped (faulty (cause.Frame f)) (λ e. absurd (let same = e in cc)) n stopped.says.fault stopped.says.tells stopped.says.is_refused

@@ -1,5 +1,5 @@
 -- What the judging of a record does.
-use Rattle.std.specs.Prelude.{◌≡◌, ◌⊎◌, ℕ, ◌+◌, ◌<◌, ◌≤◌, List, [], ◌∷◌, ◌++◌, length, Result, Ok, Err}
+use Rattle.std.specs.Prelude.{◌≡◌, ◌⊎◌, ℕ, ◌+◌, ◌<◌, ◌≤◌, ℤ, List, [], ◌∷◌, ◌++◌, length, Result, Ok, Err}
 use Rattle.dap_tree.specs.Json.{text_of}
 use Rattle.dap_tree.specs.declared.sort.Sort.{Sort}
 use Rattle.dap_message.specs.Message.{Sent, no_reading, fraction, faulty as profile_fault}
@@ -7,7 +7,6 @@ use Rattle.dap_recording.specs.Recording.{record_text}
 use Rattle.dap_recording.specs.declared.record.Record.{Record as WholeRecord}
 use Rattle.dap_rename.specs.Messages.{AreProper, IsNormal, in_whole}
 use Rattle.dap_rename.specs.Names.{StandFor, limit_in}
-use Rattle.dap_rename.specs.SortedNames.{sorted_limit, sorted_numbers}
 use Rattle.dap_session.specs.Standing.{Stands}
 use Rattle.dapnorm.specs.declared.judging.Judge.{Judge}
 use Rattle.dapnorm.specs.declared.limits.Limits.{Limits}
@@ -19,18 +18,19 @@ use Rattle.dapnorm.specs.Accepting.{Held, Fits, IsNext, Objects, no_message, bro
 abbrev pub held_of : WholeRecord → Held
 held_of whole = (whole.side, whole.content)
 
-abbrev pub judge_limits : Judge → Limits
+abbrev pub judge_limits : {T : Type 0} → Judge T → Limits
 judge_limits judge = judge.limits
 
--- The judge stands for these messages, with this normal form: its session and its names do, and it knows how long the text is.
-pub record StandsFor (judge : Judge) (messages normal : List Sent) : Type 0 where
-  pub session : Stands judge.session messages
-  pub names : StandFor sorted_numbers judge.names messages
-  pub name_limits : (s : Sort) → limit_in sorted_limit judge.names s ≡ judge.limits.ids
-  pub proper : AreProper messages
-  pub is_normal : IsNormal in_whole messages normal
-  pub fits : Fits judge.limits normal
-  pub written : judge.written ≡ length (text normal)
+module _ {T : Type 0} (numbers : T → List ℤ) (table_limit : T → ℕ) where
+  -- The judge stands for these messages, with this normal form: its session and its names do, and it knows how long the text is.
+  pub record StandsFor (judge : Judge T) (messages normal : List Sent) : Type 0 where
+    pub session : Stands judge.session messages
+    pub names : StandFor numbers judge.names messages
+    pub name_limits : (s : Sort) → limit_in table_limit judge.names s ≡ judge.limits.ids
+    pub proper : AreProper messages
+    pub is_normal : IsNormal in_whole messages normal
+    pub fits : Fits judge.limits normal
+    pub written : judge.written ≡ length (text normal)
 
 -- the record of a message
 abbrev pub record_of : Sent → List ℕ
@@ -56,15 +56,16 @@ RefusesRecord limits messages held n (Grew m) = (m ≡ n) × Objects limits mess
 RefusesRecord limits messages held n Memory = Unit {0}
 RefusesRecord limits messages held n _ = ⊥
 
--- The message of the record is accepted behind these, the judge stands for it too, and the record of its normal form was appended.
-pub record IsTaken (messages normal : List Sent) (held : Held) (judge : Judge) (old new : List ℕ) : Type 0 where
-  pub message : Sent
-  pub is_next : IsNext judge.limits messages held message
-  pub named : Sent
-  pub stands : StandsFor judge (messages ++ message ∷ []) (normal ++ named ∷ [])
-  pub appended : new ≡ old ++ record_of named
+module _ {T : Type 0} (numbers : T → List ℤ) (table_limit : T → ℕ) where
+  -- The message of the record is accepted behind these, the judge stands for it too, and the record of its normal form was appended.
+  pub record IsTaken (messages normal : List Sent) (held : Held) (judge : Judge T) (old new : List ℕ) : Type 0 where
+    pub message : Sent
+    pub is_next : IsNext judge.limits messages held message
+    pub named : Sent
+    pub stands : StandsFor numbers table_limit judge (messages ++ message ∷ []) (normal ++ named ∷ [])
+    pub appended : new ≡ old ++ record_of named
 
--- Record n, which holds this, is taken or refused.
-abbrev pub JudgesRecord : List Sent → List Sent → Held → ℕ → Judge → Judge → List ℕ → List ℕ → Result (Unit {0}) Refused → Type 0
-JudgesRecord messages normal held n before after old new (Ok done) = IsTaken messages normal held after old new
-JudgesRecord messages normal held n before after old new (Err because) = RefusesRecord before.limits messages held n because
+  -- Record n, which holds this, is taken or refused.
+  abbrev pub JudgesRecord : List Sent → List Sent → Held → ℕ → Judge T → Judge T → List ℕ → List ℕ → Result (Unit {0}) Refused → Type 0
+  JudgesRecord messages normal held n before after old new (Ok done) = IsTaken messages normal held after old new
+  JudgesRecord messages normal held n before after old new (Err because) = RefusesRecord before.limits messages held n because

@@ -11,6 +11,7 @@ pub mod HeldMessages
 pub mod Judging
 pub mod JudgingSteps
 pub mod Limits
+pub mod NameTables
 pub mod Normalised
 pub mod Normalising
 pub mod ReadTo

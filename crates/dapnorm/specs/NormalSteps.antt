@@ -1,5 +1,5 @@
 -- What the next record of an input makes of the records before it.
-use Rattle.std.specs.Prelude.{◌≡◌, ℕ, ◌+◌, ◌-◌, ◌<◌, ◌≤◌, Bool, true, false, List, [], ◌∷◌, ◌++◌, length, Option, Some, None, Result, Ok, Err}
+use Rattle.std.specs.Prelude.{◌≡◌, ℕ, ◌+◌, ◌-◌, ◌<◌, ◌≤◌, ℤ, Bool, true, false, List, [], ◌∷◌, ◌++◌, length, Option, Some, None, Result, Ok, Err}
 use Rattle.dap_device.specs.Pieces.{HasComeSoFar}
 use Rattle.dap_device.specs.declared.reading.Stop.{Stop}
 use Rattle.dap_device.specs.declared.reading.Stop.TheVariants.{End}
@@ -16,7 +16,7 @@ use Rattle.dapnorm.specs.ReadTo.{IsReadTo, so_far}
 use Rattle.dapnorm.specs.Verdicts.{RefusesAt}
 
 -- Of these bytes, which have come, what is unread begins behind records that are accepted as these messages, for which the judge stands, with this normal form.
-pub record StandsBefore (limits : Limits) (bytes : List ℕ) (records : NormalRecords) (messages normal : List Sent) : Type 0 where
+pub record StandsBefore {T : Type 0} (numbers : T → List ℤ) (table_limit : T → ℕ) (limits : Limits) (bytes : List ℕ) (records : NormalRecords T) (messages normal : List Sent) : Type 0 where
   pub front : List ℕ
   pub accepted : IsAccepted limits front messages
   pub came : bytes ≡ front ++ records.records.pieces.unread
@@ -27,22 +27,22 @@ pub record StandsBefore (limits : Limits) (bytes : List ℕ) (records : NormalRe
   -- no more records than bytes, so that a number that counts bytes can count records
   pub few : records.records.number ≤ length front + 1
   pub read_to : IsReadTo (accepting limits) bytes (length messages)
-  pub stands : StandsFor records.judge messages normal
+  pub stands : StandsFor numbers table_limit records.judge messages normal
   pub judge_limits_are : judge_limits records.judge ≡ limits
 
 -- how many bytes are left at most behind what is accepted
-abbrev pub remaining : NormalRecords → ℕ
+abbrev pub remaining : {T : Type 0} → NormalRecords T → ℕ
 remaining records = (records.records.pieces.limit - records.records.pieces.taken) + length records.records.pieces.unread
 
-module _ {R : Type 0} (left : R → Option (List ℕ)) (given failures : R → ℕ) (limits : Limits) (bytes : List ℕ) (messages normal : List Sent)
-    (old new : NormalRecords) (before after : R) where
+module _ {T R : Type 0} (numbers : T → List ℤ) (table_limit : T → ℕ) (left : R → Option (List ℕ)) (given failures : R → ℕ) (limits : Limits) (bytes : List ℕ) (messages normal : List Sent)
+    (old new : NormalRecords T) (before after : R) where
   -- One more record is accepted, and the record of its normal form is appended.
   pub record HasGone (text longer : List ℕ) : Type 0 where
     pub more : List ℕ
     pub came : HasComeSoFar left given failures before after more None
     pub message : Sent
     pub named : Sent
-    pub stands : StandsBefore limits (bytes ++ more) new (messages ++ message ∷ []) (normal ++ named ∷ [])
+    pub stands : StandsBefore numbers table_limit limits (bytes ++ more) new (messages ++ message ∷ []) (normal ++ named ∷ [])
     pub read_to : IsReadTo (accepting limits) (bytes ++ more) old.records.number
     pub shorter : remaining new < remaining old
     pub appended : longer ≡ text ++ record_of named

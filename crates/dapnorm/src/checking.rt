@@ -2,13 +2,16 @@
 ghost use Rattle.std.specs.Prelude.{◌+◌, ◌<◌, ◌≤◌, ◌^◌, false};
 ghost use Rattle.dapnorm.specs.Checking.{Checks};
 ghost use Rattle.dapnorm.specs.Limits.{AreSound};
+ghost use Rattle.dapnorm.specs.NameTables.{AreReady};
 
 use crate::checked::Checked;
+use crate::index_tables::index_tables;
 use crate::limits::Limits;
 use crate::normal_records::NormalRecords;
 use crate::refused::Refused;
 use dap_device::Source;
 use dap_message::Side;
+use dap_rename::{NameTable, Tables};
 use std::alloc::Global;
 
 /// Reads a recording and judges it: its records, their messages, the rules of the session, how many ids there are, and how
@@ -38,7 +41,32 @@ pub fn check<R: Source>(
     // It takes at most one byte past the limit.
     ensures taken { R.given reader.new ≤ R.given reader.old + limits.input + 1 }
 {
-    let checked = count_records(alloc, reader, limits)?;
+    check_with(alloc, reader, limits, complete, index_tables(alloc, limits))
+}
+
+/// Does what [`check`] does, with these tables for the names of ids. They have to be empty, each with the limit
+/// `limits.ids`.
+///
+/// # Errors
+///
+/// Those of [`check`].
+pub fn check_with<R: Source, T: NameTable + Drop>(
+    alloc: Global,
+    reader: &mut R,
+    limits: Limits,
+    complete: bool,
+    tables: Tables<T>,
+) -> Result<Checked, Refused>
+    requires limits { AreSound limits }
+    requires tables { AreReady T.numbers T.limit limits tables }
+    requires given { R.given reader.old < 2 ^ 62 }
+    requires failures { R.failures reader.old < 2 ^ 62 }
+
+    // What `check` promises, whatever the tables are.
+    ensures answer { Checks R.left R.given R.failures limits complete reader.old reader.new result }
+    ensures taken { R.given reader.new ≤ R.given reader.old + limits.input + 1 }
+{
+    let checked = count_records(alloc, reader, limits, tables)?;
     if complete && (checked.client_open != 0 || checked.adapter_open != 0) {
         return Err(Refused::Incomplete(checked.client_open, checked.adapter_open));
     }
@@ -46,18 +74,20 @@ pub fn check<R: Source>(
 }
 
 /// Judges all records, and answers how many they are and what they leave open.
-fn count_records<R: Source>(
+fn count_records<R: Source, T: NameTable + Drop>(
     alloc: Global,
     reader: &mut R,
     limits: Limits,
+    tables: Tables<T>,
 ) -> Result<Checked, Refused>
     requires limits { AreSound limits }
+    requires tables { AreReady T.numbers T.limit limits tables }
     requires given { R.given reader.old < 2 ^ 62 }
     requires failures { R.failures reader.old < 2 ^ 62 }
     ensures answer { Checks R.left R.given R.failures limits false reader.old reader.new result }
     ensures taken { R.given reader.new ≤ R.given reader.old + limits.input + 1 }
 {
-    let Ok(mut records) = NormalRecords::new(alloc, limits) else {
+    let Ok(mut records) = NormalRecords::new(alloc, limits, tables) else {
         return Err(Refused::Memory);
     };
     let mut text = Vec::new(alloc);

@@ -4,33 +4,21 @@ ghost use Rattle.std.specs.List.{flat_map};
 ghost use Rattle.dapnorm.specs.ComparingRun.{CompareIsTold, first_line, pair_line, pairs_in, refusal_status, sort_word, verdict_status, verdict_text};
 ghost use Rattle.dap_device.specs.Device.{HasWrittenAll};
 ghost use Rattle.dapnorm.specs.Limits.{AreSound};
+ghost use Rattle.dapnorm.specs.NameTables.{AreReady};
 
-use crate::comparing::compare;
+use crate::comparing::compare_with;
+use crate::index_tables::index_tables;
 use crate::limits::Limits;
 use crate::refused::Refused;
+use crate::status::{DIFFERENT, DONE, FAULT, MEMORY, REFUSED};
 use crate::verdict::{CompareRefused, Verdict};
 use arrayvec::ArrayString;
 use dap_device::{DeviceFault, Sink, Source, write_all, write_and_flush};
-use dap_rename::Pair;
+use dap_rename::{NameTable, Pair, Tables};
 use dap_tree::Sort;
 use itoa::Buffer;
 use std::alloc::Global;
 use std::fmt::Write;
-
-/// The status of two recordings that are the same.
-const SAME: u8 = 0;
-
-/// The status of two recordings that differ.
-const DIFFERENT: u8 = 1;
-
-/// The status of an input that is refused.
-const REFUSED: u8 = 2;
-
-/// The status of a device that failed.
-const FAULT: u8 = 4;
-
-/// The status of want of memory.
-const MEMORY: u8 = 5;
 
 /// How long a line may be. The longest, of a fault, has 63 bytes.
 const LINE: usize = 128;
@@ -124,7 +112,7 @@ fn status(verdict: &Verdict) -> u8
     ensures { result ≡ verdict_status verdict.now }
 {
     match verdict {
-        Verdict::Same(_) => SAME,
+        Verdict::Same(_) => DONE,
         Verdict::Differ(_) => DIFFERENT,
     }
 }
@@ -172,7 +160,46 @@ pub fn run_compare<A: Source, B: Source, W: Sink, E: Sink>(
     ensures taken_a { A.given reader_a.new ≤ A.given reader_a.old + limits.input + 1 }
     ensures taken_b { B.given reader_b.new ≤ B.given reader_b.old + limits.input + 1 }
 {
-    let verdict = match compare(alloc, reader_a, reader_b, limits) {
+    run_compare_with(
+        alloc,
+        reader_a,
+        reader_b,
+        writer,
+        errors,
+        limits,
+        index_tables(alloc, limits),
+        index_tables(alloc, limits),
+    )
+}
+
+/// Does what [`run_compare`] does, with these tables for the names of the ids of A and of B. They have to be empty, each
+/// with the limit `limits.ids`.
+pub fn run_compare_with<A: Source, B: Source, W: Sink, E: Sink, T: NameTable + Drop>(
+    alloc: Global,
+    reader_a: &mut A,
+    reader_b: &mut B,
+    writer: &mut W,
+    errors: &mut E,
+    limits: Limits,
+    tables_a: Tables<T>,
+    tables_b: Tables<T>,
+) -> u8
+    requires limits { AreSound limits }
+    requires tables_a { AreReady T.numbers T.limit limits tables_a }
+    requires tables_b { AreReady T.numbers T.limit limits tables_b }
+    requires given_a { A.given reader_a.old < 2 ^ 62 }
+    requires given_b { B.given reader_b.old < 2 ^ 62 }
+    requires failures_a { A.failures reader_a.old < 2 ^ 62 }
+    requires failures_b { B.failures reader_b.old < 2 ^ 62 }
+    requires write_failures { W.failures writer.old < 2 ^ 62 }
+    requires error_failures { E.failures errors.old < 2 ^ 62 }
+
+    // What `run_compare` promises, whatever the tables are.
+    ensures told { CompareIsTold A.left A.given A.failures B.left B.given B.failures W.out W.failures limits reader_a.old reader_a.new reader_b.old reader_b.new writer.old writer.new result }
+    ensures taken_a { A.given reader_a.new ≤ A.given reader_a.old + limits.input + 1 }
+    ensures taken_b { B.given reader_b.new ≤ B.given reader_b.old + limits.input + 1 }
+{
+    let verdict = match compare_with(alloc, reader_a, reader_b, limits, tables_a, tables_b) {
         Ok(verdict) => verdict,
         Err(refused) => {
             tell(errors, refused);

@@ -1,13 +1,16 @@
 //! Compares recordings.
 ghost use Rattle.std.specs.Prelude.{◌≡◌, ◌+◌, ◌<◌, ◌≤◌, ◌^◌};
 ghost use Rattle.dapnorm.specs.Limits.{AreSound};
+ghost use Rattle.dapnorm.specs.NameTables.{AreReady};
 ghost use Rattle.dapnorm.specs.Verdicts.{Compares};
 
+use crate::index_tables::index_tables;
 use crate::limits::Limits;
 use crate::normal_records::NormalRecords;
 use crate::refused::Refused;
 use crate::verdict::{CompareRefused, Verdict, Which};
 use dap_device::Source;
+use dap_rename::{NameTable, Tables};
 use std::alloc::Global;
 
 /// Whose refusal it is. That memory was refused is nobody's.
@@ -50,10 +53,47 @@ pub fn compare<A: Source, B: Source>(
     ensures taken_a { A.given reader_a.new ≤ A.given reader_a.old + limits.input + 1 }
     ensures taken_b { B.given reader_b.new ≤ B.given reader_b.old + limits.input + 1 }
 {
-    let Ok(mut records_a) = NormalRecords::new(alloc, limits) else {
+    compare_with(
+        alloc,
+        reader_a,
+        reader_b,
+        limits,
+        index_tables(alloc, limits),
+        index_tables(alloc, limits),
+    )
+}
+
+/// Does what [`compare`] does, with these tables for the names of the ids of A and of B. They have to be empty, each with
+/// the limit `limits.ids`.
+///
+/// # Errors
+///
+/// Those of [`compare`].
+pub fn compare_with<A: Source, B: Source, T: NameTable + Drop>(
+    alloc: Global,
+    reader_a: &mut A,
+    reader_b: &mut B,
+    limits: Limits,
+    tables_a: Tables<T>,
+    tables_b: Tables<T>,
+) -> Result<Verdict, CompareRefused>
+    requires limits { AreSound limits }
+    requires tables_a { AreReady T.numbers T.limit limits tables_a }
+    requires tables_b { AreReady T.numbers T.limit limits tables_b }
+    requires given_a { A.given reader_a.old < 2 ^ 62 }
+    requires given_b { B.given reader_b.old < 2 ^ 62 }
+    requires failures_a { A.failures reader_a.old < 2 ^ 62 }
+    requires failures_b { B.failures reader_b.old < 2 ^ 62 }
+
+    // What `compare` promises, whatever the tables are.
+    ensures answer { Compares A.left A.given A.failures B.left B.given B.failures limits reader_a.old reader_a.new reader_b.old reader_b.new result }
+    ensures taken_a { A.given reader_a.new ≤ A.given reader_a.old + limits.input + 1 }
+    ensures taken_b { B.given reader_b.new ≤ B.given reader_b.old + limits.input + 1 }
+{
+    let Ok(mut records_a) = NormalRecords::new(alloc, limits, tables_a) else {
         return Err(CompareRefused::Memory);
     };
-    let Ok(mut records_b) = NormalRecords::new(alloc, limits) else {
+    let Ok(mut records_b) = NormalRecords::new(alloc, limits, tables_b) else {
         return Err(CompareRefused::Memory);
     };
     let mut text_a = Vec::new(alloc);

@@ -3,21 +3,22 @@ ghost use Rattle.std.specs.Prelude.{◌≡◌, ◌<◌, ◌≤◌, ◌^◌, List
 ghost use Rattle.dap_message.specs.Message.{Sent};
 ghost use Rattle.dap_session.specs.Rules.{open_requests};
 ghost use Rattle.dapnorm.specs.Limits.{AreSound};
+ghost use Rattle.dapnorm.specs.NameTables.{AreReady};
 
 use crate::limits::Limits;
 use crate::messages::{append_record, read_message};
 use crate::refused::Refused;
 use dap_message::Side;
 use dap_recording::Record;
-use dap_rename::{NameFault, Names, SortedNames, Tables};
+use dap_rename::{NameFault, NameTable, Names, Tables};
 use dap_session::{Session, SessionFault};
 use std::alloc::Global;
 
 /// What the records so far leave behind for the judging of the next one.
 #[derive(Drop)]
-pub struct Judge {
+pub struct Judge<T> {
     session: Session,
-    names: Names<SortedNames>,
+    names: Names<T>,
     /// How many bytes the text of the normal form has so far.
     written: u64,
     limits: Limits,
@@ -25,21 +26,16 @@ pub struct Judge {
     ghost short: { written ≤ limits.input },
 }
 
-impl Judge {
+impl<T: NameTable + Drop> Judge<T> {
     ghost use Rattle.dapnorm.specs.JudgingSteps.{JudgesRecord, StandsFor, held_of, judge_limits};
 
     /// A judge before the first record.
-    pub fn new(alloc: Global, limits: Limits) -> Judge
-        requires { AreSound limits }
-        ensures stands { StandsFor result [] [] }
+    pub fn new(alloc: Global, limits: Limits, tables: Tables<T>) -> Judge<T>
+        requires limits { AreSound limits }
+        requires tables { AreReady T.numbers T.limit limits tables }
+        ensures stands { StandsFor T.numbers T.limit result [] [] }
         ensures limits { judge_limits result ≡ limits }
     {
-        let tables = Tables {
-            client_seq: SortedNames::new(alloc, limits.ids),
-            adapter_seq: SortedNames::new(alloc, limits.ids),
-            frame: SortedNames::new(alloc, limits.ids),
-            reference: SortedNames::new(alloc, limits.ids),
-        };
         Judge {
             session: Session::new(alloc),
             names: Names::new(alloc, tables),
@@ -56,7 +52,7 @@ impl Judge {
         whole: &Record,
         out: &mut Vec<u8>,
     ) -> Result<(), Refused>
-        ensures judges { (messages normal : List Sent) → StandsFor self.old messages normal → JudgesRecord messages normal (held_of whole.now) number self.old self.new out.old.items out.new.items result }
+        ensures judges { (messages normal : List Sent) → StandsFor T.numbers T.limit self.old messages normal → JudgesRecord T.numbers T.limit messages normal (held_of whole.now) number self.old self.new out.old.items out.new.items result }
         ensures limits { judge_limits self.new ≡ judge_limits self.old }
     {
         let message = read_message(alloc, number, whole.side, whole.content.as_slice())?;
@@ -75,7 +71,7 @@ impl Judge {
     }
 
     /// The names of the messages so far.
-    pub fn names(&self) -> &Names<SortedNames>
+    pub fn names(&self) -> &Names<T>
         ensures { result.now ≡ self.now.names }
     {
         &self.names
@@ -83,7 +79,7 @@ impl Judge {
 
     /// How many requests of that side have no response.
     pub fn open(&self, side: Side) -> usize
-        ensures { (messages normal : List Sent) → StandsFor self.now messages normal → result ≡ open_requests side messages }
+        ensures { (messages normal : List Sent) → StandsFor T.numbers T.limit self.now messages normal → result ≡ open_requests side messages }
     {
         self.session.open(side)
     }

@@ -4,10 +4,10 @@ ghost use Rattle.dap_message.specs.Message.{Sent};
 ghost use Rattle.dap_rename.specs.Messages.{equal_places};
 ghost use Rattle.dap_rename.specs.Names.{HaveEqualCounts, StandFor};
 ghost use Rattle.dap_rename.specs.Pairs.{entries};
-ghost use Rattle.dap_rename.specs.SortedNames.{sorted_numbers};
 ghost use Rattle.dap_rename.specs.Renaming.{pairs_of};
 ghost use Rattle.dap_session.specs.Rules.{open_requests};
 ghost use Rattle.dapnorm.specs.Limits.{AreSound};
+ghost use Rattle.dapnorm.specs.NameTables.{AreReady};
 
 use crate::judging::Judge;
 use crate::limits::Limits;
@@ -15,28 +15,33 @@ use crate::records::Records;
 use crate::refused::Refused;
 use dap_device::Source;
 use dap_message::Side;
-use dap_rename::{NameFault, Renaming};
+use dap_rename::{NameFault, NameTable, Renaming, Tables};
 use std::alloc::{AllocError, Global};
 
 /// The records of an input, of which those before the next one are accepted. One record is held at a time.
 #[derive(Drop)]
-pub struct NormalRecords {
+pub struct NormalRecords<T> {
     records: Records,
-    judge: Judge,
+    judge: Judge<T>,
 }
 
-impl NormalRecords {
+impl<T: NameTable + Drop> NormalRecords<T> {
     ghost use Rattle.dapnorm.specs.JudgingSteps.{StandsFor as JudgeStandsFor};
     ghost use Rattle.dapnorm.specs.NormalSteps.{HasNext, StandsBefore};
 
     /// The records of an input, before the first.
-    pub fn new(alloc: Global, limits: Limits) -> Result<NormalRecords, AllocError>
-        requires { AreSound limits }
-        ensures stands { IfOk result (λ records. StandsBefore limits [] records [] []) }
+    pub fn new(
+        alloc: Global,
+        limits: Limits,
+        tables: Tables<T>,
+    ) -> Result<NormalRecords<T>, AllocError>
+        requires limits { AreSound limits }
+        requires tables { AreReady T.numbers T.limit limits tables }
+        ensures stands { IfOk result (λ records. StandsBefore T.numbers T.limit limits [] records [] []) }
     {
         Ok(NormalRecords {
             records: Records::new(alloc, limits)?,
-            judge: Judge::new(alloc, limits),
+            judge: Judge::new(alloc, limits, tables),
         })
     }
 
@@ -49,7 +54,7 @@ impl NormalRecords {
 
     /// How many requests of that side have no response.
     pub fn open(&self, side: Side) -> usize
-        ensures { (messages normal : List Sent) → JudgeStandsFor self.now.judge messages normal → result ≡ open_requests side messages }
+        ensures { (messages normal : List Sent) → JudgeStandsFor T.numbers T.limit self.now.judge messages normal → result ≡ open_requests side messages }
     {
         self.judge.open(side)
     }
@@ -65,8 +70,8 @@ impl NormalRecords {
         requires number { self.old.records.number < 2 ^ 63 }
         requires given { R.given reader.old + (self.old.records.pieces.limit - self.old.records.pieces.taken) < 2 ^ 63 }
         requires failures { R.failures reader.old < 2 ^ 63 }
-        ensures { (limits : Limits) (bytes : List ℕ) (messages normal : List Sent) → StandsBefore limits bytes self.old messages normal
-            → HasNext R.left R.given R.failures limits bytes messages normal self.old self.new reader.old reader.new text.old.items text.new.items result }
+        ensures { (limits : Limits) (bytes : List ℕ) (messages normal : List Sent) → StandsBefore T.numbers T.limit limits bytes self.old messages normal
+            → HasNext T.numbers T.limit R.left R.given R.failures limits bytes messages normal self.old self.new reader.old reader.new text.old.items text.new.items result }
     {
         let number = self.records.number();
         let Some(whole) = self.records.next(reader)? else {
@@ -79,10 +84,14 @@ impl NormalRecords {
     /// The renaming that puts the numbers of `other` in the place of those with the same names here.
     ///
     /// The only fault is `Memory`.
-    pub fn renaming_to(&self, alloc: Global, other: &NormalRecords) -> Result<Renaming, NameFault>
-        requires { HaveEqualCounts sorted_numbers self.now.judge.names other.now.judge.names }
+    pub fn renaming_to(
+        &self,
+        alloc: Global,
+        other: &NormalRecords<T>,
+    ) -> Result<Renaming, NameFault>
+        requires { HaveEqualCounts T.numbers self.now.judge.names other.now.judge.names }
         ensures { IfOk result (λ renaming. (messages others : List Sent)
-            → StandFor sorted_numbers self.now.judge.names messages → StandFor sorted_numbers other.now.judge.names others
+            → StandFor T.numbers self.now.judge.names messages → StandFor T.numbers other.now.judge.names others
             → entries (pairs_of renaming) ≡ equal_places messages others) }
     {
         Renaming::between(alloc, self.judge.names(), other.judge.names())

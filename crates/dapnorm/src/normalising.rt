@@ -1,14 +1,17 @@
 //! Normalises recordings.
 ghost use Rattle.std.specs.Prelude.{◌≡◌, ◌+◌, ◌<◌, ◌≤◌, ◌^◌, IfErr, IfOk};
 ghost use Rattle.dapnorm.specs.Limits.{AreSound};
+ghost use Rattle.dapnorm.specs.NameTables.{AreReady};
 ghost use Rattle.dapnorm.specs.Normalising.{IsCanonical, RefusesBytes};
 ghost use Rattle.dapnorm.specs.Streaming.{Flushes, Streams};
 
+use crate::index_tables::index_tables;
 use crate::limits::Limits;
 use crate::normal_records::NormalRecords;
 use crate::normalised::Normalised;
 use crate::refused::Refused;
 use dap_device::{MemorySource, Sink, Source, write_all};
+use dap_rename::{NameTable, Tables};
 use std::alloc::Global;
 
 /// The normal text of a recording: its messages in order, each as its canonical content, in which ids count from 1.
@@ -26,7 +29,8 @@ pub fn normalise_bytes(alloc: Global, bytes: &[u8], limits: Limits) -> Result<No
     ensures ok { IfOk result (λ text. IsCanonical limits bytes.now text) }
     ensures err { IfErr result (λ refused. RefusesBytes limits bytes.now refused) }
 {
-    let Ok(mut records) = NormalRecords::new(alloc, limits) else {
+    let tables = index_tables(alloc, limits);
+    let Ok(mut records) = NormalRecords::new(alloc, limits, tables) else {
         return Err(Refused::Memory);
     };
     let mut reader = MemorySource::new(bytes);
@@ -75,7 +79,33 @@ pub fn normalise<R: Source, W: Sink>(
     // It takes at most one byte past the limit.
     ensures taken { R.given reader.new ≤ R.given reader.old + limits.input + 1 }
 {
-    let Ok(mut records) = NormalRecords::new(alloc, limits) else {
+    normalise_with(alloc, reader, writer, limits, index_tables(alloc, limits))
+}
+
+/// Does what [`normalise`] does, with these tables for the names of ids. They have to be empty, each with the limit
+/// `limits.ids`.
+///
+/// # Errors
+///
+/// Those of [`normalise`].
+pub fn normalise_with<R: Source, W: Sink, T: NameTable + Drop>(
+    alloc: Global,
+    reader: &mut R,
+    writer: &mut W,
+    limits: Limits,
+    tables: Tables<T>,
+) -> Result<(), Refused>
+    requires limits { AreSound limits }
+    requires tables { AreReady T.numbers T.limit limits tables }
+    requires given { R.given reader.old < 2 ^ 62 }
+    requires read_failures { R.failures reader.old < 2 ^ 62 }
+    requires write_failures { W.failures writer.old < 2 ^ 62 }
+
+    // What `normalise` promises, whatever the tables are.
+    ensures answer { Streams R.left R.given R.failures W.out W.failures limits reader.old reader.new writer.old writer.new result }
+    ensures taken { R.given reader.new ≤ R.given reader.old + limits.input + 1 }
+{
+    let Ok(mut records) = NormalRecords::new(alloc, limits, tables) else {
         return Err(Refused::Memory);
     };
     let mut text = Vec::new(alloc);

@@ -2,38 +2,27 @@
 ghost use Rattle.std.specs.Prelude.{◌≡◌, ◌+◌, ◌<◌, ◌≤◌, ◌^◌, Bool};
 ghost use Rattle.dapnorm.specs.Compacting.{Compacts, IsRefused};
 ghost use Rattle.dapnorm.specs.Limits.{AreSound};
+ghost use Rattle.dapnorm.specs.NameTables.{AreReady};
 ghost use Rattle.dapnorm.specs.Run.{Answered, CheckIsTold, HasPrinted, NormaliseIsTold, TellsUsage, status_of};
 ghost use Rattle.dapnorm.specs.Showing.{IsShownBy, IsRefused as IsShowRefused};
 ghost use Rattle.dapnorm.specs.TracingRun.{TraceIsTold};
 
 use crate::checked::Checked;
-use crate::checking::check;
+use crate::checking::check_with;
 use crate::compacting::compact;
+use crate::index_tables::index_tables;
 use crate::jobs::{Job, UsageFault};
 use crate::limits::Limits;
-use crate::normalising::normalise;
+use crate::normalising::normalise_with;
 use crate::refused::Refused;
 use crate::showing::show;
+use crate::status::{DONE, FAULT, MEMORY, REFUSED, USAGE};
 use crate::tracing::record;
 use arrayvec::ArrayString;
 use dap_device::{Sink, Source, write_and_flush};
+use dap_rename::{NameTable, Tables};
 use std::alloc::Global;
 use std::fmt::Write;
-
-/// The status of a job that was done.
-const DONE: u8 = 0;
-
-/// The status of an input that is refused.
-const REFUSED: u8 = 2;
-
-/// The status of words that name no job.
-const USAGE: u8 = 3;
-
-/// The status of a device that failed.
-const FAULT: u8 = 4;
-
-/// The status of want of memory.
-const MEMORY: u8 = 5;
 
 /// How long a fault's line may be. The longest has 79 bytes.
 const LINE: usize = 128;
@@ -111,11 +100,52 @@ pub fn run_stream<R: Source, W: Sink, E: Sink>(
     // It takes at most one byte past the limit.
     ensures taken { R.given reader.new ≤ R.given reader.old + limits.input + 1 }
 {
+    run_stream_with(
+        alloc,
+        job,
+        reader,
+        writer,
+        errors,
+        limits,
+        index_tables(alloc, limits),
+    )
+}
+
+/// Does what [`run_stream`] does, with these tables for the names of ids. They have to be empty, each with the limit
+/// `limits.ids`.
+pub fn run_stream_with<R: Source, W: Sink, E: Sink, T: NameTable + Drop>(
+    alloc: Global,
+    job: &Job,
+    reader: &mut R,
+    writer: &mut W,
+    errors: &mut E,
+    limits: Limits,
+    tables: Tables<T>,
+) -> u8
+    requires stream { (a b : _) → job.now ≡ Job.Compare a b → ⊥ }
+    requires limits { AreSound limits }
+    requires tables { AreReady T.numbers T.limit limits tables }
+    requires given { R.given reader.old < 2 ^ 62 }
+    requires read_failures { R.failures reader.old < 2 ^ 62 }
+    requires write_failures { W.failures writer.old < 2 ^ 62 }
+    requires error_failures { E.failures errors.old < 2 ^ 62 }
+
+    // What `run_stream` promises, whatever the tables are.
+    ensures compact { job.now ≡ Job.Compact → Answered R.left R.failures W.out W.failures limits.input (Compacts limits) (IsRefused limits) reader.old reader.new writer.old writer.new result }
+    ensures record_trace { job.now ≡ Job.Record → TraceIsTold R.left R.failures W.out W.failures limits reader.old reader.new writer.old writer.new result }
+    ensures normalise { job.now ≡ Job.Normalise → NormaliseIsTold R.left R.given R.failures W.out W.failures limits reader.old reader.new writer.old writer.new result }
+    ensures check { (complete : Bool) → job.now ≡ Job.Check complete → CheckIsTold R.left R.given R.failures W.out W.failures limits complete reader.old reader.new writer.old writer.new result }
+    ensures show { job.now ≡ Job.Show → Answered R.left R.failures W.out W.failures limits.input (IsShownBy limits) (IsShowRefused limits) reader.old reader.new writer.old writer.new result }
+    ensures taken { R.given reader.new ≤ R.given reader.old + limits.input + 1 }
+{
     let answer = match *job {
         Job::Compact => compact(alloc, reader, writer, limits),
         Job::Record => record(alloc, reader, writer, limits),
-        Job::Normalise => normalise(alloc, reader, writer, limits),
-        Job::Check { complete } => print(writer, check(alloc, reader, limits, complete)),
+        Job::Normalise => normalise_with(alloc, reader, writer, limits, tables),
+        Job::Check { complete } => print(
+            writer,
+            check_with(alloc, reader, limits, complete, tables),
+        ),
         Job::Show => show(alloc, reader, writer, limits),
         Job::Compare { .. } => unreachable!(),
     };

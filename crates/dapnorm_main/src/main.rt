@@ -2,12 +2,17 @@
 #![tactic(auto)]
 
 ghost use Rattle.std.specs.Prelude.{◌≡◌};
+ghost use Rattle.dap_rename.specs.IndexNames.{index_limit, index_numbers};
+ghost use Rattle.dapnorm.specs.Limits.{AreSound};
+ghost use Rattle.dapnorm.specs.NameTables.{AreReady};
 
 use dap_frame::FrameLimits;
 use dapnorm::{
-    Job, Limits, StdSink, StdSource, UsageFault, Which, job, run_compare, run_stream, run_usage,
+    IndexNames, Job, Limits, StdSink, StdSource, Tables, UsageFault, Which, job, run_compare_with,
+    run_stream_with, run_usage,
 };
 use std::alloc::Global;
+use std::hash::RandomState;
 use std::io::{Error, ErrorKind};
 use std::process::ExitCode;
 use std::{env, fs};
@@ -22,28 +27,42 @@ const LIMITS: Limits = Limits {
     input: 4_294_967_296,
 };
 
-/// The status where the arguments cannot be had, or a file does not open.
+/// The status where the arguments or random words cannot be had, or a file does not open.
 const FAULT: u8 = 4;
 
+/// The tables for names, which hash by these random words, so that nobody can choose ids whose hashes collide.
+fn tables(alloc: Global, limits: Limits, hasher: RandomState) -> Tables<IndexNames<RandomState>>
+    requires { AreSound limits }
+    ensures { AreReady index_numbers index_limit limits result }
+{
+    Tables {
+        client_seq: IndexNames::new(alloc, limits.ids, hasher),
+        adapter_seq: IndexNames::new(alloc, limits.ids, hasher),
+        frame: IndexNames::new(alloc, limits.ids, hasher),
+        reference: IndexNames::new(alloc, limits.ids, hasher),
+    }
+}
+
 /// Does the job over the standard streams.
-fn perform(rt: &HostRuntime, job: &Job) -> u8
+fn perform(rt: &HostRuntime, job: &Job, hasher: RandomState) -> u8
     requires { (a b : _) → job.now ≡ Job.Compare a b → ⊥ }
 {
     let mut reader = StdSource::new(rt.stdin());
     let mut writer = StdSink::new(rt.stdout());
     let mut errors = StdSink::new(rt.stderr());
-    run_stream(
+    run_stream_with(
         rt.alloc(),
         job,
         &mut reader,
         &mut writer,
         &mut errors,
         LIMITS,
+        tables(rt.alloc(), LIMITS, hasher),
     )
 }
 
 /// Compares the recordings of two files. A file that does not open is a read fault of that input.
-fn compare_files(rt: &HostRuntime, a: &str, b: &str) -> u8 {
+fn compare_files(rt: &HostRuntime, a: &str, b: &str, hasher: RandomState) -> u8 {
     let file_a = match fs::open(rt, a) {
         Ok(file) => file,
         Err(error) => return tell_unopened(rt, Which::A, &error),
@@ -56,13 +75,15 @@ fn compare_files(rt: &HostRuntime, a: &str, b: &str) -> u8 {
     let mut reader_b = StdSource::new(file_b);
     let mut writer = StdSink::new(rt.stdout());
     let mut errors = StdSink::new(rt.stderr());
-    run_compare(
+    run_compare_with(
         rt.alloc(),
         &mut reader_a,
         &mut reader_b,
         &mut writer,
         &mut errors,
         LIMITS,
+        tables(rt.alloc(), LIMITS, hasher),
+        tables(rt.alloc(), LIMITS, hasher),
     )
 }
 
@@ -91,11 +112,23 @@ fn run_words(rt: &HostRuntime, alloc: Global, words: &[String]) -> u8 {
     else {
         return tell_usage(rt, &UsageFault::Memory);
     };
-    match job(alloc, words.as_slice()) {
-        Ok(Job::Compare { a, b }) => compare_files(rt, a, b),
-        Ok(job) => perform(rt, &job),
-        Err(fault) => tell_usage(rt, &fault),
+    let job = match job(alloc, words.as_slice()) {
+        Ok(job) => job,
+        Err(fault) => return tell_usage(rt, &fault),
+    };
+    let Ok(hasher) = RandomState::new(rt) else {
+        return tell_unread(rt);
+    };
+    match job {
+        Job::Compare { a, b } => compare_files(rt, a, b, hasher),
+        job => perform(rt, &job, hasher),
     }
+}
+
+/// Tells that what the program begins with cannot be had.
+fn tell_unread(rt: &HostRuntime) -> u8 {
+    let _ = eprintln!(rt; "dapnorm: read fault");
+    FAULT
 }
 
 fn run(rt: &HostRuntime) -> u8 {
@@ -105,10 +138,7 @@ fn run(rt: &HostRuntime) -> u8 {
         Err(error) if error.kind() == ErrorKind::OutOfMemory => {
             return tell_usage(rt, &UsageFault::Memory);
         }
-        Err(_) => {
-            let _ = eprintln!(rt; "dapnorm: read fault");
-            return FAULT;
-        }
+        Err(_) => return tell_unread(rt),
     };
     match args.collect::<Vec<String>>(alloc) {
         Ok(words) => run_words(rt, alloc, words.as_slice()),

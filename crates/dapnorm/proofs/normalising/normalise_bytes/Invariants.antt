@@ -1,5 +1,6 @@
 use Rattle.std.proofs.Common.{◌≡◌, Some}
 use Rattle.dap_device.specs.Memory.{GivenBytes}
+use Rattle.dap_rename.specs.IndexNames.{index_limit, index_numbers}
 use Rattle.dapnorm.specs.Accepting.{text}
 use Rattle.dapnorm.specs.NormalSteps.{remaining}
 use Rattle.dapnorm.proofs.StreamLoop.{Going}
@@ -8,7 +9,7 @@ use Rattle.dapnorm.proofs.normalising.normalise_bytes.Given as goal
 abbrev pub invariant-loop-text : goal.invariant-loop-text
 invariant-loop-text l =
     record {
-      going : Going (λ (s : GivenBytes). Some s.left) (λ (s : GivenBytes). s.given) (λ (s : GivenBytes). 0) l.fn.limits record { left = l.fn.bytes; given = 0 } l.reader l.records;
+      going : Going index_numbers index_limit (λ (s : GivenBytes). Some s.left) (λ (s : GivenBytes). s.given) (λ (s : GivenBytes). 0) l.fn.limits record { left = l.fn.bytes; given = 0 } l.reader l.records;
       text_is : l.text.items ≡ text going.normal;
     }
 

@@ -7,12 +7,12 @@ use Rattle.dapnorm.proofs.JudgedRecords.{refused_to_write, taken}
 use Rattle.dapnorm.proofs.judging.Judge.judge.Goals as goal
 
 pub returns-in_err-message-clause-judges : goal.returns-in_err-message-clause-judges
-returns-in_err-message-clause-judges c = λ messages normal stands.
+returns-in_err-message-clause-judges g c = λ messages normal stands.
     let because = err_from_is_err_and c.from_residual.result c.from_residual.ensures.1 in
     rw (because.1, because.2) (rw c.as_slice.ensures at c.in_err-message.ensures.err c.args.self.now.limits messages)
 
 pub returns-in_err-self-clause-judges : goal.returns-in_err-self-clause-judges
-returns-in_err-self-clause-judges c = λ messages normal stands.
+returns-in_err-self-clause-judges g c = λ messages normal stands.
     let because = err_from_is_err_and c.from_residual-in_err-self.result c.from_residual-in_err-self.ensures.1 in
     let is : IsMessage (held_of c.args.whole.now) (sent c.in_ok-message.message) = rw c.as_slice.ensures at c.in_ok-message.ensures.ok in
     let says = c.in-Ok.ensures.says messages stands.session in
@@ -22,7 +22,7 @@ returns-in_err-self-clause-judges c = λ messages normal stands.
     _ c.args.number c.args.out.now.items c.append_record.new.out.items c.in_err-self.ensures)
 
 pub returns-clause-judges : goal.returns-clause-judges
-returns-clause-judges c = λ messages normal stands.
+returns-clause-judges g c = λ messages normal stands.
     let is : IsMessage (held_of c.args.whole.now) (sent c.in_ok-message.message) = rw c.as_slice.ensures at c.in_ok-message.ensures.ok in
     let says = c.in-Ok.ensures.says messages stands.session in
     let wrote = c.in_ok-self.ensures in
