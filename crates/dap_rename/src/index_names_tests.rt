@@ -93,6 +93,7 @@ fn names_by_random_hashes(rt: HostRuntime) -> Result<(), Fail> {
     assert!(rt; is_named(&mut table, 70, 1));
     assert!(rt; matches!(table.name(0), Err(NameFault::Full)));
     assert!(rt; matches!(table.find(0), None));
+    assert!(rt; table.len() == 2);
     table.cut(1);
     assert!(rt; is_named(&mut table, 0, 2));
     Ok(())
