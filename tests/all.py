@@ -7,6 +7,9 @@ import time
 
 from report import TOP, toolchain
 
+sys.path.append(os.path.join(TOP, "scripts"))
+from gate_cost import Cost
+
 COUNT = re.compile(r"^(\d+) passed, (\d+) failed$")
 
 
@@ -32,7 +35,10 @@ def counted(name, arguments):
 def main():
     toolchain()
     tests = os.path.join(TOP, "tests")
+    cost = Cost()
     passed, failed = counted("the gate, rt ci", ["rt", "ci"])
+    cost.close()
+    print("\n".join(cost.table()), flush=True)
     if failed == 0:
         for name, script in [
             ("the program on the examples", "program.py"),

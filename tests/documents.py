@@ -17,7 +17,8 @@ def sources(crate):
 
 
 def contract(crate, path):
-    """The text of a public function from its name to its body, in the trait or the impl block of its type where the path has one."""
+    """The text of a public function from its name to its body, in the trait or the impl block of its type where the path has one; also of one
+    that the crate shows of another."""
     *owners, name = path.split("::")
     for text in sources(crate):
         function = rf"pub fn {name}\b.*?^ *\{{"
@@ -30,6 +31,11 @@ def contract(crate, path):
         found = re.search(function, text, re.MULTILINE | re.DOTALL)
         if found:
             return found[0]
+    item = next((it for it in owners if it[0].isupper()), name)
+    for text in sources(crate):
+        for other, names in re.findall(r"^pub use (dap_\w+)::([^;]*);", text, re.MULTILINE):
+            if re.search(rf"\b{item}\b", names):
+                return contract(other, path)
     return None
 
 

@@ -1,14 +1,18 @@
 //! What `check` accepts and what it refuses.
-use crate::devices::TestSource;
-use crate::examples::LIMITS;
+use crate::devices::{Input, whole};
+use crate::examples::{LIMITS, up_to, with_contents};
 use crate::recordings::{
-    CONFIGURED, INITIALIZE, INITIALIZE_RESPONSE, Line, OUTPUT, STOPPED, THREADS, accepted, checked,
-    last_end, recording,
+    CONFIGURED, End, INITIALIZE, INITIALIZE_RESPONSE, Line, OUTPUT, STOPPED, THREADS, accepted,
+    add_record, front, last_end, recording,
 };
-use dap_frame::{FrameFault, FrameLimits};
-use dapnorm::{Limits, MemorySource, MessageFault, RecordCause, Refused, Rule, Source, check};
+use crate::runs::{asks_check, asks_memory_check};
+use dap_frame::FrameFault;
+use dapnorm::{Checked, MessageFault, RecordCause, Refused, Rule};
 use std::alloc::{AllocError, Global};
-use std::test::Fail;
+use std::process::Abort;
+
+/// What `check` answers.
+pub type Answer = Result<Checked, Refused>;
 
 /// A session with an open request of the client.
 pub const OPEN: [Line; 3] = [INITIALIZE, INITIALIZE_RESPONSE, THREADS];
@@ -101,180 +105,170 @@ pub const REFUSED_ENVELOPES: [(&str, MessageFault); 4] = [
     ),
 ];
 
-#[test]
-fn the_empty_recording_is_complete(rt: HostRuntime) -> Result<(), Fail> {
-    let answer = check(rt.alloc(), &mut MemorySource::new(b""), LIMITS, true);
-    assert_eq!(rt; answer, accepted(0, 0, 0));
-    Ok(())
+/// Asks for what `check` answers of bytes where open requests are let be.
+pub fn checks(rt: &impl Abort, alloc: Global, bytes: &[u8], wanted: Answer) {
+    asks_memory_check(rt, alloc, (bytes, LIMITS), false, wanted);
+}
+
+/// Asks for what `check` answers of lines where open requests are let be.
+pub fn checks_lines(rt: &impl Abort, alloc: Global, lines: &[Line], wanted: Answer) {
+    let bytes = recording(rt, alloc, lines);
+    checks(rt, alloc, bytes.as_slice(), wanted);
+}
+
+/// Asks for what `check` answers of lines where open requests are refused.
+fn checks_complete(rt: &impl Abort, alloc: Global, lines: &[Line], wanted: Answer) {
+    let bytes = recording(rt, alloc, lines);
+    asks_memory_check(rt, alloc, (bytes.as_slice(), LIMITS), true, wanted);
 }
 
 #[test]
-fn open_requests_are_counted(rt: HostRuntime) -> Result<(), Fail> {
-    let alloc = rt.alloc();
-    let one = recording(alloc, OPEN.as_slice())?;
-    assert_eq!(rt; checked(alloc, one.as_slice()), accepted(3, 1, 0));
-    let both = recording(alloc, OPEN_ON_BOTH_SIDES.as_slice())?;
-    assert_eq!(rt; checked(alloc, both.as_slice()), accepted(4, 1, 1));
-    for (bytes, client, adapter) in [(one.as_slice(), 1, 0), (both.as_slice(), 1, 1)] {
-        let answer = check(alloc, &mut MemorySource::new(bytes), LIMITS, true);
-        assert_eq!(rt; answer, Err(Refused::Incomplete(client, adapter)));
+fn the_empty_recording_is_complete(rt: HostRuntime) {
+    checks_complete(&rt, rt.alloc(), &[], accepted(0, 0, 0));
+}
+
+#[test]
+fn open_requests_are_counted(rt: HostRuntime) {
+    checks_lines(&rt, rt.alloc(), &OPEN, accepted(3, 1, 0));
+    checks_lines(&rt, rt.alloc(), &OPEN_ON_BOTH_SIDES, accepted(4, 1, 1));
+}
+
+#[test]
+fn a_complete_recording_has_no_open_requests(rt: HostRuntime) {
+    let one = Err(Refused::Incomplete(1, 0));
+    checks_complete(&rt, rt.alloc(), &OPEN, one);
+    let both = Err(Refused::Incomplete(1, 1));
+    checks_complete(&rt, rt.alloc(), &OPEN_ON_BOTH_SIDES, both);
+    checks_complete(&rt, rt.alloc(), &CONFIGURED, accepted(5, 0, 0));
+}
+
+#[test]
+fn a_failed_response_needs_no_body_and_keeps_what_no_row_names(rt: HostRuntime) {
+    checks_lines(&rt, rt.alloc(), &FAILED, accepted(4, 0, 0));
+}
+
+#[test]
+fn output_may_come_before_all_else(rt: HostRuntime) {
+    checks_lines(&rt, rt.alloc(), &[OUTPUT], accepted(1, 0, 0));
+    let early = Err(Refused::Rule(1, Rule::NotInitialized));
+    checks_lines(&rt, rt.alloc(), &[STOPPED], early);
+}
+
+#[test]
+fn refused_records(rt: HostRuntime) {
+    for (bytes, cause) in &REFUSED_RECORDS {
+        checks(&rt, rt.alloc(), bytes, Err(Refused::Record(1, *cause)));
     }
-    let none = recording(alloc, CONFIGURED.as_slice())?;
-    let answer = check(alloc, &mut MemorySource::new(none.as_slice()), LIMITS, true);
-    assert_eq!(rt; answer, accepted(5, 0, 0));
-    Ok(())
 }
 
 #[test]
-fn a_failed_response_needs_no_body_and_keeps_what_no_row_names(
-    rt: HostRuntime,
-) -> Result<(), Fail> {
-    let alloc = rt.alloc();
-    let bytes = recording(alloc, FAILED.as_slice())?;
-    assert_eq!(rt; checked(alloc, bytes.as_slice()), accepted(4, 0, 0));
-    Ok(())
-}
-
-#[test]
-fn output_may_come_before_all_else(rt: HostRuntime) -> Result<(), Fail> {
-    let alloc = rt.alloc();
-    let output = recording(alloc, [OUTPUT].as_slice())?;
-    assert_eq!(rt; checked(alloc, output.as_slice()), accepted(1, 0, 0));
-    let stopped = recording(alloc, [STOPPED].as_slice())?;
-    assert_eq!(rt;
-        checked(alloc, stopped.as_slice()),
-        Err(Refused::Rule(1, Rule::NotInitialized))
-    );
-    Ok(())
-}
-
-#[test]
-fn refused_records(rt: HostRuntime) -> Result<(), Fail> {
-    let alloc = rt.alloc();
-    for (bytes, cause) in REFUSED_RECORDS {
-        assert_eq!(rt; checked(alloc, bytes), Err(Refused::Record(1, cause)));
+fn refused_contents(rt: HostRuntime) {
+    for (line, refused) in &REFUSED_LINES {
+        let lines = [INITIALIZE, INITIALIZE_RESPONSE, *line];
+        checks_lines(&rt, rt.alloc(), &lines, Err(*refused));
     }
-    Ok(())
 }
 
 #[test]
-fn refused_contents(rt: HostRuntime) -> Result<(), Fail> {
-    let alloc = rt.alloc();
-    for (line, wanted) in REFUSED_LINES {
-        let bytes = recording(alloc, [INITIALIZE, INITIALIZE_RESPONSE, line].as_slice())?;
-        assert_eq!(rt; checked(alloc, bytes.as_slice()), Err(wanted));
+fn refused_envelopes(rt: HostRuntime) {
+    for (content, fault) in &REFUSED_ENVELOPES {
+        let refused = Err(Refused::Message(1, *fault));
+        checks_lines(&rt, rt.alloc(), &[(">", *content)], refused);
     }
-    Ok(())
-}
-
-#[test]
-fn refused_envelopes(rt: HostRuntime) -> Result<(), Fail> {
-    let alloc = rt.alloc();
-    for (content, fault) in REFUSED_ENVELOPES {
-        let bytes = recording(alloc, [(">", content)].as_slice())?;
-        assert_eq!(rt;
-            checked(alloc, bytes.as_slice()),
-            Err(Refused::Message(1, fault))
-        );
-    }
-    let least = recording(alloc, LEAST.as_slice())?;
-    assert_eq!(rt; checked(alloc, least.as_slice()), accepted(1, 1, 0));
-    Ok(())
+    checks_lines(&rt, rt.alloc(), &LEAST, accepted(1, 1, 0));
 }
 
 /// A recording whose second record is no message, whose third breaks a rule, and bytes behind that are no record.
-pub fn several_faults(alloc: Global) -> Result<Vec<u8>, AllocError> {
+pub fn several_faults(rt: &impl Abort, alloc: Global) -> Vec<u8> {
     let lines = [INITIALIZE, ("<", "[]"), INITIALIZE_RESPONSE];
-    let mut bytes = recording(alloc, lines.as_slice())?;
-    bytes.push(b'!')?;
-    Ok(bytes)
+    let mut bytes = recording(rt, alloc, &lines);
+    bytes.push(b'!').expect(rt, "no memory");
+    bytes
 }
 
 #[test]
-fn the_first_record_that_is_refused_is_told(rt: HostRuntime) -> Result<(), Fail> {
-    let alloc = rt.alloc();
-    let bytes = several_faults(alloc)?;
-    assert_eq!(rt;
-        checked(alloc, bytes.as_slice()),
-        Err(Refused::Message(2, MessageFault::NotObject))
-    );
+fn the_first_record_that_is_refused_is_told(rt: HostRuntime) {
+    let bytes = several_faults(&rt, rt.alloc());
+    let second = Err(Refused::Message(2, MessageFault::NotObject));
+    checks(&rt, rt.alloc(), bytes.as_slice(), second);
     // A content that is no message is told before the rule that its record would break.
-    let second = recording(alloc, [("<", "{\"type\":\"event\"}")].as_slice())?;
-    assert_eq!(rt;
-        checked(alloc, second.as_slice()),
-        Err(Refused::Message(1, MessageFault::Missing(1)))
+    let no_message = Err(Refused::Message(1, MessageFault::Missing(1)));
+    checks_lines(
+        &rt,
+        rt.alloc(),
+        &[("<", "{\"type\":\"event\"}")],
+        no_message,
     );
-    Ok(())
 }
 
+/// How many bytes of the configured session are taken, and the answer.
+const LIMITED: [(u64, Answer); 6] = [
+    (0, Err(Refused::InputTooLong(1))),
+    (10, Err(Refused::InputTooLong(1))),
+    // The byte past the limit is the marker of the next record.
+    (106, Err(Refused::InputTooLong(2))),
+    // The normal text of two records is longer.
+    (473, Err(Refused::Grew(2))),
+    (1708, Err(Refused::Grew(5))),
+    (1709, WHOLE_SESSION),
+];
+
+const WHOLE_SESSION: Answer = Ok(Checked {
+    records: 5,
+    client_open: 0,
+    adapter_open: 0,
+});
+
 #[test]
-fn inputs_past_the_limit(rt: HostRuntime) -> Result<(), Fail> {
-    let alloc = rt.alloc();
-    let bytes = recording(alloc, CONFIGURED.as_slice())?;
-    assert_eq!(rt; bytes.len(), 473);
-    let table = [
-        (0, Err(Refused::InputTooLong(1))),
-        (10, Err(Refused::InputTooLong(1))),
-        // The byte past the limit is the marker of the next record.
-        (106, Err(Refused::InputTooLong(2))),
-        // The normal text of two records is longer.
-        (473, Err(Refused::Grew(2))),
-        (1708, Err(Refused::Grew(5))),
-        (1709, accepted(5, 0, 0)),
-    ];
-    for (input, wanted) in table {
-        let limits = Limits { input, ..LIMITS };
-        assert!(rt; limits.frame.sound() && input <= 1709);
+fn inputs_past_the_limit(rt: HostRuntime) {
+    let bytes = recording(&rt, rt.alloc(), &CONFIGURED);
+    assert!(rt; bytes.len() == 473);
+    for (most, wanted) in &LIMITED {
         for piece in [1, 65_536] {
-            let mut source = TestSource::new(bytes.as_slice());
-            source.piece = piece;
-            let answer = check(alloc, &mut source, limits, false);
-            assert_eq!(rt; answer, wanted);
+            let input = Input {
+                piece,
+                ..whole(bytes.as_slice())
+            };
+            asks_check(&rt, rt.alloc(), (input, up_to(*most)), false, *wanted);
         }
     }
-    // A fault of an earlier byte comes before the limit.
-    let limits = Limits { input: 1, ..LIMITS };
-    let answer = check(alloc, &mut MemorySource::new(b"!!"), limits, false);
-    assert_eq!(rt; answer, Err(Refused::Record(1, RecordCause::BadMarker)));
-    Ok(())
 }
 
 #[test]
-fn contents_past_their_limit(rt: HostRuntime) -> Result<(), Fail> {
-    let alloc = rt.alloc();
-    let bytes = recording(alloc, [INITIALIZE, INITIALIZE_RESPONSE].as_slice())?;
-    for (content, wanted) in [
-        (
-            81,
-            Err(Refused::Record(1, RecordCause::Frame(FrameFault::ContentTooLong))),
-        ),
-        // The content of the second record is filled in.
-        (82, Err(Refused::Grew(2))),
-        (1314, Err(Refused::Grew(2))),
-        (1315, accepted(2, 0, 0)),
-    ] {
-        let limits = Limits {
-            frame: FrameLimits {
-                header: 4096,
-                content,
-            },
-            ..LIMITS
-        };
-        assert!(rt; limits.frame.sound());
-        let answer = check(
-            alloc,
-            &mut MemorySource::new(bytes.as_slice()),
-            limits,
-            false,
-        );
-        assert_eq!(rt; answer, wanted);
-    }
-    Ok(())
+fn a_fault_of_an_earlier_byte_comes_before_the_limit(rt: HostRuntime) {
+    let refused = Err(Refused::Record(1, RecordCause::BadMarker));
+    asks_memory_check(&rt, rt.alloc(), (b"!!", up_to(1)), false, refused);
 }
 
-/// A recording whose third record has so many lists in one another.
-pub fn nested(alloc: Global, levels: usize) -> Result<Vec<u8>, Fail> {
-    let mut bytes = recording(alloc, [INITIALIZE, INITIALIZE_RESPONSE].as_slice())?;
+/// How long a content may be, and the answer on two records.
+const LIMITED_CONTENTS: [(usize, Answer); 4] = [
+    (
+        81,
+        Err(Refused::Record(1, RecordCause::Frame(FrameFault::ContentTooLong))),
+    ),
+    // The content of the second record is filled in.
+    (82, Err(Refused::Grew(2))),
+    (1314, Err(Refused::Grew(2))),
+    (1315, TWO_RECORDS),
+];
+
+const TWO_RECORDS: Answer = Ok(Checked {
+    records: 2,
+    client_open: 0,
+    adapter_open: 0,
+});
+
+#[test]
+fn contents_past_their_limit(rt: HostRuntime) {
+    let bytes = recording(&rt, rt.alloc(), &[INITIALIZE, INITIALIZE_RESPONSE]);
+    for (content, wanted) in &LIMITED_CONTENTS {
+        let input = (bytes.as_slice(), with_contents(*content));
+        asks_memory_check(&rt, rt.alloc(), input, false, *wanted);
+    }
+}
+
+/// A request with so many lists in one another.
+fn nested_content(alloc: Global, levels: usize) -> Result<String, AllocError> {
     let mut content = String::from_str(alloc, "{\"arguments\":{\"x\":")?;
     for bracket in ["[", "]"] {
         for _ in 0..levels {
@@ -282,64 +276,70 @@ pub fn nested(alloc: Global, levels: usize) -> Result<Vec<u8>, Fail> {
         }
     }
     content.push_str("},\"command\":\"launch\",\"seq\":2,\"type\":\"request\"}")?;
-    let header = format!(in alloc; ">Content-Length: {}\r\n\r\n", content.len())?;
-    bytes.extend_from_slice(header.as_bytes())?;
-    bytes.extend_from_slice(content.as_bytes())?;
-    bytes.push(b'\n')?;
-    Ok(bytes)
+    Ok(content)
+}
+
+/// A recording whose third record has so many lists in one another.
+pub fn nested(rt: &impl Abort, alloc: Global, levels: usize) -> Vec<u8> {
+    let mut bytes = recording(rt, alloc, &[INITIALIZE, INITIALIZE_RESPONSE]);
+    let content = nested_content(alloc, levels).expect(rt, "no memory");
+    add_record(alloc, &mut bytes, ">", content.as_str()).expect(rt, "no memory");
+    bytes
 }
 
 #[test]
-fn contents_nest_127_deep(rt: HostRuntime) -> Result<(), Fail> {
-    let alloc = rt.alloc();
+fn contents_nest_127_deep(rt: HostRuntime) {
     // Two objects stand round the lists.
-    for (levels, wanted) in [(125, accepted(3, 1, 0)), (126, Err(Refused::Json(3)))] {
-        let bytes = nested(alloc, levels)?;
-        assert_eq!(rt; checked(alloc, bytes.as_slice()), wanted);
-    }
-    Ok(())
+    let deep = nested(&rt, rt.alloc(), 125);
+    checks(&rt, rt.alloc(), deep.as_slice(), accepted(3, 1, 0));
+    let deeper = nested(&rt, rt.alloc(), 126);
+    checks(&rt, rt.alloc(), deeper.as_slice(), Err(Refused::Json(3)));
 }
 
 #[test]
-fn an_endless_recording_ends_at_the_limit(rt: HostRuntime) -> Result<(), Fail> {
-    let alloc = rt.alloc();
-    let output = recording(alloc, [OUTPUT].as_slice())?;
-    assert_eq!(rt; output.len(), 88);
-    let limits = Limits {
-        input: 1000,
-        ..LIMITS
+fn an_endless_recording_ends_at_the_limit(rt: HostRuntime) {
+    let output = recording(&rt, rt.alloc(), &[OUTPUT]);
+    assert!(rt; output.len() == 88);
+    let input = Input {
+        then: output.as_slice(),
+        piece: 64,
+        ..whole(b"")
     };
-    let mut source = TestSource::new(b"");
-    source.then = output.as_slice();
-    source.piece = 64;
-    let answer = check(alloc, &mut source, limits, false);
     // Eleven records have 968 bytes; the byte past the limit stands in the twelfth.
-    assert_eq!(rt; answer, Err(Refused::InputTooLong(12)));
-    assert_eq!(rt; source.given(), 1001);
-    Ok(())
+    let refused = Err(Refused::InputTooLong(12));
+    let given = asks_check(&rt, rt.alloc(), (input, up_to(1000)), false, refused);
+    assert!(rt; given == 1001);
+}
+
+/// What is answered of so many bytes of the configured session.
+fn cut_at(place: usize) -> Answer {
+    let End {
+        records,
+        at,
+        client_open,
+        ..
+    } = last_end(place);
+    if at == place {
+        accepted(records, client_open, 0)
+    } else {
+        Err(Refused::Record(records.saturating_add(1), RecordCause::Cut))
+    }
+}
+
+/// The same where open requests are refused. That requests are open is not told of a recording that was cut.
+fn incomplete_at(place: usize) -> Answer {
+    match cut_at(place) {
+        Ok(told) if told.client_open != 0 => Err(Refused::Incomplete(told.client_open, 0)),
+        other => other,
+    }
 }
 
 #[test]
-fn a_recording_cut_at_each_place(rt: HostRuntime) -> Result<(), Fail> {
-    let alloc = rt.alloc();
-    let bytes = recording(alloc, CONFIGURED.as_slice())?;
+fn a_recording_cut_at_each_place(rt: HostRuntime) {
+    let bytes = recording(&rt, rt.alloc(), &CONFIGURED);
     for place in 0..=473usize {
-        let front = bytes.as_slice().get(..place).ok_or("too far")?;
-        let end = last_end(place);
-        let cut = Refused::Record(end.records.saturating_add(1), RecordCause::Cut);
-        let wanted = if end.at == place {
-            accepted(end.records, end.client_open, 0)
-        } else {
-            Err(cut)
-        };
-        assert_eq!(rt; checked(alloc, front), wanted, "cut at {place}");
-        // That requests are open is not told of a recording that was cut.
-        let complete = check(alloc, &mut MemorySource::new(front), LIMITS, true);
-        let incomplete = match wanted {
-            Ok(told) if told.client_open != 0 => Err(Refused::Incomplete(told.client_open, 0)),
-            other => other,
-        };
-        assert_eq!(rt; complete, incomplete, "cut at {place}");
+        let cut = (front(&rt, bytes.as_slice(), place), LIMITS);
+        asks_memory_check(&rt, rt.alloc(), cut, false, cut_at(place));
+        asks_memory_check(&rt, rt.alloc(), cut, true, incomplete_at(place));
     }
-    Ok(())
 }

@@ -1,72 +1,131 @@
 //! The words of a command line, and what the program prints of them.
-use dapnorm::{Job, MemorySink, UsageFault, job, run_usage};
-use std::test::Fail;
+ghost use Rattle.std.specs.Prelude.{◌<◌, ◌^◌};
 
-#[test]
-fn words_that_are_a_job(rt: HostRuntime) -> Result<(), Fail> {
-    let words = ["dapnorm", "compact"];
-    match job(rt.alloc(), words.as_slice()) {
-        Ok(job) => assert_eq!(rt; job, Job::Compact),
-        Err(fault) => assert!(rt; false, "{fault:?}"),
-    }
-    Ok(())
+use dapnorm::{Job, MemorySink, Sink, UsageFault, job, run_usage};
+use std::alloc::Global;
+use std::process::Abort;
+
+/// Words, and the job that they are.
+const JOBS: [(&[&str], Job<'static>); 7] = [
+    (&["dapnorm", "compact"], Job::Compact),
+    (&["dapnorm", "record"], Job::Record),
+    (&["dapnorm", "normalise"], Job::Normalise),
+    (&["dapnorm", "show"], Job::Show),
+    (&["dapnorm", "check"], Job::Check { complete: false }),
+    (
+        &["dapnorm", "check", "--complete"],
+        Job::Check { complete: true },
+    ),
+    (
+        &["dapnorm", "compare", "a.rec", "b.rec"],
+        Job::Compare {
+            a: "a.rec",
+            b: "b.rec",
+        },
+    ),
+];
+
+fn is_job(alloc: Global, words: &[&str], wanted: &Job) -> bool {
+    matches!(job(alloc, words), Ok(found) if found == *wanted)
 }
 
 #[test]
-fn no_subcommand_and_a_wrong_one(rt: HostRuntime) -> Result<(), Fail> {
-    let alloc = rt.alloc();
-    let alone = ["dapnorm"];
-    let unknown = ["dapnorm", "compacted"];
-    let extra = ["dapnorm", "compact", "file"];
-    for words in [alone.as_slice(), unknown.as_slice(), extra.as_slice()] {
-        let mut sink = MemorySink::new(alloc, 4096)?;
-        let mut errors = MemorySink::new(alloc, 4096)?;
-        match job(alloc, words) {
-            Ok(job) => assert!(rt; false, "{job:?}"),
-            Err(fault) => {
-                assert_eq!(rt; run_usage(&fault, &mut sink, &mut errors), 3);
-                assert_eq!(rt; sink.bytes().len(), 0);
-                assert!(rt; errors.bytes().starts_with(b"error: "), "{fault:?}");
-                assert!(rt; errors.bytes().ends_with(b"\n"), "{fault:?}");
-            }
-        }
+fn words_that_are_a_job(rt: HostRuntime) {
+    for (words, wanted) in &JOBS {
+        assert!(rt; is_job(rt.alloc(), words, wanted), "{wanted:?}");
     }
-    Ok(())
+}
+
+/// The status where words are no job.
+fn usage_status<W: Sink, E: Sink>(fault: &UsageFault, writer: &mut W, errors: &mut E) -> u8
+    requires write_failures { W.failures writer.old < 2 ^ 62 }
+    requires error_failures { E.failures errors.old < 2 ^ 62 }
+{
+    run_usage(fault, writer, errors)
+}
+
+/// What the program prints where words are no job, with so much room for it, and its status.
+#[derive(Drop)]
+struct Usage {
+    status: u8,
+    printed: MemorySink,
+    errors: MemorySink,
+}
+
+fn usage_of(rt: &impl Abort, alloc: Global, fault: &UsageFault, room: usize) -> Usage {
+    let mut printed = MemorySink::new(alloc, room).expect(rt, "no memory");
+    let mut errors = MemorySink::new(alloc, 4096).expect(rt, "no memory");
+    let status = usage_status(fault, &mut printed, &mut errors);
+    Usage {
+        status,
+        printed,
+        errors,
+    }
+}
+
+/// Why these words are no job.
+fn fault_of(rt: &impl Abort, alloc: Global, words: &[&str]) -> UsageFault {
+    job(alloc, words).err().expect(rt, "a job")
+}
+
+/// No subcommand, wrong ones, and words that one does not take.
+const NO_JOBS: [&[&str]; 7] = [
+    &["dapnorm"],
+    &["dapnorm", "compacted"],
+    &["dapnorm", "compact", "file"],
+    &["dapnorm", "check", "--complete", "--complete"],
+    &["dapnorm", "compact", "--complete"],
+    &["dapnorm", "check", "file"],
+    &["dapnorm", "compare", "a.rec"],
+];
+
+/// Whether these are lines that tell of an error.
+fn tells_error(told: &[u8]) -> bool {
+    told.starts_with(b"error: ") && told.ends_with(b"\n")
 }
 
 #[test]
-fn help_that_was_asked_for(rt: HostRuntime) -> Result<(), Fail> {
-    let alloc = rt.alloc();
-    let flag = ["dapnorm", "--help"];
-    let of_compact = ["dapnorm", "compact", "--help"];
-    for words in [flag.as_slice(), of_compact.as_slice()] {
-        match job(alloc, words) {
-            Err(UsageFault::Help(text)) => {
-                assert!(rt; text.contains("Usage: dapnorm"), "{text}");
-                let fault = UsageFault::Help(text);
-                let mut sink = MemorySink::new(alloc, 4096)?;
-                let mut errors = MemorySink::new(alloc, 4096)?;
-                assert_eq!(rt; run_usage(&fault, &mut sink, &mut errors), 0);
-                assert!(rt; !sink.bytes().is_empty());
-                assert_eq!(rt; errors.bytes().len(), 0);
-
-                let mut full = MemorySink::new(alloc, 10)?;
-                let mut errors = MemorySink::new(alloc, 4096)?;
-                assert_eq!(rt; run_usage(&fault, &mut full, &mut errors), 4);
-            }
-            other => assert!(rt; false, "{other:?}"),
-        }
+fn words_that_are_no_job(rt: HostRuntime) {
+    for words in &NO_JOBS {
+        let fault = fault_of(&rt, rt.alloc(), words);
+        let usage = usage_of(&rt, rt.alloc(), &fault, 4096);
+        assert!(rt; usage.status == 3);
+        assert!(rt; usage.printed.bytes().is_empty());
+        assert!(rt; tells_error(usage.errors.bytes()), "{fault:?}");
     }
-    Ok(())
+}
+
+/// Words that ask for help, and what it contains.
+const HELP: [(&[&str], &str); 4] = [
+    (&["dapnorm", "--help"], "Usage: dapnorm"),
+    (&["dapnorm", "compact", "--help"], "Usage: dapnorm"),
+    (
+        &["dapnorm", "check", "--help"],
+        "Usage: dapnorm check [OPTIONS]",
+    ),
+    (&["dapnorm", "check", "--help"], "--complete"),
+];
+
+fn is_help(fault: &UsageFault, part: &str) -> bool {
+    matches!(fault, UsageFault::Help(text) if text.contains(part))
 }
 
 #[test]
-fn want_of_memory_is_told(rt: HostRuntime) -> Result<(), Fail> {
-    let alloc = rt.alloc();
-    let mut sink = MemorySink::new(alloc, 4096)?;
-    let mut errors = MemorySink::new(alloc, 4096)?;
-    assert_eq!(rt; run_usage(&UsageFault::Memory, &mut sink, &mut errors), 5);
-    assert_eq!(rt; sink.bytes().len(), 0);
-    assert_eq!(rt; errors.bytes(), b"dapnorm: out of memory\n".as_slice());
-    Ok(())
+fn help_that_was_asked_for(rt: HostRuntime) {
+    for (words, part) in &HELP {
+        let fault = fault_of(&rt, rt.alloc(), words);
+        assert!(rt; is_help(&fault, part), "{fault:?}");
+        let printed = usage_of(&rt, rt.alloc(), &fault, 4096);
+        assert!(rt; printed.status == 0 && !printed.printed.bytes().is_empty());
+        assert!(rt; printed.errors.bytes().is_empty());
+        assert!(rt; usage_of(&rt, rt.alloc(), &fault, 10).status == 4);
+    }
+}
+
+#[test]
+fn want_of_memory_is_told(rt: HostRuntime) {
+    let told = usage_of(&rt, rt.alloc(), &UsageFault::Memory, 4096);
+    assert!(rt; told.status == 5);
+    assert!(rt; told.printed.bytes().is_empty());
+    assert!(rt; told.errors.bytes() == b"dapnorm: out of memory\n".as_slice());
 }

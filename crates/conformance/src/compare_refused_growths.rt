@@ -3,173 +3,171 @@
 //!
 //! tests/fault_injection.py runs these under a shim that refuses. Without it each makes one turn with ample memory.
 use crate::comparing::{EXCHANGED, FRAMES};
-use crate::examples::{LIMITS, index_tables};
-use crate::recordings::{INITIALIZE, INITIALIZE_RESPONSE, recording};
-use dap_message::{Message, Side, typed};
+use crate::devices::whole;
+use crate::engines::compare_status;
+use crate::examples::{IndexTable, LIMITS, index_tables};
+use crate::growths::{tells_memory_or, was_wanted};
+use crate::recordings::{ANSWERED_TWICE, Line, recording};
+use crate::runs::{Compared, comparison_of, verdict_on};
+use dap_message::{Message, MessageFault, Side, typed};
 use dap_rename::{NameFault, Names, Pair, PairFault, Renaming};
 use dap_tree::{Sort, read_tree};
-use dapnorm::{
-    CompareRefused, MemorySink, MemorySource, Refused, Rule, Verdict, Which, compare, run_compare,
-};
+use dapnorm::{CompareRefused, MemorySink, MemorySource, Refused, Rule, Which};
 use fault_injection::{refuse_growth, was_refused};
 use std::alloc::Global;
-use std::test::Fail;
+use std::process::Abort;
+
+/// Asks for the answer with this growth refused. Whether it was.
+fn asks_turn(
+    rt: &impl Abort,
+    alloc: Global,
+    (a, b): (&[u8], &[u8]),
+    wanted: Compared,
+    turn: u16,
+) -> bool {
+    refuse_growth(alloc, turn);
+    let answer = verdict_on(alloc, whole(a), whole(b));
+    let is_refused = was_refused(alloc);
+    let found = comparison_of(&answer);
+    if found == Compared::Refused(CompareRefused::Memory) {
+        was_wanted(rt, is_refused, turn);
+    } else {
+        assert!(rt; found == wanted);
+    }
+    is_refused
+}
+
+fn asks_each_turn(rt: &impl Abort, alloc: Global, a: &[Line], b: &[Line], wanted: Compared) {
+    let a = recording(rt, alloc, a);
+    let b = recording(rt, alloc, b);
+    let both = (a.as_slice(), b.as_slice());
+    for turn in 1..10_000u16 {
+        if !asks_turn(rt, alloc, both, wanted, turn) {
+            break;
+        }
+    }
+}
+
+#[test]
+fn compare_is_refused_in_turn(rt: HostRuntime) {
+    let alloc = rt.alloc();
+    asks_each_turn(&rt, alloc, &[], &[], Compared::Same(0));
+    asks_each_turn(&rt, alloc, &FRAMES, &EXCHANGED, Compared::Same(6));
+    asks_each_turn(&rt, alloc, &FRAMES, &[], Compared::Differ(1));
+    let refused = CompareRefused::Input(Which::B, Refused::Rule(3, Rule::AnsweredTwice));
+    let wanted = Compared::Refused(refused);
+    asks_each_turn(&rt, alloc, &FRAMES, &ANSWERED_TWICE, wanted);
+}
+
+/// What the program prints of recordings with exchanged frame ids.
+const PRINTED: &[u8] =
+    b"same\nclient-seq 1 1\nclient-seq 2 2\nadapter-seq 1 1\nadapter-seq 2 2\nframe 1000 1001\nframe 1001 1000\n";
+
+/// Asks for what is printed of two recordings with this growth refused. Whether it was.
+fn tells_turn(rt: &impl Abort, alloc: Global, (a, b): (&[u8], &[u8]), turn: u16) -> bool {
+    let (mut a, mut b) = (MemorySource::new(a), MemorySource::new(b));
+    let mut sink = MemorySink::new(alloc, 4096).expect(rt, "no memory");
+    let mut errors = MemorySink::new(alloc, 4096).expect(rt, "no memory");
+    refuse_growth(alloc, turn);
+    let status = compare_status(alloc, &mut a, &mut b, &mut sink, &mut errors, LIMITS);
+    let is_refused = was_refused(alloc);
+    let told = (Some(status), is_refused, turn);
+    tells_memory_or(rt, told, (sink.bytes(), errors.bytes()), PRINTED);
+    is_refused
+}
+
+#[test]
+fn run_compare_is_refused_in_turn(rt: HostRuntime) {
+    let frames = recording(&rt, rt.alloc(), &FRAMES);
+    let exchanged = recording(&rt, rt.alloc(), &EXCHANGED);
+    let both = (frames.as_slice(), exchanged.as_slice());
+    for turn in 1..10_000u16 {
+        if !tells_turn(&rt, rt.alloc(), both, turn) {
+            break;
+        }
+    }
+}
+
+const EXCHANGED_PAIRS: [Pair; 2] = [
+    Pair {
+        sort: Sort::Frame,
+        from: 5,
+        to: 6,
+    },
+    Pair {
+        sort: Sort::Frame,
+        from: 6,
+        to: 5,
+    },
+];
+
+/// Asks for the renaming with this growth refused. Whether it was.
+fn renames_turn(rt: &impl Abort, alloc: Global, turn: u16) -> bool {
+    refuse_growth(alloc, turn);
+    let answer = Renaming::new(alloc, &EXCHANGED_PAIRS);
+    let is_refused = was_refused(alloc);
+    match answer {
+        Ok(renaming) => assert!(rt; renaming.pairs() == EXCHANGED_PAIRS.as_slice()),
+        Err(fault) => {
+            assert!(rt; fault == PairFault::Memory);
+            was_wanted(rt, is_refused, turn);
+        }
+    }
+    is_refused
+}
+
+#[test]
+fn a_renaming_is_refused_in_turn(rt: HostRuntime) {
+    for turn in 1..1_000u16 {
+        if !renames_turn(&rt, rt.alloc(), turn) {
+            break;
+        }
+    }
+}
 
 /// A request with a frame id.
 const SCOPES_REQUEST: &str =
     "{\"arguments\":{\"frameId\":5},\"command\":\"scopes\",\"seq\":8,\"type\":\"request\"}";
 
-/// What `compare` answers, as the number of pairs or of the record where they differ.
-#[derive(Clone, Copy, Debug, PartialEq, Eq)]
-enum Outcome {
-    Same(usize),
-    Differ(u64),
-    Refused(CompareRefused),
-}
-
-fn outcome_of(answer: Result<Verdict, CompareRefused>) -> Outcome {
-    match answer {
-        Ok(Verdict::Same(renaming)) => Outcome::Same(renaming.pairs().len()),
-        Ok(Verdict::Differ(record)) => Outcome::Differ(record),
-        Err(refused) => Outcome::Refused(refused),
+fn request(alloc: Global) -> Result<Message, MessageFault> {
+    match read_tree(alloc, SCOPES_REQUEST.as_bytes()) {
+        Ok(tree) => typed(alloc, Side::Client, tree),
+        Err(_) => Err(MessageFault::Memory),
     }
 }
 
-#[test]
-fn compare_is_refused_in_turn(rt: HostRuntime) -> Result<(), Fail> {
-    let alloc = rt.alloc();
-    let frames = recording(alloc, FRAMES.as_slice())?;
-    let exchanged = recording(alloc, EXCHANGED.as_slice())?;
-    let twice = recording(
-        alloc,
-        [INITIALIZE, INITIALIZE_RESPONSE, INITIALIZE_RESPONSE].as_slice(),
-    )?;
-    let refused = CompareRefused::Input(Which::B, Refused::Rule(3, Rule::AnsweredTwice));
-    for (a, b, wanted) in [
-        (b"".as_slice(), b"".as_slice(), Outcome::Same(0)),
-        (frames.as_slice(), exchanged.as_slice(), Outcome::Same(6)),
-        (frames.as_slice(), b"".as_slice(), Outcome::Differ(1)),
-        (
-            frames.as_slice(),
-            twice.as_slice(),
-            Outcome::Refused(refused),
-        ),
-    ] {
-        for turn in 1..10_000u16 {
-            refuse_growth(alloc, turn);
-            let answer = compare(
-                alloc,
-                &mut MemorySource::new(a),
-                &mut MemorySource::new(b),
-                LIMITS,
-            );
-            let is_refused = was_refused(alloc);
-            match outcome_of(answer) {
-                Outcome::Refused(CompareRefused::Memory) => {
-                    assert!(rt; is_refused, "memory was there at turn {turn}");
-                }
-                other => assert_eq!(rt; other, wanted),
-            }
-            if !is_refused {
-                break;
-            }
-        }
-    }
-    Ok(())
+/// The pairs between the names and themselves.
+fn own_pairs(alloc: Global, names: &Names<IndexTable>) -> Result<usize, NameFault> {
+    Ok(Renaming::between(alloc, names, names)?.pairs().len())
 }
 
-#[test]
-fn run_compare_is_refused_in_turn(rt: HostRuntime) -> Result<(), Fail> {
-    let alloc = rt.alloc();
-    let frames = recording(alloc, FRAMES.as_slice())?;
-    let exchanged = recording(alloc, EXCHANGED.as_slice())?;
-    for turn in 1..10_000u16 {
-        let mut writer = MemorySink::new(alloc, 4096)?;
-        let mut errors = MemorySink::new(alloc, 4096)?;
-        refuse_growth(alloc, turn);
-        let status = run_compare(
-            alloc,
-            &mut MemorySource::new(frames.as_slice()),
-            &mut MemorySource::new(exchanged.as_slice()),
-            &mut writer,
-            &mut errors,
-            LIMITS,
-        );
-        let is_refused = was_refused(alloc);
-        if status == 5 {
-            assert!(rt; is_refused, "memory was there at turn {turn}");
-            assert!(rt; writer.bytes().is_empty());
-            assert_eq!(rt; errors.bytes(), b"dapnorm: out of memory\n".as_slice());
-        } else {
-            assert_eq!(rt; status, 0);
-            assert!(rt; errors.bytes().is_empty());
-        }
-        if !is_refused {
-            break;
-        }
+/// Asks for the two pairs between the names of a request with this growth refused. Whether it was.
+fn pairs_turn(rt: &impl Abort, alloc: Global, names: &Names<IndexTable>, turn: u16) -> bool {
+    refuse_growth(alloc, turn);
+    let answer = own_pairs(alloc, names);
+    let is_refused = was_refused(alloc);
+    if answer == Err(NameFault::Memory) {
+        was_wanted(rt, is_refused, turn);
+    } else {
+        assert!(rt; answer == Ok(2));
     }
-    Ok(())
+    is_refused
 }
 
-#[test]
-fn a_renaming_is_refused_in_turn(rt: HostRuntime) -> Result<(), Fail> {
-    let alloc = rt.alloc();
-    let pair = |from: i64, to: i64| Pair {
-        sort: Sort::Frame,
-        from,
-        to,
-    };
-    let exchanged = [pair(5, 6), pair(6, 5)];
-    for turn in 1..1_000u16 {
-        refuse_growth(alloc, turn);
-        let answer = Renaming::new(alloc, &exchanged);
-        let is_refused = was_refused(alloc);
-        match answer {
-            Ok(renaming) => assert!(rt; renaming.pairs() == exchanged.as_slice()),
-            Err(fault) => {
-                assert!(rt; fault == PairFault::Memory);
-                assert!(rt; is_refused, "memory was there at turn {turn}");
-            }
-        }
-        if !is_refused {
-            break;
-        }
-    }
-    Ok(())
-}
-
-/// A request of the client, with ample memory.
-fn request(alloc: Global) -> Result<Message, Fail> {
-    let Ok(tree) = read_tree(alloc, SCOPES_REQUEST.as_bytes()) else {
-        return Err("no tree".into());
-    };
-    match typed(alloc, Side::Client, tree) {
-        Ok(message) => Ok(message),
-        Err(_) => Err("no message".into()),
-    }
-}
-
-#[test]
-fn the_renaming_between_names_is_refused_in_turn(rt: HostRuntime) -> Result<(), Fail> {
-    let alloc = rt.alloc();
+/// The names of a request.
+fn request_names(rt: &impl Abort, alloc: Global) -> Names<IndexTable> {
     let mut names = Names::new(alloc, index_tables(alloc, 9));
-    if names.rename(request(alloc)?).is_err() {
-        return Err("not renamed".into());
-    }
+    let request = request(alloc).expect(rt, "no message");
+    assert!(rt; names.rename(request).is_ok());
+    names
+}
+
+#[test]
+fn the_renaming_between_names_is_refused_in_turn(rt: HostRuntime) {
+    let names = request_names(&rt, rt.alloc());
     for turn in 1..1_000u16 {
-        refuse_growth(alloc, turn);
-        let answer = Renaming::between(alloc, &names, &names);
-        let is_refused = was_refused(alloc);
-        match answer {
-            Ok(renaming) => assert_eq!(rt; renaming.pairs().len(), 2),
-            Err(fault) => {
-                assert_eq!(rt; fault, NameFault::Memory);
-                assert!(rt; is_refused, "memory was there at turn {turn}");
-            }
-        }
-        if !is_refused {
+        if !pairs_turn(&rt, rt.alloc(), &names, turn) {
             break;
         }
     }
-    Ok(())
 }

@@ -1,14 +1,17 @@
 //! What `compare` answers, and what the program prints of it.
+use crate::devices::whole;
+use crate::engines::normal_text;
 use crate::examples::LIMITS;
-use crate::recordings::{CONFIGURED, INITIALIZE, INITIALIZE_RESPONSE, Line, STOPPED, recording};
-use dap_message::{Message, Side, typed};
-use dap_tree::read_tree;
-use dapnorm::{
-    CompareRefused, Job, MemorySink, MemorySource, Refused, Rule, Verdict, Which, compare, job,
-    normalise_bytes, run_compare,
+use crate::recordings::{
+    ANSWERED_TWICE, CONFIGURATION_DONE, CONFIGURED, INITIALIZE, INITIALIZE_RESPONSE, INITIALIZED,
+    Line, STOPPED, recording,
 };
-use std::alloc::{AllocError, Global};
-use std::test::Fail;
+use crate::runs::{Compared, asks_memory_compare, tells_both, verdict_on};
+use dap_message::{Message, MessageFault, Side, typed};
+use dap_tree::read_tree;
+use dapnorm::{CompareRefused, Refused, Rule, Verdict, Which};
+use std::alloc::Global;
+use std::process::Abort;
 
 const STACK_TRACE: Line = (
     ">",
@@ -107,226 +110,149 @@ pub const NEW_FRAME: [Line; 8] = [
     ),
 ];
 
-/// What the program prints of two inputs, tells of them, and its status.
-#[derive(Drop)]
-struct Outcome {
-    printed: Vec<u8>,
-    errors: Vec<u8>,
-    status: u8,
-}
-
-fn told(alloc: Global, a: &[u8], b: &[u8]) -> Result<Outcome, Fail> {
-    let mut writer = MemorySink::new(alloc, 4096)?;
-    let mut errors = MemorySink::new(alloc, 4096)?;
-    let status = run_compare(
+/// Asks for what the program prints of two recordings, where nothing is wrong with them.
+fn prints(rt: &impl Abort, alloc: Global, a: &[Line], b: &[Line], status: u8, printed: &[u8]) {
+    let a = recording(rt, alloc, a);
+    let b = recording(rt, alloc, b);
+    tells_both(
+        rt,
         alloc,
-        &mut MemorySource::new(a),
-        &mut MemorySource::new(b),
-        &mut writer,
-        &mut errors,
-        LIMITS,
-    );
-    Ok(Outcome {
-        printed: Vec::from_slice(alloc, writer.bytes())?,
-        errors: Vec::from_slice(alloc, errors.bytes())?,
+        (a.as_slice(), b.as_slice()),
         status,
-    })
+        printed,
+        b"",
+    );
 }
 
-/// What the program prints of two recordings, where nothing is wrong with them.
-fn printed(alloc: Global, a: &[Line], b: &[Line], status: u8) -> Result<Vec<u8>, Fail> {
-    let a = recording(alloc, a)?;
-    let b = recording(alloc, b)?;
-    let told = told(alloc, a.as_slice(), b.as_slice())?;
-    if told.status != status || !told.errors.is_empty() {
-        return Err("another status".into());
+fn message(alloc: Global, (marker, content): Line) -> Result<Message, MessageFault> {
+    let side = if marker == ">" {
+        Side::Client
+    } else {
+        Side::Adapter
+    };
+    match read_tree(alloc, content.as_bytes()) {
+        Ok(tree) => typed(alloc, side, tree),
+        Err(_) => Err(MessageFault::Memory),
     }
-    Ok(told.printed)
 }
 
 /// The messages of a recording.
-fn messages(alloc: Global, lines: &[Line]) -> Result<Vec<Message>, Fail> {
+fn messages(rt: &impl Abort, alloc: Global, lines: &[Line]) -> Vec<Message> {
     let mut messages = Vec::new(alloc);
-    for (marker, content) in lines {
-        let side = match *marker {
-            ">" => Side::Client,
-            _ => Side::Adapter,
-        };
-        let Ok(tree) = read_tree(alloc, content.as_bytes()) else {
-            return Err("no tree".into());
-        };
-        let Ok(message) = typed(alloc, side, tree) else {
-            return Err("no message".into());
-        };
-        messages.push(message)?;
+    for line in lines {
+        let message = message(alloc, *line).expect(rt, "no message");
+        messages.push(message).expect(rt, "no memory");
     }
-    Ok(messages)
+    messages
 }
 
-#[test]
-fn same_recordings_are_carried_by_their_renaming(rt: HostRuntime) -> Result<(), Fail> {
-    let alloc = rt.alloc();
-    let table: [(&[Line], &[Line]); 3] = [
-        (FRAMES.as_slice(), EXCHANGED.as_slice()),
-        ([].as_slice(), [].as_slice()),
-        (UNNUMBERED.as_slice(), UNNUMBERED.as_slice()),
-    ];
-    for (a, b) in table {
-        let bytes_a = recording(alloc, a)?;
-        let bytes_b = recording(alloc, b)?;
-        let answer = compare(
-            alloc,
-            &mut MemorySource::new(bytes_a.as_slice()),
-            &mut MemorySource::new(bytes_b.as_slice()),
-            LIMITS,
-        );
-        let Ok(Verdict::Same(renaming)) = answer else {
-            return Err("not the same".into());
-        };
-        let from = messages(alloc, a)?;
-        let to = messages(alloc, b)?;
-        assert!(rt; renaming.carries(from.as_slice(), to.as_slice()));
+/// Asks that a renaming carries the messages of the one recording to those of the other.
+fn are_carried(rt: &impl Abort, alloc: Global, a: &[Line], b: &[Line]) {
+    let bytes_a = recording(rt, alloc, a);
+    let bytes_b = recording(rt, alloc, b);
+    let answer = verdict_on(alloc, whole(bytes_a.as_slice()), whole(bytes_b.as_slice()));
+    let from = messages(rt, alloc, a);
+    let to = messages(rt, alloc, b);
+    match answer {
+        Ok(Verdict::Same(renaming)) => {
+            assert!(rt; renaming.carries(from.as_slice(), to.as_slice()))
+        }
+        _ => assert!(rt; false, "not the same"),
     }
-    Ok(())
 }
 
 #[test]
-fn exchanged_frame_ids_are_the_same(rt: HostRuntime) -> Result<(), Fail> {
-    let lines = printed(rt.alloc(), FRAMES.as_slice(), EXCHANGED.as_slice(), 0)?;
-    assert_eq!(rt;
-        lines.as_slice(),
-        b"same\nclient-seq 1 1\nclient-seq 2 2\nadapter-seq 1 1\nadapter-seq 2 2\nframe 1000 1001\nframe 1001 1000\n".as_slice()
-    );
-    Ok(())
+fn same_recordings_are_carried_by_their_renaming(rt: HostRuntime) {
+    are_carried(&rt, rt.alloc(), &FRAMES, &EXCHANGED);
+    are_carried(&rt, rt.alloc(), &[], &[]);
+    are_carried(&rt, rt.alloc(), &UNNUMBERED, &UNNUMBERED);
+}
+
+const EXCHANGED_PAIRS: &[u8] =
+    b"same\nclient-seq 1 1\nclient-seq 2 2\nadapter-seq 1 1\nadapter-seq 2 2\nframe 1000 1001\nframe 1001 1000\n";
+
+#[test]
+fn exchanged_frame_ids_are_the_same(rt: HostRuntime) {
+    prints(&rt, rt.alloc(), &FRAMES, &EXCHANGED, 0, EXCHANGED_PAIRS);
 }
 
 #[test]
-fn empty_recordings_are_the_same(rt: HostRuntime) -> Result<(), Fail> {
-    let lines = printed(rt.alloc(), [].as_slice(), [].as_slice(), 0)?;
-    assert_eq!(rt; lines.as_slice(), b"same\n".as_slice());
-    Ok(())
+fn empty_recordings_are_the_same(rt: HostRuntime) {
+    prints(&rt, rt.alloc(), &[], &[], 0, b"same\n");
 }
 
 #[test]
-fn an_adapter_that_numbers_nothing_differs_where_a_number_comes_again(
-    rt: HostRuntime,
-) -> Result<(), Fail> {
-    let lines = printed(rt.alloc(), CONFIGURED.as_slice(), UNNUMBERED.as_slice(), 1)?;
-    assert_eq!(rt; lines.as_slice(), b"differ 3\n".as_slice());
-    Ok(())
+fn an_adapter_that_numbers_nothing_differs_where_a_number_comes_again(rt: HostRuntime) {
+    prints(&rt, rt.alloc(), &CONFIGURED, &UNNUMBERED, 1, b"differ 3\n");
 }
 
 #[test]
-fn a_stale_frame_id_differs_from_a_new_one(rt: HostRuntime) -> Result<(), Fail> {
-    let alloc = rt.alloc();
-    let lines = printed(alloc, STALE_FRAME.as_slice(), NEW_FRAME.as_slice(), 1)?;
-    assert_eq!(rt; lines.as_slice(), b"differ 8\n".as_slice());
-    Ok(())
+fn a_stale_frame_id_differs_from_a_new_one(rt: HostRuntime) {
+    prints(&rt, rt.alloc(), &STALE_FRAME, &NEW_FRAME, 1, b"differ 8\n");
 }
 
+/// The configured session without its last record.
+pub const CONFIGURING: [Line; 4] = [
+    INITIALIZE,
+    INITIALIZE_RESPONSE,
+    INITIALIZED,
+    CONFIGURATION_DONE,
+];
+
 #[test]
-fn a_front_of_a_recording_differs_where_it_ends(rt: HostRuntime) -> Result<(), Fail> {
-    let alloc = rt.alloc();
-    let front: &[Line] = &CONFIGURED[..4];
-    let lines = printed(alloc, CONFIGURED.as_slice(), front, 1)?;
-    assert_eq!(rt; lines.as_slice(), b"differ 5\n".as_slice());
-    let lines = printed(alloc, front, CONFIGURED.as_slice(), 1)?;
-    assert_eq!(rt; lines.as_slice(), b"differ 5\n".as_slice());
-    Ok(())
+fn a_front_of_a_recording_differs_where_it_ends(rt: HostRuntime) {
+    prints(&rt, rt.alloc(), &CONFIGURED, &CONFIGURING, 1, b"differ 5\n");
+    prints(&rt, rt.alloc(), &CONFIGURING, &CONFIGURED, 1, b"differ 5\n");
 }
 
 /// A recording that differs from the configured session at the third record, and is no recording behind it.
-pub fn faulty_behind_a_difference(alloc: Global) -> Result<Vec<u8>, AllocError> {
-    let mut bytes = recording(alloc, &UNNUMBERED[..4])?;
-    bytes.push(b'!')?;
-    Ok(bytes)
+pub fn faulty_behind_a_difference(rt: &impl Abort, alloc: Global) -> Vec<u8> {
+    let mut bytes = recording(rt, alloc, &UNNUMBERED[..4]);
+    bytes.push(b'!').expect(rt, "no memory");
+    bytes
 }
 
 #[test]
-fn nothing_is_judged_behind_a_difference(rt: HostRuntime) -> Result<(), Fail> {
-    let alloc = rt.alloc();
-    let a = recording(alloc, CONFIGURED.as_slice())?;
-    let b = faulty_behind_a_difference(alloc)?;
-    let told = told(alloc, a.as_slice(), b.as_slice())?;
-    assert_eq!(rt; told.status, 1);
-    assert_eq!(rt; told.printed.as_slice(), b"differ 3\n".as_slice());
-    assert!(rt; told.errors.is_empty());
-    Ok(())
+fn nothing_is_judged_behind_a_difference(rt: HostRuntime) {
+    let a = recording(&rt, rt.alloc(), &CONFIGURED);
+    let b = faulty_behind_a_difference(&rt, rt.alloc());
+    let both = (a.as_slice(), b.as_slice());
+    tells_both(&rt, rt.alloc(), both, 1, b"differ 3\n", b"");
+}
+
+/// Asks that a second response is refused in this one of two inputs, and for the line that tells it.
+fn refuses_input(rt: &impl Abort, alloc: Global, both: (&[u8], &[u8]), which: Which, line: &[u8]) {
+    let refused = CompareRefused::Input(which, Refused::Rule(3, Rule::AnsweredTwice));
+    asks_memory_compare(rt, alloc, both, Compared::Refused(refused));
+    tells_both(rt, alloc, both, 2, b"", line);
 }
 
 #[test]
-fn a_refusal_is_told_with_its_input(rt: HostRuntime) -> Result<(), Fail> {
-    let alloc = rt.alloc();
-    let answered_twice = recording(
-        alloc,
-        [INITIALIZE, INITIALIZE_RESPONSE, INITIALIZE_RESPONSE].as_slice(),
-    )?;
-    let configured = recording(alloc, CONFIGURED.as_slice())?;
-    let refused = Refused::Rule(3, Rule::AnsweredTwice);
-    let table = [
-        (
-            answered_twice.as_slice(),
-            configured.as_slice(),
-            Which::A,
-            b"dapnorm: A: record 3: AnsweredTwice\n".as_slice(),
-        ),
-        (
-            configured.as_slice(),
-            answered_twice.as_slice(),
-            Which::B,
-            b"dapnorm: B: record 3: AnsweredTwice\n".as_slice(),
-        ),
-    ];
-    for (a, b, which, line) in table {
-        let answer = compare(
-            alloc,
-            &mut MemorySource::new(a),
-            &mut MemorySource::new(b),
-            LIMITS,
-        );
-        match answer {
-            Err(why) => assert_eq!(rt; why, CompareRefused::Input(which, refused)),
-            Ok(_) => return Err("not refused".into()),
-        }
-        let told = told(alloc, a, b)?;
-        assert_eq!(rt; told.status, 2);
-        assert!(rt; told.printed.is_empty());
-        assert_eq!(rt; told.errors.as_slice(), line);
+fn a_refusal_is_told_with_its_input(rt: HostRuntime) {
+    let answered_twice = recording(&rt, rt.alloc(), &ANSWERED_TWICE);
+    let configured = recording(&rt, rt.alloc(), &CONFIGURED);
+    let (twice, session) = (answered_twice.as_slice(), configured.as_slice());
+    let line_a = b"dapnorm: A: record 3: AnsweredTwice\n";
+    refuses_input(&rt, rt.alloc(), (twice, session), Which::A, line_a);
+    let line_b = b"dapnorm: B: record 3: AnsweredTwice\n";
+    refuses_input(&rt, rt.alloc(), (session, twice), Which::B, line_b);
+}
+
+/// Whether the normal texts of two recordings tell that they are the same.
+fn have_same_texts(alloc: Global, a: &[u8], b: &[u8]) -> Option<bool> {
+    match (normal_text(alloc, a, LIMITS), normal_text(alloc, b, LIMITS)) {
+        (Ok(a), Ok(b)) => Some(a.same(&b)),
+        _ => None,
     }
-    Ok(())
 }
 
 #[test]
-fn normal_texts_tell_whether_recordings_are_the_same(rt: HostRuntime) -> Result<(), Fail> {
-    let alloc = rt.alloc();
-    let frames = recording(alloc, FRAMES.as_slice())?;
-    let exchanged = recording(alloc, EXCHANGED.as_slice())?;
-    let configured = recording(alloc, CONFIGURED.as_slice())?;
-    let (Ok(x), Ok(y), Ok(z)) = (
-        normalise_bytes(alloc, frames.as_slice(), LIMITS),
-        normalise_bytes(alloc, exchanged.as_slice(), LIMITS),
-        normalise_bytes(alloc, configured.as_slice(), LIMITS),
-    ) else {
-        return Err("not accepted".into());
-    };
-    assert!(rt; x.same(&y));
-    assert!(rt; !x.same(&z));
-    Ok(())
-}
-
-#[test]
-fn compare_takes_two_files(rt: HostRuntime) -> Result<(), Fail> {
-    let alloc = rt.alloc();
-    match job(alloc, ["dapnorm", "compare", "a.rec", "b.rec"].as_slice()) {
-        Ok(found) => assert_eq!(rt;
-            found,
-            Job::Compare {
-                a: "a.rec",
-                b: "b.rec"
-            }
-        ),
-        Err(_) => return Err("no job".into()),
-    }
-    assert!(rt; job(alloc, ["dapnorm", "compare", "a.rec"].as_slice()).is_err());
-    Ok(())
+fn normal_texts_tell_whether_recordings_are_the_same(rt: HostRuntime) {
+    let frames = recording(&rt, rt.alloc(), &FRAMES);
+    let exchanged = recording(&rt, rt.alloc(), &EXCHANGED);
+    let same = have_same_texts(rt.alloc(), frames.as_slice(), exchanged.as_slice());
+    assert!(rt; same == Some(true));
+    let configured = recording(&rt, rt.alloc(), &CONFIGURED);
+    let same = have_same_texts(rt.alloc(), frames.as_slice(), configured.as_slice());
+    assert!(rt; same == Some(false));
 }

@@ -4,32 +4,45 @@ ghost use Rattle.std.specs.Prelude.{◌≡◌, None, IfOk};
 use dapnorm::{DeviceFault, Sink, Source};
 use std::alloc::{AllocError, Global};
 
-/// Reads a text, and behind it another for ever.
-#[derive(Drop)]
-pub struct TestSource<'a> {
-    /// What is left of the text.
-    pub rest: &'a [u8],
+/// How an input comes.
+#[derive(Clone, Copy)]
+pub struct Input<'a> {
+    /// What is read first.
+    pub text: &'a [u8],
     /// What comes behind it, for ever. Nothing: it ends.
     pub then: &'a [u8],
     /// How many bytes a read gives at most.
     pub piece: usize,
-    /// Behind how many bytes it fails.
+    /// Behind how many bytes a read fails.
     pub fails_at: u64,
+}
+
+/// A text that comes at once.
+pub fn whole(text: &[u8]) -> Input<'_> {
+    Input {
+        text,
+        then: b"",
+        piece: 65_536,
+        fails_at: u64::MAX,
+    }
+}
+
+/// Reads an input.
+#[derive(Drop)]
+pub struct TestSource<'a> {
+    input: Input<'a>,
     given: u64,
     failures: u64,
 }
 
 impl<'a> TestSource<'a> {
-    /// A source that gives all at once and never fails.
-    pub fn new(text: &'a [u8]) -> TestSource<'a>
+    /// A source that has given nothing.
+    pub fn new(input: Input<'a>) -> TestSource<'a>
         ensures given { result.given ≡ 0 }
         ensures failures { result.failures ≡ 0 }
     {
         TestSource {
-            rest: text,
-            then: b"",
-            piece: 65_536,
-            fails_at: u64::MAX,
+            input,
             given: 0,
             failures: 0,
         }
@@ -44,23 +57,22 @@ impl Source for TestSource<'_> {
     ghost failures = { λ s. s.failures };
 
     fn read(&mut self, buffer: &mut [u8]) -> Result<usize, DeviceFault> {
-        if self.fails_at <= self.given {
+        let Input {
+            text,
+            then,
+            piece,
+            fails_at,
+        } = self.input;
+        if fails_at <= self.given {
             self.failures += 1;
             return Err(DeviceFault {});
         }
-        if self.rest.is_empty() {
-            self.rest = self.then;
-        }
-        let before = (self.fails_at - self.given).min(65_536) as usize;
-        let count = self
-            .rest
-            .len()
-            .min(buffer.len())
-            .min(self.piece)
-            .min(before);
-        let (front, rest) = self.rest.split_at(count);
+        let rest = if text.is_empty() { then } else { text };
+        let before = (fails_at - self.given).min(65_536) as usize;
+        let count = rest.len().min(buffer.len()).min(piece).min(before);
+        let (front, rest) = rest.split_at(count);
         buffer[..count].copy_from_slice(front);
-        self.rest = rest;
+        self.input.text = rest;
         self.given += count as u64;
         Ok(count)
     }
@@ -83,34 +95,48 @@ pub enum Failing {
     Nothing,
 }
 
-/// Keeps what is written to it.
-#[derive(Drop)]
-pub struct TestSink {
-    bytes: Vec<u8>,
+/// How a text is taken.
+#[derive(Clone, Copy)]
+pub struct Output {
+    /// How many bytes there is room for.
+    pub room: usize,
     /// How many bytes a write takes at most.
     pub piece: usize,
-    /// Behind how many bytes it fails.
+    /// Behind how many bytes a write fails.
     pub fails_at: usize,
     /// How it fails there.
     pub failing: Failing,
     /// Whether a flush fails.
     pub fails_to_flush: bool,
+}
+
+/// Room for 4,096 bytes that are taken at once.
+pub const ROOM: Output = Output {
+    room: 4096,
+    piece: 4096,
+    fails_at: 4096,
+    failing: Failing::Fault,
+    fails_to_flush: false,
+};
+
+/// Keeps what is written to it.
+#[derive(Drop)]
+pub struct TestSink {
+    bytes: Vec<u8>,
+    output: Output,
     /// How often it was flushed.
     pub flushes: u64,
     failures: u64,
 }
 
 impl TestSink {
-    /// A sink with room for so many bytes, which takes all at once and never fails before it is full.
-    pub fn new(alloc: Global, room: usize) -> Result<TestSink, AllocError>
+    /// A sink that has taken nothing.
+    pub fn new(alloc: Global, output: Output) -> Result<TestSink, AllocError>
         ensures { IfOk result (λ s. s.failures ≡ 0) }
     {
         Ok(TestSink {
-            bytes: Vec::with_capacity(alloc, room)?,
-            piece: room,
-            fails_at: room,
-            failing: Failing::Fault,
-            fails_to_flush: false,
+            bytes: Vec::with_capacity(alloc, output.room)?,
+            output,
             flushes: 0,
             failures: 0,
         })
@@ -128,11 +154,11 @@ impl Sink for TestSink {
     ghost failures = { λ s. s.failures };
 
     fn write(&mut self, bytes: &[u8]) -> Result<usize, DeviceFault> {
-        let free = self.fails_at.saturating_sub(self.bytes.len());
-        let count = bytes.len().min(self.piece).min(free);
+        let free = self.output.fails_at.saturating_sub(self.bytes.len());
+        let count = bytes.len().min(self.output.piece).min(free);
         if count == 0 && !bytes.is_empty() {
             self.failures += 1;
-            return match self.failing {
+            return match self.output.failing {
                 Failing::Fault => Err(DeviceFault {}),
                 Failing::Nothing => Ok(0),
             };
@@ -145,7 +171,7 @@ impl Sink for TestSink {
     }
 
     fn flush(&mut self) -> Result<(), DeviceFault> {
-        if self.fails_to_flush {
+        if self.output.fails_to_flush {
             self.failures += 1;
             return Err(DeviceFault {});
         }

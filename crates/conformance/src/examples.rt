@@ -19,6 +19,27 @@ pub const LIMITS: Limits = Limits {
     input: 4_294_967_296,
 };
 
+/// The same with an input of so many bytes at most.
+pub fn up_to(input: u64) -> Limits {
+    Limits { input, ..LIMITS }
+}
+
+/// The same with so many ids of a sort at most.
+pub fn with_ids(ids: usize) -> Limits {
+    Limits { ids, ..LIMITS }
+}
+
+/// The same with contents of so many bytes at most.
+pub fn with_contents(content: usize) -> Limits {
+    Limits {
+        frame: FrameLimits {
+            content,
+            ..LIMITS.frame
+        },
+        ..LIMITS
+    }
+}
+
 /// A content with spaces and its members out of order, and its canonical form.
 pub const LOOSE: &[u8] = b"Content-Length: 15\r\n\r\n{ \"b\":1,\"a\":2 }";
 

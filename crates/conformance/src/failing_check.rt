@@ -1,66 +1,69 @@
 //! What `check` answers where its reader fails.
-use crate::devices::TestSource;
+use crate::devices::{Input, whole};
 use crate::examples::LIMITS;
-use crate::recordings::{CONFIGURED, INITIALIZE, INITIALIZE_RESPONSE, THREADS, recording};
-use dapnorm::{Job, MemorySink, Refused, Rule, check, run_stream};
-use std::test::Fail;
+use crate::recordings::{
+    ANSWERED_TWICE, CONFIGURED, INITIALIZE, INITIALIZE_RESPONSE, Line, THREADS, recording,
+};
+use crate::runs::{JobRun, asks_check, job_on, tells};
+use dapnorm::{Checked, Job, Refused, Rule};
+use std::alloc::Global;
+use std::process::Abort;
+
+/// Asks for the answer where the reader fails behind all of the recording.
+fn fails_behind(
+    rt: &impl Abort,
+    alloc: Global,
+    lines: &[Line],
+    complete: bool,
+    wanted: Result<Checked, Refused>,
+) {
+    let bytes = recording(rt, alloc, lines);
+    let input = Input {
+        fails_at: bytes.len() as u64,
+        ..whole(bytes.as_slice())
+    };
+    asks_check(rt, alloc, (input, LIMITS), complete, wanted);
+}
 
 #[test]
-fn a_reader_of_a_recording_that_fails(rt: HostRuntime) -> Result<(), Fail> {
-    let alloc = rt.alloc();
-    let bytes = recording(alloc, CONFIGURED.as_slice())?;
-    for place in 0..=473u64 {
-        let mut source = TestSource::new(bytes.as_slice());
-        source.fails_at = place;
-        let answer = check(alloc, &mut source, LIMITS, false);
-        assert_eq!(rt; answer, Err(Refused::ReadFault), "behind {place} bytes");
+fn a_reader_of_a_recording_that_fails(rt: HostRuntime) {
+    let bytes = recording(&rt, rt.alloc(), &CONFIGURED);
+    for fails_at in 0..=473u64 {
+        let input = Input {
+            fails_at,
+            ..whole(bytes.as_slice())
+        };
+        asks_check(
+            &rt,
+            rt.alloc(),
+            (input, LIMITS),
+            false,
+            Err(Refused::ReadFault),
+        );
     }
-    Ok(())
 }
 
 #[test]
-fn open_requests_are_not_told_behind_a_reader_that_fails(rt: HostRuntime) -> Result<(), Fail> {
-    let alloc = rt.alloc();
-    let bytes = recording(alloc, [INITIALIZE, INITIALIZE_RESPONSE, THREADS].as_slice())?;
-    let mut source = TestSource::new(bytes.as_slice());
-    source.fails_at = bytes.len() as u64;
-    let answer = check(alloc, &mut source, LIMITS, true);
-    assert_eq!(rt; answer, Err(Refused::ReadFault));
-    Ok(())
+fn open_requests_are_not_told_behind_a_reader_that_fails(rt: HostRuntime) {
+    let lines = [INITIALIZE, INITIALIZE_RESPONSE, THREADS];
+    fails_behind(&rt, rt.alloc(), &lines, true, Err(Refused::ReadFault));
 }
 
 #[test]
-fn a_broken_rule_comes_before_a_reader_that_fails(rt: HostRuntime) -> Result<(), Fail> {
-    let alloc = rt.alloc();
-    let bytes = recording(
-        alloc,
-        [INITIALIZE, INITIALIZE_RESPONSE, INITIALIZE_RESPONSE].as_slice(),
-    )?;
-    let mut source = TestSource::new(bytes.as_slice());
-    source.fails_at = bytes.len() as u64;
-    let answer = check(alloc, &mut source, LIMITS, false);
-    assert_eq!(rt; answer, Err(Refused::Rule(3, Rule::AnsweredTwice)));
-    Ok(())
+fn a_broken_rule_comes_before_a_reader_that_fails(rt: HostRuntime) {
+    let broken = Err(Refused::Rule(3, Rule::AnsweredTwice));
+    fails_behind(&rt, rt.alloc(), &ANSWERED_TWICE, false, broken);
 }
 
 #[test]
-fn a_failed_read_is_told(rt: HostRuntime) -> Result<(), Fail> {
-    let alloc = rt.alloc();
-    let bytes = recording(alloc, CONFIGURED.as_slice())?;
-    let mut source = TestSource::new(bytes.as_slice());
-    source.fails_at = 10;
-    let mut sink = MemorySink::new(alloc, 4096)?;
-    let mut errors = MemorySink::new(alloc, 4096)?;
-    let status = run_stream(
-        alloc,
-        &Job::Check { complete: false },
-        &mut source,
-        &mut sink,
-        &mut errors,
-        LIMITS,
-    );
-    assert_eq!(rt; status, 4);
-    assert_eq!(rt; sink.bytes().len(), 0);
-    assert_eq!(rt; errors.bytes(), b"dapnorm: read fault\n".as_slice());
-    Ok(())
+fn a_failed_read_is_told(rt: HostRuntime) {
+    let bytes = recording(&rt, rt.alloc(), &CONFIGURED);
+    let run = JobRun {
+        input: Input {
+            fails_at: 10,
+            ..whole(bytes.as_slice())
+        },
+        ..job_on(Job::Check { complete: false }, b"")
+    };
+    tells(&rt, rt.alloc(), run, 4, b"", b"dapnorm: read fault\n");
 }

@@ -1,77 +1,51 @@
 //! What `compact` answers and what has gone out where a device fails.
-use crate::devices::{Failing, TestSink, TestSource};
-use crate::examples::{CANONICAL, LIMITS, LOOSE};
-use dapnorm::{RecordCause, Refused, compact};
-use std::test::Fail;
+use crate::devices::Failing;
+use crate::engines::Engine;
+use crate::examples::{CANONICAL, LOOSE};
+use crate::recordings::front;
+use crate::runs::{Counts, asks, by_pieces, failing_flush, failing_reader, failing_writer, run_of};
+use dapnorm::{RecordCause, Refused};
 
 #[test]
-fn a_reader_that_fails(rt: HostRuntime) -> Result<(), Fail> {
-    let alloc = rt.alloc();
+fn a_reader_that_fails(rt: HostRuntime) {
+    let run = by_pieces(run_of(Engine::Compact, LOOSE), 5);
     for place in 0..=37u64 {
-        let mut source = TestSource::new(LOOSE);
-        source.piece = 5;
-        source.fails_at = place;
-        let mut sink = TestSink::new(alloc, 4096)?;
-        let answer = compact(alloc, &mut source, &mut sink, LIMITS);
-        assert_eq!(rt; answer, Err(Refused::ReadFault), "behind {place} bytes");
-        assert_eq!(rt; sink.bytes().len(), 0);
-        assert_eq!(rt; sink.flushes, 0);
+        let run = failing_reader(run, place);
+        let Counts { flushes, .. } = asks(&rt, rt.alloc(), run, Err(Refused::ReadFault), b"");
+        assert!(rt; flushes == 0);
     }
-    Ok(())
 }
 
 #[test]
-fn a_refusal_comes_before_a_reader_that_fails(rt: HostRuntime) -> Result<(), Fail> {
-    let alloc = rt.alloc();
-    let mut source = TestSource::new(b"Content-Length: 3\r\n\r\n1.5");
-    source.fails_at = 24;
-    let mut sink = TestSink::new(alloc, 4096)?;
-    let answer = compact(alloc, &mut source, &mut sink, LIMITS);
-    assert_eq!(rt; answer, Err(Refused::Fraction(1)));
-    Ok(())
+fn a_refusal_comes_before_a_reader_that_fails(rt: HostRuntime) {
+    let run = run_of(Engine::Compact, b"Content-Length: 3\r\n\r\n1.5");
+    let refused = Err(Refused::Fraction(1));
+    asks(&rt, rt.alloc(), failing_reader(run, 24), refused, b"");
 }
 
 #[test]
-fn a_writer_that_fails(rt: HostRuntime) -> Result<(), Fail> {
-    let alloc = rt.alloc();
+fn a_writer_that_fails(rt: HostRuntime) {
+    let run = run_of(Engine::Compact, LOOSE);
     for place in 0..35usize {
+        let written = front(&rt, CANONICAL, place);
         for failing in [Failing::Fault, Failing::Nothing] {
-            let mut sink = TestSink::new(alloc, 4096)?;
-            sink.piece = 3;
-            sink.fails_at = place;
-            sink.failing = failing;
-            let answer = compact(alloc, &mut TestSource::new(LOOSE), &mut sink, LIMITS);
-            assert_eq!(rt; answer, Err(Refused::WriteFault), "behind {place} bytes");
-            assert_eq!(rt; sink.bytes(), CANONICAL.get(..place).ok_or("too far")?);
+            let run = failing_writer(run, place, failing, 3);
+            asks(&rt, rt.alloc(), run, Err(Refused::WriteFault), written);
         }
     }
-    Ok(())
 }
 
 #[test]
-fn a_flush_that_fails(rt: HostRuntime) -> Result<(), Fail> {
-    let alloc = rt.alloc();
-    let mut sink = TestSink::new(alloc, 4096)?;
-    sink.fails_to_flush = true;
-    let answer = compact(alloc, &mut TestSource::new(LOOSE), &mut sink, LIMITS);
-    assert_eq!(rt; answer, Err(Refused::WriteFault));
-    assert_eq!(rt; sink.bytes(), CANONICAL);
-    Ok(())
+fn a_flush_that_fails(rt: HostRuntime) {
+    let run = failing_flush(run_of(Engine::Compact, LOOSE));
+    asks(&rt, rt.alloc(), run, Err(Refused::WriteFault), CANONICAL);
 }
 
 #[test]
-fn a_cut_at_each_place(rt: HostRuntime) -> Result<(), Fail> {
-    let alloc = rt.alloc();
+fn a_cut_at_each_place(rt: HostRuntime) {
+    let cut = Err(Refused::Record(1, RecordCause::Cut));
     for place in 1..37usize {
-        let cut = LOOSE.get(..place).ok_or("too far")?;
-        let mut sink = TestSink::new(alloc, 4096)?;
-        let answer = compact(alloc, &mut TestSource::new(cut), &mut sink, LIMITS);
-        assert_eq!(rt;
-            answer,
-            Err(Refused::Record(1, RecordCause::Cut)),
-            "cut at {place}"
-        );
-        assert_eq!(rt; sink.bytes().len(), 0);
+        let run = run_of(Engine::Compact, front(&rt, LOOSE, place));
+        asks(&rt, rt.alloc(), run, cut, b"");
     }
-    Ok(())
 }

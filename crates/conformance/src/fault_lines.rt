@@ -1,157 +1,108 @@
 //! What the program prints of a refusal, and its status.
-use crate::devices::{TestSink, TestSource};
+use crate::devices::{Input, Output, ROOM, TestSink, TestSource, whole};
+use crate::engines::status;
 use crate::examples::{CANONICAL, LIMITS, LOOSE};
-use dap_frame::FrameFault;
-use dap_tree::Side;
-use dapnorm::{
-    Job, MemorySink, MemorySource, RecordCause, RecorderFault, Refused, TraceCause, run_stream,
-};
-use std::test::Fail;
+use crate::runs::{JobRun, job_on, tells, tells_memory};
+use crate::traces::{BOTH_SIDES, FIRST, RECORDED};
+use dapnorm::{Job, MemorySink};
+use std::alloc::Global;
+use std::process::Abort;
+
+/// An input, what is printed and what is told of it, and the status.
+type Lines = (&'static [u8], &'static [u8], &'static [u8], u8);
+
+/// Asks for what a job prints and tells of each input.
+fn tells_each(rt: &impl Abort, alloc: Global, job: &Job, table: &[Lines]) {
+    for (input, output, line, wanted) in table {
+        tells_memory(rt, alloc, (job, input, 4096), *wanted, output, line);
+    }
+}
+
+const OF_COMPACT: [Lines; 5] = [
+    (LOOSE, CANONICAL, b"", 0),
+    (
+        b"Content-Length: 2\r\n\r\n-0",
+        b"",
+        b"dapnorm: record 1: Fraction\n",
+        2,
+    ),
+    (
+        b"Content-Length: 2\r\n\r\n{}Content-Length: 2\r\n\r\n{]",
+        b"",
+        b"dapnorm: record 2: Json\n",
+        2,
+    ),
+    (b"X: 1\r\n\r\n", b"", b"dapnorm: record 1: NoLength\n", 2),
+    (
+        b"Content-Length: 2\r\n\r\n{",
+        b"",
+        b"dapnorm: record 1: Cut\n",
+        2,
+    ),
+];
 
 #[test]
-fn refusals_are_told_in_one_line(rt: HostRuntime) -> Result<(), Fail> {
-    let alloc = rt.alloc();
-    let table = [
-        (LOOSE, CANONICAL, b"".as_slice(), 0),
-        (
-            b"Content-Length: 2\r\n\r\n-0".as_slice(),
-            b"".as_slice(),
-            b"dapnorm: record 1: Fraction\n".as_slice(),
-            2,
-        ),
-        (
-            b"Content-Length: 2\r\n\r\n{}Content-Length: 2\r\n\r\n{]".as_slice(),
-            b"".as_slice(),
-            b"dapnorm: record 2: Json\n".as_slice(),
-            2,
-        ),
-        (
-            b"X: 1\r\n\r\n".as_slice(),
-            b"".as_slice(),
-            b"dapnorm: record 1: NoLength\n".as_slice(),
-            2,
-        ),
-        (
-            b"Content-Length: 2\r\n\r\n{".as_slice(),
-            b"".as_slice(),
-            b"dapnorm: record 1: Cut\n".as_slice(),
-            2,
-        ),
-    ];
-    for (input, output, line, wanted) in table {
-        let mut sink = MemorySink::new(alloc, 4096)?;
-        let mut errors = MemorySink::new(alloc, 4096)?;
-        let status = run_stream(
-            alloc,
-            &Job::Compact,
-            &mut MemorySource::new(input),
-            &mut sink,
-            &mut errors,
-            LIMITS,
-        );
-        assert_eq!(rt; status, wanted);
-        assert_eq!(rt; sink.bytes(), output);
-        assert_eq!(rt; errors.bytes(), line);
-    }
-    Ok(())
+fn refusals_are_told_in_one_line(rt: HostRuntime) {
+    tells_each(&rt, rt.alloc(), &Job::Compact, &OF_COMPACT);
+}
+
+const OF_RECORD: [Lines; 3] = [
+    (BOTH_SIDES, RECORDED, b"", 0),
+    (
+        b"<25\nContent-Length: 4\r\n\r\nnull>10\nContent-Le",
+        FIRST,
+        b"dapnorm: piece 2: client Cut\n",
+        2,
+    ),
+    (b">01\n", b"", b"dapnorm: piece 1: BadCount\n", 2),
+];
+
+#[test]
+fn recordings_and_refusals_are_printed(rt: HostRuntime) {
+    tells_each(&rt, rt.alloc(), &Job::Record, &OF_RECORD);
 }
 
 #[test]
-fn faults_of_devices_are_told(rt: HostRuntime) -> Result<(), Fail> {
-    let alloc = rt.alloc();
-    let mut source = TestSource::new(LOOSE);
-    source.fails_at = 10;
-    let mut sink = MemorySink::new(alloc, 4096)?;
-    let mut errors = MemorySink::new(alloc, 4096)?;
-    let status = run_stream(
+fn a_failed_read_is_told(rt: HostRuntime) {
+    let run = JobRun {
+        input: Input {
+            fails_at: 10,
+            ..whole(LOOSE)
+        },
+        ..job_on(Job::Compact, b"")
+    };
+    tells(&rt, rt.alloc(), run, 4, b"", b"dapnorm: read fault\n");
+}
+
+#[test]
+fn a_failed_write_is_told(rt: HostRuntime) {
+    let line = b"dapnorm: write fault\n";
+    let compact = (&Job::Compact, LOOSE, 10);
+    tells_memory(&rt, rt.alloc(), compact, 4, b"Content-Le", line);
+    let record = (&Job::Record, BOTH_SIDES, 10);
+    tells_memory(&rt, rt.alloc(), record, 4, b"<Content-L", line);
+}
+
+/// The status where nothing that is told goes out.
+fn status_untold(rt: &impl Abort, alloc: Global, text: &[u8]) -> Option<u8> {
+    let mut source = TestSource::new(whole(text));
+    let mut sink = MemorySink::new(alloc, 4096).expect(rt, "no memory");
+    let deaf = Output {
+        fails_at: 0,
+        ..ROOM
+    };
+    let mut errors = TestSink::new(alloc, deaf).expect(rt, "no memory");
+    status(
         alloc,
         &Job::Compact,
         &mut source,
         &mut sink,
         &mut errors,
         LIMITS,
-    );
-    assert_eq!(rt; status, 4);
-    assert_eq!(rt; errors.bytes(), b"dapnorm: read fault\n".as_slice());
-
-    let mut full = MemorySink::new(alloc, 10)?;
-    let mut errors = MemorySink::new(alloc, 4096)?;
-    let status = run_stream(
-        alloc,
-        &Job::Compact,
-        &mut MemorySource::new(LOOSE),
-        &mut full,
-        &mut errors,
-        LIMITS,
-    );
-    assert_eq!(rt; status, 4);
-    assert_eq!(rt; full.bytes(), b"Content-Le".as_slice());
-    assert_eq!(rt; errors.bytes(), b"dapnorm: write fault\n".as_slice());
-
-    // A line that cannot be written is not told, and changes no status.
-    let mut deaf = TestSink::new(alloc, 0)?;
-    let mut sink = MemorySink::new(alloc, 4096)?;
-    let status = run_stream(
-        alloc,
-        &Job::Compact,
-        &mut MemorySource::new(b"C"),
-        &mut sink,
-        &mut deaf,
-        LIMITS,
-    );
-    assert_eq!(rt; status, 2);
-    Ok(())
+    )
 }
 
 #[test]
-fn the_text_of_each_refusal(rt: HostRuntime) -> Result<(), Fail> {
-    let alloc = rt.alloc();
-    let table = [
-        (Refused::InputTooLong(3), "record 3: InputTooLong"),
-        (
-            Refused::Record(1, RecordCause::BadMarker),
-            "record 1: BadMarker",
-        ),
-        (
-            Refused::Record(2, RecordCause::Frame(FrameFault::HeaderTooLong)),
-            "record 2: HeaderTooLong",
-        ),
-        (
-            Refused::Record(2, RecordCause::NoLineEnd),
-            "record 2: NoLineEnd",
-        ),
-        (Refused::Record(7, RecordCause::Cut), "record 7: Cut"),
-        (Refused::Json(1), "record 1: Json"),
-        (
-            Refused::Fraction(18_446_744_073_709_551_615),
-            "record 18446744073709551615: Fraction",
-        ),
-        (Refused::Grew(2), "record 2: Grew"),
-        (Refused::TraceTooLong(3), "piece 3: TraceTooLong"),
-        (
-            Refused::Trace(1, TraceCause::BadMarker),
-            "piece 1: BadMarker",
-        ),
-        (Refused::Trace(1, TraceCause::BadCount), "piece 1: BadCount"),
-        (Refused::Trace(2, TraceCause::Cut), "piece 2: Cut"),
-        (
-            Refused::Recorder(2, RecorderFault::Frame(Side::Client, FrameFault::Cut)),
-            "piece 2: client Cut",
-        ),
-        (
-            Refused::Recorder(
-                4,
-                RecorderFault::Frame(Side::Adapter, FrameFault::HeaderTooLong),
-            ),
-            "piece 4: adapter HeaderTooLong",
-        ),
-        (Refused::ReadFault, "read fault"),
-        (Refused::WriteFault, "write fault"),
-        (Refused::Memory, "out of memory"),
-    ];
-    for (refused, wanted) in table {
-        let text = format!(in alloc; "{refused}")?;
-        assert_eq!(rt; text.as_str(), wanted);
-    }
-    Ok(())
+fn a_line_that_cannot_be_written_changes_no_status(rt: HostRuntime) {
+    assert!(rt; status_untold(&rt, rt.alloc(), b"C") == Some(2));
 }

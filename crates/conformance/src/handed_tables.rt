@@ -1,378 +1,252 @@
 //! The engines with tables of names that they are handed: any table gives the answers that the engine's own gives.
-ghost use Rattle.std.specs.Prelude.{◌≡◌};
-ghost use Rattle.dapnorm.specs.Limits.{AreSound};
-ghost use Rattle.dapnorm.specs.NameTables.{AreReady};
-
-use crate::examples::{LIMITS, LOOSE};
-use crate::name_tables::{indexed, plain};
-use crate::recordings::{CONFIGURED, recording};
-use crate::traces::BOTH_SIDES;
-use crate::worked::{Outcome, is_one, worked};
-use dap_frame::FrameLimits;
-use dapnorm::{
-    Checked, CompareRefused, Job, Limits, MemorySink, MemorySource, NameTable, Refused, Tables,
-    Verdict, check, check_with, compare, compare_with, normalise, normalise_with, run_compare,
-    run_compare_with, run_stream, run_stream_with,
+use crate::engines::{Engine, answer, are_sound, checked, compare_status, status, verdict};
+use crate::examples::{LIMITS, LOOSE, up_to, with_contents, with_ids};
+use crate::handed_engines::{
+    Handed, checked_with, compare_status_with, normalised_with, status_with, verdict_with,
 };
+use crate::recordings::{CONFIGURED, recording};
+use crate::runs::is_one;
+use crate::traces::BOTH_SIDES;
+use crate::worked::worked;
+use dapnorm::{Checked, CompareRefused, Job, Limits, MemorySink, MemorySource, Refused, Verdict};
 use std::alloc::Global;
 use std::hash::RandomState;
-use std::test::Fail;
+use std::process::Abort;
 
-/// Limits that many recordings pass: of their contents, their ids, and their bytes.
-fn narrow_limits() -> [Limits; 7] {
-    let content = FrameLimits {
-        content: 200,
-        ..LIMITS.frame
-    };
+/// The engine's own tables, or some that are handed in.
+type Names = Option<Handed>;
+
+/// The tables that are handed in.
+fn handed_tables(rt: &impl Abort, hasher: Option<RandomState>) -> [Handed; 2] {
+    let hasher = hasher.expect(rt, "no random words");
+    [Handed::Plain, Handed::Indexed(hasher)]
+}
+
+/// Limits that many recordings pass: of their contents, their ids, and their bytes; and those of the program.
+fn limits() -> [Limits; 8] {
     [
-        Limits {
-            frame: content,
-            ..LIMITS
-        },
-        Limits { ids: 0, ..LIMITS },
-        Limits { ids: 1, ..LIMITS },
-        Limits { ids: 2, ..LIMITS },
-        Limits {
-            input: 10,
-            ..LIMITS
-        },
-        Limits {
-            input: 106,
-            ..LIMITS
-        },
-        Limits {
-            input: 473,
-            ..LIMITS
-        },
+        LIMITS,
+        with_contents(200),
+        with_ids(0),
+        with_ids(1),
+        with_ids(2),
+        up_to(10),
+        up_to(106),
+        up_to(473),
     ]
 }
 
 /// What `normalise` answers and writes.
 type Normalised = (Result<(), Refused>, Vec<u8>);
 
-fn normalised(alloc: Global, bytes: &[u8], limits: Limits) -> Result<Normalised, Fail>
-    requires { AreSound limits }
-{
-    let mut sink = MemorySink::new(alloc, 4096)?;
-    let answer = normalise(alloc, &mut MemorySource::new(bytes), &mut sink, limits);
-    Ok((answer, Vec::from_slice(alloc, sink.bytes())?))
-}
-
-fn normalised_with<T: NameTable + Drop>(
+fn normalised_by(
+    rt: &impl Abort,
     alloc: Global,
-    bytes: &[u8],
-    limits: Limits,
-    tables: Tables<T>,
-) -> Result<Normalised, Fail>
-    requires limits { AreSound limits }
-    requires tables { AreReady T.numbers T.limit limits tables }
-{
-    let mut sink = MemorySink::new(alloc, 4096)?;
-    let answer = normalise_with(
-        alloc,
-        &mut MemorySource::new(bytes),
-        &mut sink,
-        limits,
-        tables,
-    );
-    Ok((answer, Vec::from_slice(alloc, sink.bytes())?))
+    names: Names,
+    (text, limits): (&[u8], Limits),
+) -> Normalised {
+    let mut source = MemorySource::new(text);
+    let mut sink = MemorySink::new(alloc, 4096).expect(rt, "no memory");
+    assert!(rt; are_sound(limits));
+    let answer = match names {
+        None => answer(Engine::Normalise, alloc, &mut source, &mut sink, limits),
+        Some(handed) => normalised_with(handed, alloc, &mut source, &mut sink, limits),
+    };
+    let written = Vec::from_slice(alloc, sink.bytes()).expect(rt, "no memory");
+    (answer, written)
 }
 
-fn checked(alloc: Global, bytes: &[u8], limits: Limits, complete: bool) -> Result<Checked, Refused>
-    requires { AreSound limits }
-{
-    check(alloc, &mut MemorySource::new(bytes), limits, complete)
-}
-
-fn checked_with<T: NameTable + Drop>(
+fn checked_by(
+    rt: &impl Abort,
     alloc: Global,
-    bytes: &[u8],
-    limits: Limits,
+    names: Names,
+    (text, limits): (&[u8], Limits),
     complete: bool,
-    tables: Tables<T>,
-) -> Result<Checked, Refused>
-    requires limits { AreSound limits }
-    requires tables { AreReady T.numbers T.limit limits tables }
-{
-    check_with(
-        alloc,
-        &mut MemorySource::new(bytes),
-        limits,
-        complete,
-        tables,
-    )
+) -> Result<Checked, Refused> {
+    let mut source = MemorySource::new(text);
+    assert!(rt; are_sound(limits));
+    match names {
+        None => checked(alloc, &mut source, limits, complete),
+        Some(handed) => checked_with(handed, alloc, &mut source, limits, complete),
+    }
 }
 
-/// Whether `normalise` and `check` answer with handed tables what they answer with their own.
-fn answers_agree(
-    alloc: Global,
-    bytes: &[u8],
-    limits: Limits,
-    hasher: RandomState,
-) -> Result<bool, Fail> {
-    if !limits.frame.sound() || limits.ids > 2_147_483_647 || limits.input > 1 << 62 {
-        return Err("no limits".into());
-    }
-    let own = normalised(alloc, bytes, limits)?;
-    let by_plain = normalised_with(alloc, bytes, limits, plain(alloc, limits))?;
-    let by_index = normalised_with(alloc, bytes, limits, indexed(alloc, limits, hasher))?;
-    if own != by_plain || own != by_index {
-        return Ok(false);
-    }
+/// Asks that `normalise` and `check` answer with handed tables what they answer with their own.
+fn answers_agree(rt: &impl Abort, alloc: Global, input: (&[u8], Limits), handed: Names) {
+    let own = normalised_by(rt, alloc, None, input);
+    assert!(rt; normalised_by(rt, alloc, handed, input) == own);
     for complete in [false, true] {
-        let own = checked(alloc, bytes, limits, complete);
-        let by_plain = checked_with(alloc, bytes, limits, complete, plain(alloc, limits));
-        let tables = indexed(alloc, limits, hasher);
-        let by_index = checked_with(alloc, bytes, limits, complete, tables);
-        if own != by_plain || own != by_index {
-            return Ok(false);
-        }
+        let own = checked_by(rt, alloc, None, input, complete);
+        assert!(rt; checked_by(rt, alloc, handed, input, complete) == own);
     }
-    Ok(true)
 }
 
 #[test]
-fn recordings_with_handed_tables(rt: HostRuntime) -> Result<(), Fail> {
-    let alloc = rt.alloc();
-    let hasher = RandomState::new(&rt)?;
-    for bytes in worked(alloc)?.iter() {
-        assert!(rt; answers_agree(alloc, bytes.as_slice(), LIMITS, hasher)?);
-        for limits in narrow_limits() {
-            assert!(rt; answers_agree(alloc, bytes.as_slice(), limits, hasher)?);
+fn recordings_with_handed_tables(rt: HostRuntime) {
+    let handed = handed_tables(&rt, RandomState::new(&rt).ok());
+    for bytes in worked(&rt, rt.alloc()).iter() {
+        for limits in limits() {
+            for handed in handed {
+                let input = (bytes.as_slice(), limits);
+                answers_agree(&rt, rt.alloc(), input, Some(handed));
+            }
         }
     }
-    Ok(())
 }
 
-fn verdict(alloc: Global, a: &[u8], b: &[u8]) -> Result<Verdict, CompareRefused> {
-    let (mut reader_a, mut reader_b) = (MemorySource::new(a), MemorySource::new(b));
-    compare(alloc, &mut reader_a, &mut reader_b, LIMITS)
-}
-
-fn verdict_with<T: NameTable + Drop>(
+fn verdict_by(
     alloc: Global,
-    a: &[u8],
-    b: &[u8],
-    limits: Limits,
-    tables_a: Tables<T>,
-    tables_b: Tables<T>,
-) -> Result<Verdict, CompareRefused>
-    requires limits { AreSound limits }
-    requires tables_a { AreReady T.numbers T.limit limits tables_a }
-    requires tables_b { AreReady T.numbers T.limit limits tables_b }
-{
-    let (mut reader_a, mut reader_b) = (MemorySource::new(a), MemorySource::new(b));
-    compare_with(
-        alloc,
-        &mut reader_a,
-        &mut reader_b,
-        limits,
-        tables_a,
-        tables_b,
-    )
+    names: Names,
+    (a, b): (&[u8], &[u8]),
+) -> Result<Verdict, CompareRefused> {
+    let (mut a, mut b) = (MemorySource::new(a), MemorySource::new(b));
+    match names {
+        None => verdict(alloc, &mut a, &mut b, LIMITS),
+        Some(handed) => verdict_with(handed, alloc, &mut a, &mut b, LIMITS),
+    }
 }
 
 /// Whether `compare` answers with handed tables what it answers with its own.
-fn verdicts_agree(alloc: Global, a: &[u8], b: &[u8], hasher: RandomState) -> bool {
-    let own = verdict(alloc, a, b);
-    let (one, other) = (plain(alloc, LIMITS), plain(alloc, LIMITS));
-    let by_plain = verdict_with(alloc, a, b, LIMITS, one, other);
-    let (one, other) = (
-        indexed(alloc, LIMITS, hasher),
-        indexed(alloc, LIMITS, hasher),
-    );
-    let by_index = verdict_with(alloc, a, b, LIMITS, one, other);
-    is_one(&own, &by_plain) && is_one(&own, &by_index)
-}
-
-#[test]
-fn two_recordings_with_handed_tables(rt: HostRuntime) -> Result<(), Fail> {
-    let alloc = rt.alloc();
-    let hasher = RandomState::new(&rt)?;
-    let configured = recording(alloc, CONFIGURED.as_slice())?;
-    let session = configured.as_slice();
-    let all = worked(alloc)?;
-    // Each is compared with the one before it, and with the configured session.
-    let mut before = b"".as_slice();
-    for bytes in all.iter() {
-        let bytes = bytes.as_slice();
-        assert!(rt; verdicts_agree(alloc, before, bytes, hasher));
-        assert!(rt; verdicts_agree(alloc, session, bytes, hasher));
-        assert!(rt; verdicts_agree(alloc, bytes, session, hasher));
-        before = bytes;
-    }
-    Ok(())
+fn verdicts_agree(alloc: Global, both: (&[u8], &[u8]), handed: Handed) -> bool {
+    let own = verdict_by(alloc, None, both);
+    is_one(&own, &verdict_by(alloc, Some(handed), both))
 }
 
 /// What the program prints, and its status.
 #[derive(PartialEq, Eq, Drop)]
 struct Printed {
-    status: u8,
+    status: Option<u8>,
     output: Vec<u8>,
     errors: Vec<u8>,
 }
 
-fn run_job(alloc: Global, job: &Job, bytes: &[u8]) -> Result<Printed, Fail>
-    requires { (a b : _) → job.now ≡ Job.Compare a b → ⊥ }
-{
-    let mut output = MemorySink::new(alloc, 4096)?;
-    let mut errors = MemorySink::new(alloc, 4096)?;
-    let mut reader = MemorySource::new(bytes);
-    let status = run_stream(alloc, job, &mut reader, &mut output, &mut errors, LIMITS);
-    Ok(Printed {
-        status,
-        output: Vec::from_slice(alloc, output.bytes())?,
-        errors: Vec::from_slice(alloc, errors.bytes())?,
-    })
-}
-
-fn run_job_with<T: NameTable + Drop>(
+fn printed_of(
+    rt: &impl Abort,
     alloc: Global,
-    job: &Job,
-    bytes: &[u8],
-    limits: Limits,
-    tables: Tables<T>,
-) -> Result<Printed, Fail>
-    requires job { (a b : _) → job.now ≡ Job.Compare a b → ⊥ }
-    requires limits { AreSound limits }
-    requires tables { AreReady T.numbers T.limit limits tables }
-{
-    let mut output = MemorySink::new(alloc, 4096)?;
-    let mut errors = MemorySink::new(alloc, 4096)?;
-    let mut reader = MemorySource::new(bytes);
-    let status = run_stream_with(
-        alloc,
-        job,
-        &mut reader,
-        &mut output,
-        &mut errors,
-        limits,
-        tables,
-    );
-    Ok(Printed {
+    status: Option<u8>,
+    texts: (&[u8], &[u8]),
+) -> Printed {
+    let (output, errors) = texts;
+    Printed {
         status,
-        output: Vec::from_slice(alloc, output.bytes())?,
-        errors: Vec::from_slice(alloc, errors.bytes())?,
-    })
-}
-
-/// Whether a job prints with handed tables what it prints with its own.
-fn jobs_agree(alloc: Global, job: &Job, bytes: &[u8], hasher: RandomState) -> Result<bool, Fail>
-    requires { (a b : _) → job.now ≡ Job.Compare a b → ⊥ }
-{
-    let own = run_job(alloc, job, bytes)?;
-    let by_plain = run_job_with(alloc, job, bytes, LIMITS, plain(alloc, LIMITS))?;
-    let tables = indexed(alloc, LIMITS, hasher);
-    let by_index = run_job_with(alloc, job, bytes, LIMITS, tables)?;
-    Ok(own == by_plain && own == by_index)
-}
-
-#[test]
-fn jobs_with_handed_tables(rt: HostRuntime) -> Result<(), Fail> {
-    let alloc = rt.alloc();
-    let hasher = RandomState::new(&rt)?;
-    let mut inputs = worked(alloc)?;
-    // Frames of one direction, and traces.
-    for bytes in [
-        LOOSE,
-        b"Content-Length: 2\r\n\r\n-0".as_slice(),
-        BOTH_SIDES,
-        b">01\n".as_slice(),
-        b">10\nCont".as_slice(),
-    ] {
-        inputs.push(Vec::from_slice(alloc, bytes)?)?;
+        output: Vec::from_slice(alloc, output).expect(rt, "no memory"),
+        errors: Vec::from_slice(alloc, errors).expect(rt, "no memory"),
     }
-    for bytes in inputs.iter() {
-        let bytes = bytes.as_slice();
-        assert!(rt; jobs_agree(alloc, &Job::Compact, bytes, hasher)?);
-        assert!(rt; jobs_agree(alloc, &Job::Record, bytes, hasher)?);
-        assert!(rt; jobs_agree(alloc, &Job::Normalise, bytes, hasher)?);
-        assert!(rt; jobs_agree(alloc, &Job::Show, bytes, hasher)?);
-        for complete in [false, true] {
-            assert!(rt; jobs_agree(alloc, &Job::Check { complete }, bytes, hasher)?);
+}
+
+fn both_printed(rt: &impl Abort, alloc: Global, names: Names, both: (&[u8], &[u8])) -> Printed {
+    let (mut a, mut b) = (MemorySource::new(both.0), MemorySource::new(both.1));
+    let mut output = MemorySink::new(alloc, 4096).expect(rt, "no memory");
+    let mut errors = MemorySink::new(alloc, 4096).expect(rt, "no memory");
+    let status = match names {
+        None => compare_status(alloc, &mut a, &mut b, &mut output, &mut errors, LIMITS),
+        Some(handed) => {
+            compare_status_with(
+                handed,
+                alloc,
+                &mut a,
+                &mut b,
+                &mut output,
+                &mut errors,
+                LIMITS,
+            )
         }
-    }
-    Ok(())
+    };
+    printed_of(rt, alloc, Some(status), (output.bytes(), errors.bytes()))
 }
 
-fn run_both(alloc: Global, a: &[u8], b: &[u8]) -> Result<Printed, Fail> {
-    let mut output = MemorySink::new(alloc, 4096)?;
-    let mut errors = MemorySink::new(alloc, 4096)?;
-    let (mut reader_a, mut reader_b) = (MemorySource::new(a), MemorySource::new(b));
-    let status = run_compare(
-        alloc,
-        &mut reader_a,
-        &mut reader_b,
-        &mut output,
-        &mut errors,
-        LIMITS,
-    );
-    Ok(Printed {
-        status,
-        output: Vec::from_slice(alloc, output.bytes())?,
-        errors: Vec::from_slice(alloc, errors.bytes())?,
-    })
-}
-
-fn run_both_with<T: NameTable + Drop>(
-    alloc: Global,
-    a: &[u8],
-    b: &[u8],
-    limits: Limits,
-    tables_a: Tables<T>,
-    tables_b: Tables<T>,
-) -> Result<Printed, Fail>
-    requires limits { AreSound limits }
-    requires tables_a { AreReady T.numbers T.limit limits tables_a }
-    requires tables_b { AreReady T.numbers T.limit limits tables_b }
-{
-    let mut output = MemorySink::new(alloc, 4096)?;
-    let mut errors = MemorySink::new(alloc, 4096)?;
-    let (mut reader_a, mut reader_b) = (MemorySource::new(a), MemorySource::new(b));
-    let status = run_compare_with(
-        alloc,
-        &mut reader_a,
-        &mut reader_b,
-        &mut output,
-        &mut errors,
-        limits,
-        tables_a,
-        tables_b,
-    );
-    Ok(Printed {
-        status,
-        output: Vec::from_slice(alloc, output.bytes())?,
-        errors: Vec::from_slice(alloc, errors.bytes())?,
-    })
-}
-
-/// Whether a comparison prints with handed tables what it prints with its own.
-fn comparisons_agree(alloc: Global, a: &[u8], b: &[u8], hasher: RandomState) -> Result<bool, Fail> {
-    let own = run_both(alloc, a, b)?;
-    let (one, other) = (plain(alloc, LIMITS), plain(alloc, LIMITS));
-    let by_plain = run_both_with(alloc, a, b, LIMITS, one, other)?;
-    let (one, other) = (
-        indexed(alloc, LIMITS, hasher),
-        indexed(alloc, LIMITS, hasher),
-    );
-    let by_index = run_both_with(alloc, a, b, LIMITS, one, other)?;
-    Ok(own == by_plain && own == by_index)
+/// Asks that `compare`, and the program, answer with handed tables what they answer with their own.
+fn comparisons_agree(rt: &impl Abort, alloc: Global, both: (&[u8], &[u8]), handed: Handed) {
+    assert!(rt; verdicts_agree(alloc, both, handed));
+    let own = both_printed(rt, alloc, None, both);
+    assert!(rt; both_printed(rt, alloc, Some(handed), both) == own);
 }
 
 #[test]
-fn comparisons_with_handed_tables(rt: HostRuntime) -> Result<(), Fail> {
-    let alloc = rt.alloc();
-    let hasher = RandomState::new(&rt)?;
-    let configured = recording(alloc, CONFIGURED.as_slice())?;
+fn two_recordings_with_handed_tables(rt: HostRuntime) {
+    let handed = handed_tables(&rt, RandomState::new(&rt).ok());
+    let configured = recording(&rt, rt.alloc(), &CONFIGURED);
     let session = configured.as_slice();
-    let all = worked(alloc)?;
+    let all = worked(&rt, rt.alloc());
+    // Each is compared with the one before it, and with the configured session.
     let mut before = b"".as_slice();
     for bytes in all.iter() {
         let bytes = bytes.as_slice();
-        for (a, b) in [(before, bytes), (session, bytes), (bytes, session)] {
-            assert!(rt; comparisons_agree(alloc, a, b, hasher)?);
+        for both in [(before, bytes), (session, bytes), (bytes, session)] {
+            for handed in handed {
+                comparisons_agree(&rt, rt.alloc(), both, handed);
+            }
         }
         before = bytes;
     }
-    Ok(())
+}
+
+fn job_printed(
+    rt: &impl Abort,
+    alloc: Global,
+    names: Names,
+    (job, text): (&Job, &[u8]),
+) -> Printed {
+    let mut source = MemorySource::new(text);
+    let mut output = MemorySink::new(alloc, 4096).expect(rt, "no memory");
+    let mut errors = MemorySink::new(alloc, 4096).expect(rt, "no memory");
+    let status = match names {
+        None => status(alloc, job, &mut source, &mut output, &mut errors, LIMITS),
+        Some(handed) => {
+            status_with(
+                handed,
+                alloc,
+                job,
+                &mut source,
+                &mut output,
+                &mut errors,
+                LIMITS,
+            )
+        }
+    };
+    printed_of(rt, alloc, status, (output.bytes(), errors.bytes()))
+}
+
+/// Asks that a job prints with handed tables what it prints with its own.
+fn jobs_agree(rt: &impl Abort, alloc: Global, run: (&Job, &[u8]), handed: Handed) {
+    let own = job_printed(rt, alloc, None, run);
+    assert!(rt; own.status.is_some());
+    assert!(rt; job_printed(rt, alloc, Some(handed), run) == own);
+}
+
+const JOBS: [Job<'static>; 6] = [
+    Job::Compact,
+    Job::Record,
+    Job::Normalise,
+    Job::Show,
+    Job::Check { complete: false },
+    Job::Check { complete: true },
+];
+
+/// Frames of one direction, and traces.
+const OTHERS: [&[u8]; 5] = [
+    LOOSE,
+    b"Content-Length: 2\r\n\r\n-0",
+    BOTH_SIDES,
+    b">01\n",
+    b">10\nCont",
+];
+
+fn all_jobs_agree(rt: &impl Abort, alloc: Global, text: &[u8], handed: [Handed; 2]) {
+    for job in &JOBS {
+        for handed in handed {
+            jobs_agree(rt, alloc, (job, text), handed);
+        }
+    }
+}
+
+#[test]
+fn jobs_with_handed_tables(rt: HostRuntime) {
+    let handed = handed_tables(&rt, RandomState::new(&rt).ok());
+    for bytes in worked(&rt, rt.alloc()).iter() {
+        all_jobs_agree(&rt, rt.alloc(), bytes.as_slice(), handed);
+    }
+    for bytes in &OTHERS {
+        all_jobs_agree(&rt, rt.alloc(), bytes, handed);
+    }
 }

@@ -18,6 +18,8 @@ mod comparing;
 #[cfg(test)]
 mod devices;
 #[cfg(test)]
+mod engines;
+#[cfg(test)]
 mod examples;
 #[cfg(test)]
 mod failing_check;
@@ -27,6 +29,10 @@ mod failing_devices;
 mod failing_normalise;
 #[cfg(test)]
 mod fault_lines;
+#[cfg(test)]
+mod growths;
+#[cfg(test)]
+mod handed_engines;
 #[cfg(test)]
 mod handed_refused_growths;
 #[cfg(test)]
@@ -38,10 +44,6 @@ mod normalise_refused_growths;
 #[cfg(test)]
 mod normalising;
 #[cfg(test)]
-mod record_lines;
-#[cfg(test)]
-mod record_refused_growths;
-#[cfg(test)]
 mod recording_traces;
 #[cfg(test)]
 mod recordings;
@@ -52,13 +54,15 @@ mod refused_growths_of_messages;
 #[cfg(test)]
 mod refused_growths_of_sessions;
 #[cfg(test)]
-mod session_rules;
+mod runs;
 #[cfg(test)]
-mod show_refused_growths;
+mod session_rules;
 #[cfg(test)]
 mod showing;
 #[cfg(test)]
 mod streaming;
+#[cfg(test)]
+mod texts;
 #[cfg(test)]
 mod traces;
 #[cfg(test)]

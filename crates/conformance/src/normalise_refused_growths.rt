@@ -1,77 +1,114 @@
 //! Each growth of `normalise` refused in turn: the answer is that of ample memory, or want of memory, and never another.
 //!
 //! tests/fault_injection.py runs these under a shim that refuses. Without it each makes one turn with ample memory.
-use crate::devices::TestSink;
+use crate::devices::{ROOM, TestSink};
+use crate::engines::{Engine, answer, normal_text};
 use crate::examples::LIMITS;
+use crate::growths::was_wanted;
 use crate::recordings::{
-    ANSWERED_TWICE, CONFIGURED, NORMAL_CONFIGURED, ends_normal_records, recording,
+    ANSWERED_TWICE, CONFIGURED, Line, NORMAL_CONFIGURED, ends_normal_records, front, recording,
 };
-use dapnorm::{MemorySource, Refused, Rule, normalise, normalise_bytes};
+use dapnorm::{MemorySource, Normalised, Refused, Rule};
 use fault_injection::{refuse_growth, was_refused};
-use std::test::Fail;
+use std::alloc::Global;
+use std::process::Abort;
 
-#[test]
-fn normalise_is_refused_in_turn(rt: HostRuntime) -> Result<(), Fail> {
-    let alloc = rt.alloc();
-    let configured = recording(alloc, CONFIGURED.as_slice())?;
-    let twice = recording(alloc, ANSWERED_TWICE.as_slice())?;
-    let normal = recording(alloc, NORMAL_CONFIGURED.as_slice())?;
-    for (input, wanted, len) in [
-        (b"".as_slice(), Ok(()), 0),
-        (configured.as_slice(), Ok(()), 1709),
-        (
-            twice.as_slice(),
-            Err(Refused::Rule(3, Rule::AnsweredTwice)),
-            1447,
-        ),
-    ] {
-        for turn in 1..10_000u16 {
-            let mut sink = TestSink::new(alloc, 4096)?;
-            refuse_growth(alloc, turn);
-            let answer = normalise(alloc, &mut MemorySource::new(input), &mut sink, LIMITS);
-            let is_refused = was_refused(alloc);
-            match answer {
-                Err(Refused::Memory) => {
-                    // The normal text of the records before has gone out, and is not flushed.
-                    assert!(rt; is_refused, "memory was there at turn {turn}");
-                    assert!(rt;
-                        sink.bytes().len() <= len && ends_normal_records(sink.bytes().len())
-                    );
-                    assert_eq!(rt; sink.flushes, 0);
-                }
-                other => {
-                    assert_eq!(rt; other, wanted);
-                    assert_eq!(rt; sink.bytes().len(), len);
-                    assert_eq!(rt; sink.flushes, 1);
-                }
-            }
-            assert!(rt; normal.as_slice().starts_with(sink.bytes()));
-            if !is_refused {
-                break;
-            }
+/// What `normalise` answered, what it has written, and whether a growth was refused.
+#[derive(Drop)]
+struct Turn {
+    answer: Result<(), Refused>,
+    sink: TestSink,
+    is_refused: bool,
+}
+
+fn turn_of(rt: &impl Abort, alloc: Global, input: &[u8], turn: u16) -> Turn {
+    let mut source = MemorySource::new(input);
+    let mut sink = TestSink::new(alloc, ROOM).expect(rt, "no memory");
+    refuse_growth(alloc, turn);
+    let answer = answer(Engine::Normalise, alloc, &mut source, &mut sink, LIMITS);
+    Turn {
+        answer,
+        sink,
+        is_refused: was_refused(alloc),
+    }
+}
+
+/// Whether the normal text of some leading records has been written, and not flushed.
+fn has_leading_records(sink: &TestSink, text: &[u8]) -> bool {
+    ends_normal_records(sink.bytes().len()) && text.starts_with(sink.bytes()) && sink.flushes == 0
+}
+
+/// Asks for the answer with this growth refused. Whether it was.
+fn asks_turn(
+    rt: &impl Abort,
+    alloc: Global,
+    (input, text): (&[u8], &[u8]),
+    wanted: Result<(), Refused>,
+    turn: u16,
+) -> bool {
+    let found = turn_of(rt, alloc, input, turn);
+    if found.answer == Err(Refused::Memory) {
+        was_wanted(rt, found.is_refused, turn);
+        assert!(rt; has_leading_records(&found.sink, text));
+    } else {
+        assert!(rt; found.answer == wanted);
+        assert!(rt; found.sink.bytes() == text);
+        assert!(rt; found.sink.flushes == 1);
+    }
+    found.is_refused
+}
+
+/// Asks for the answer on lines, and for so many bytes of the normal text of the configured session.
+fn asks_each_turn(
+    rt: &impl Abort,
+    alloc: Global,
+    lines: &[Line],
+    wanted: Result<(), Refused>,
+    len: usize,
+) {
+    let bytes = recording(rt, alloc, lines);
+    let normal = recording(rt, alloc, &NORMAL_CONFIGURED);
+    let texts = (bytes.as_slice(), front(rt, normal.as_slice(), len));
+    for turn in 1..10_000u16 {
+        if !asks_turn(rt, alloc, texts, wanted, turn) {
+            break;
         }
     }
-    Ok(())
 }
 
 #[test]
-fn normalise_bytes_is_refused_in_turn(rt: HostRuntime) -> Result<(), Fail> {
-    let alloc = rt.alloc();
-    let input = recording(alloc, CONFIGURED.as_slice())?;
-    for turn in 1..10_000u16 {
-        refuse_growth(alloc, turn);
-        let answer = normalise_bytes(alloc, input.as_slice(), LIMITS);
-        let is_refused = was_refused(alloc);
-        match answer {
-            Ok(normalised) => assert_eq!(rt; normalised.bytes().len(), 1709),
-            Err(refused) => {
-                assert_eq!(rt; refused, Refused::Memory);
-                assert!(rt; is_refused, "memory was there at turn {turn}");
-            }
+fn normalise_is_refused_in_turn(rt: HostRuntime) {
+    asks_each_turn(&rt, rt.alloc(), &[], Ok(()), 0);
+    asks_each_turn(&rt, rt.alloc(), &CONFIGURED, Ok(()), 1709);
+    let twice = Err(Refused::Rule(3, Rule::AnsweredTwice));
+    asks_each_turn(&rt, rt.alloc(), &ANSWERED_TWICE, twice, 1447);
+}
+
+/// Asks for a normal text of 1,709 bytes, or for want of memory where a growth was refused.
+fn is_normal(
+    rt: &impl Abort,
+    answer: Result<Normalised, Refused>,
+    (is_refused, turn): (bool, u16),
+) {
+    match answer {
+        Ok(normalised) => assert!(rt; normalised.bytes().len() == 1709),
+        Err(refused) => {
+            assert!(rt; refused == Refused::Memory);
+            was_wanted(rt, is_refused, turn);
         }
+    }
+}
+
+#[test]
+fn normalise_bytes_is_refused_in_turn(rt: HostRuntime) {
+    let bytes = recording(&rt, rt.alloc(), &CONFIGURED);
+    for turn in 1..10_000u16 {
+        refuse_growth(rt.alloc(), turn);
+        let answer = normal_text(rt.alloc(), bytes.as_slice(), LIMITS);
+        let is_refused = was_refused(rt.alloc());
+        is_normal(&rt, answer, (is_refused, turn));
         if !is_refused {
             break;
         }
     }
-    Ok(())
 }

@@ -1,17 +1,17 @@
 //! What `normalise` writes and what it refuses.
-use crate::devices::{TestSink, TestSource};
-use crate::examples::LIMITS;
+use crate::devices::whole;
+use crate::engines::{Engine, are_sound, normal_text};
+use crate::examples::{LIMITS, up_to, with_contents, with_ids};
 use crate::recordings::{
     CONFIGURATION_DONE, CONFIGURATION_DONE_RESPONSE, CONFIGURED, FILLED_RESPONSE, INITIALIZE,
-    INITIALIZE_RESPONSE, INITIALIZED, Line, NORMAL_CONFIGURED, OUTPUT, STOPPED, THREADS, recording,
+    INITIALIZE_RESPONSE, INITIALIZED, Line, NORMAL_CONFIGURED, OUTPUT, STOPPED, THREADS, front,
+    recording,
 };
-use dap_frame::{FrameFault, FrameLimits};
-use dapnorm::{
-    Job, Limits, MemorySink, MemorySource, MessageFault, RecordCause, Refused, Rule, check, job,
-    normalise, normalise_bytes, run_stream,
-};
+use crate::runs::{JobRun, Run, asks, asks_check, asks_memory, by_pieces, job_on, run_of, tells};
+use dap_frame::FrameFault;
+use dapnorm::{Job, Limits, MessageFault, RecordCause, Refused, Rule};
 use std::alloc::Global;
-use std::test::Fail;
+use std::process::Abort;
 
 const STACK_TRACE: Line = (
     ">",
@@ -376,139 +376,125 @@ pub const REFUSED_CONTENTS: [(&[Line], &[Line], Refused); 9] = [
     ),
 ];
 
-#[test]
-fn normal_forms(rt: HostRuntime) -> Result<(), Fail> {
-    let alloc = rt.alloc();
-    for (lines, normal_lines) in NORMAL_FORMS {
-        let input = recording(alloc, lines)?;
-        let wanted = recording(alloc, normal_lines)?;
-        let mut sink = MemorySink::new(alloc, 4096)?;
-        let answer = normalise(
-            alloc,
-            &mut MemorySource::new(input.as_slice()),
-            &mut sink,
-            LIMITS,
-        );
-        assert_eq!(rt; answer, Ok(()));
-        assert_eq!(rt; sink.bytes(), wanted.as_slice());
-        match normalise_bytes(alloc, input.as_slice(), LIMITS) {
-            Ok(normalised) => assert_eq!(rt; normalised.bytes(), wanted.as_slice()),
-            Err(refused) => assert!(rt; false, "{refused}"),
-        }
-    }
-    Ok(())
+/// Whether `normalise_bytes` gives this text of bytes.
+fn has_normal_text(alloc: Global, bytes: &[u8], text: &[u8]) -> bool {
+    matches!(normal_text(alloc, bytes, LIMITS), Ok(normal) if normal.bytes() == text)
 }
 
-/// The answer of `normalise_bytes`, which must be that of `check`, and that of `normalise`, with the records of these lines
-/// written and flushed, whether the input comes at once or a byte at a time.
-fn refusal(alloc: Global, input: &[u8], limits: Limits, written: &[Line]) -> Result<Refused, Fail> {
-    if !limits.frame.sound() || limits.ids > 2_147_483_647 || limits.input > 1 << 62 {
-        return Err("no limits".into());
+/// Asks that bytes are normalised to this text.
+fn normalises(rt: &impl Abort, alloc: Global, bytes: &[u8], text: &[u8]) {
+    asks_memory(rt, alloc, Engine::Normalise, (bytes, LIMITS), Ok(()), text);
+    assert!(rt; has_normal_text(alloc, bytes, text));
+}
+
+#[test]
+fn normal_forms(rt: HostRuntime) {
+    for (lines, normal_lines) in &NORMAL_FORMS {
+        let input = recording(&rt, rt.alloc(), lines);
+        let wanted = recording(&rt, rt.alloc(), normal_lines);
+        normalises(&rt, rt.alloc(), input.as_slice(), wanted.as_slice());
     }
-    let refused = match normalise_bytes(alloc, input, limits) {
-        Ok(_) => return Err("its bytes are normalised".into()),
-        Err(refused) => refused,
-    };
-    let text = recording(alloc, written)?;
+}
+
+/// Whether `normalise_bytes` refuses bytes so.
+fn is_refused(alloc: Global, bytes: &[u8], limits: Limits, refused: Refused) -> bool {
+    are_sound(limits) && normal_text(alloc, bytes, limits).err() == Some(refused)
+}
+
+/// Asks that `normalise_bytes`, `check` and `normalise` answer this refusal, with the records of these lines written and
+/// flushed, whether the input comes at once or a byte at a time.
+fn refuses(
+    rt: &impl Abort,
+    alloc: Global,
+    (bytes, limits): (&[u8], Limits),
+    written: &[Line],
+    refused: Refused,
+) {
+    assert!(rt; is_refused(alloc, bytes, limits, refused), "{refused}");
+    let text = recording(rt, alloc, written);
     for piece in [1, 65_536] {
-        let mut source = TestSource::new(input);
-        source.piece = piece;
-        let mut sink = TestSink::new(alloc, 4096)?;
-        if normalise(alloc, &mut source, &mut sink, limits) != Err(refused) {
-            return Err("normalise answers something else".into());
-        }
-        if sink.bytes() != text.as_slice() || sink.flushes != 1 {
-            return Err("something else was written".into());
-        }
-        let mut source = TestSource::new(input);
-        source.piece = piece;
-        if check(alloc, &mut source, limits, false) != Err(refused) {
-            return Err("check answers something else".into());
-        }
-    }
-    Ok(refused)
-}
-
-#[test]
-fn refused_contents(rt: HostRuntime) -> Result<(), Fail> {
-    let alloc = rt.alloc();
-    for (lines, written, wanted) in REFUSED_CONTENTS {
-        let input = recording(alloc, lines)?;
-        assert_eq!(rt; refusal(alloc, input.as_slice(), LIMITS, written)?, wanted);
-    }
-    Ok(())
-}
-
-#[test]
-fn refused_records(rt: HostRuntime) -> Result<(), Fail> {
-    let alloc = rt.alloc();
-    let whole = recording(alloc, [INITIALIZE].as_slice())?;
-    let cut = whole.as_slice().get(..105).ok_or("too short")?;
-    let table = [
-        (cut, RecordCause::Cut),
-        (b"!".as_slice(), RecordCause::BadMarker),
-        (
-            b">Content-Length: 2\r\n\r\n{}x".as_slice(),
-            RecordCause::NoLineEnd,
-        ),
-        (
-            b">Content-Length: 16777217\r\n\r\n".as_slice(),
-            RecordCause::Frame(FrameFault::ContentTooLong),
-        ),
-    ];
-    for (input, cause) in table {
-        let refused = refusal(alloc, input, LIMITS, [].as_slice())?;
-        assert_eq!(rt; refused, Refused::Record(1, cause));
-    }
-    Ok(())
-}
-
-#[test]
-fn the_input_limit_is_that_of_the_normal_text_too(rt: HostRuntime) -> Result<(), Fail> {
-    let alloc = rt.alloc();
-    let input = recording(alloc, CONFIGURED.as_slice())?;
-    let normal = NORMAL_CONFIGURED;
-    for (most, records, wanted) in [
-        (10, 0, Refused::InputTooLong(1)),
-        (106, 1, Refused::InputTooLong(2)),
-        (473, 1, Refused::Grew(2)),
-        (1708, 4, Refused::Grew(5)),
-    ] {
-        let limits = Limits {
-            input: most,
-            ..LIMITS
+        let run = Run {
+            limits,
+            ..by_pieces(run_of(Engine::Normalise, bytes), piece)
         };
-        let written = normal.as_slice().get(..records).ok_or("too many")?;
-        assert_eq!(rt; refusal(alloc, input.as_slice(), limits, written)?, wanted);
+        let counts = asks(rt, alloc, run, Err(refused), text.as_slice());
+        assert!(rt; counts.flushes == 1);
+        asks_check(rt, alloc, (run.input, limits), false, Err(refused));
     }
-    let mut sink = MemorySink::new(alloc, 4096)?;
-    let limits = Limits {
-        input: 1709,
-        ..LIMITS
-    };
-    let answer = normalise(
-        alloc,
-        &mut MemorySource::new(input.as_slice()),
-        &mut sink,
-        limits,
-    );
-    assert_eq!(rt; answer, Ok(()));
-    assert_eq!(rt; sink.bytes().len(), 1709);
-    Ok(())
 }
 
 #[test]
-fn a_filled_content_may_pass_its_limit(rt: HostRuntime) -> Result<(), Fail> {
-    let alloc = rt.alloc();
-    let input = recording(alloc, [INITIALIZE, INITIALIZE_RESPONSE].as_slice())?;
-    let frame = FrameLimits {
-        content: 200,
-        ..LIMITS.frame
-    };
-    let limits = Limits { frame, ..LIMITS };
-    let refused = refusal(alloc, input.as_slice(), limits, [INITIALIZE].as_slice())?;
-    assert_eq!(rt; refused, Refused::Grew(2));
-    Ok(())
+fn refused_contents(rt: HostRuntime) {
+    for (lines, written, refused) in &REFUSED_CONTENTS {
+        let bytes = recording(&rt, rt.alloc(), lines);
+        refuses(
+            &rt,
+            rt.alloc(),
+            (bytes.as_slice(), LIMITS),
+            written,
+            *refused,
+        );
+    }
+}
+
+const REFUSED_RECORDS: [(&[u8], RecordCause); 3] = [
+    (b"!", RecordCause::BadMarker),
+    (b">Content-Length: 2\r\n\r\n{}x", RecordCause::NoLineEnd),
+    (
+        b">Content-Length: 16777217\r\n\r\n",
+        RecordCause::Frame(FrameFault::ContentTooLong),
+    ),
+];
+
+#[test]
+fn refused_records(rt: HostRuntime) {
+    for (bytes, cause) in &REFUSED_RECORDS {
+        let refused = Refused::Record(1, *cause);
+        refuses(&rt, rt.alloc(), (bytes, LIMITS), &[], refused);
+    }
+    let session = recording(&rt, rt.alloc(), &[INITIALIZE]);
+    let cut = front(&rt, session.as_slice(), 105);
+    let refused = Refused::Record(1, RecordCause::Cut);
+    refuses(&rt, rt.alloc(), (cut, LIMITS), &[], refused);
+}
+
+/// How many bytes of the configured session are taken, how many records are written, and the refusal.
+const LIMITED: [(u64, &[Line], Refused); 4] = [
+    (10, &[], Refused::InputTooLong(1)),
+    (106, &[INITIALIZE], Refused::InputTooLong(2)),
+    (473, &[INITIALIZE], Refused::Grew(2)),
+    (
+        1708,
+        &[INITIALIZE, FILLED_RESPONSE, INITIALIZED, CONFIGURATION_DONE],
+        Refused::Grew(5),
+    ),
+];
+
+#[test]
+fn the_input_limit_is_that_of_the_normal_text_too(rt: HostRuntime) {
+    let bytes = recording(&rt, rt.alloc(), &CONFIGURED);
+    for (most, written, refused) in &LIMITED {
+        let input = (bytes.as_slice(), up_to(*most));
+        refuses(&rt, rt.alloc(), input, written, *refused);
+    }
+    let normal = recording(&rt, rt.alloc(), &NORMAL_CONFIGURED);
+    assert!(rt; normal.len() == 1709);
+    let input = (bytes.as_slice(), up_to(1709));
+    asks_memory(
+        &rt,
+        rt.alloc(),
+        Engine::Normalise,
+        input,
+        Ok(()),
+        normal.as_slice(),
+    );
+}
+
+#[test]
+fn a_filled_content_may_pass_its_limit(rt: HostRuntime) {
+    let bytes = recording(&rt, rt.alloc(), &[INITIALIZE, INITIALIZE_RESPONSE]);
+    let input = (bytes.as_slice(), with_contents(200));
+    refuses(&rt, rt.alloc(), input, &[INITIALIZE], Refused::Grew(2));
 }
 
 /// A session with three frames.
@@ -523,76 +509,53 @@ pub const THREE_FRAMES: [Line; 4] = [
 ];
 
 #[test]
-fn too_many_ids(rt: HostRuntime) -> Result<(), Fail> {
-    let alloc = rt.alloc();
-    let input = recording(alloc, THREE_FRAMES.as_slice())?;
-    let two = Limits { ids: 2, ..LIMITS };
+fn too_many_ids(rt: HostRuntime) {
+    let frames = recording(&rt, rt.alloc(), &THREE_FRAMES);
     let written = [INITIALIZE, FILLED_RESPONSE, STACK_TRACE];
-    let refused = refusal(alloc, input.as_slice(), two, written.as_slice())?;
-    assert_eq!(rt; refused, Refused::TooManyIds(4));
-    let one = recording(alloc, [INITIALIZE].as_slice())?;
-    let none = Limits { ids: 0, ..LIMITS };
-    let refused = refusal(alloc, one.as_slice(), none, [].as_slice())?;
-    assert_eq!(rt; refused, Refused::TooManyIds(1));
-    Ok(())
+    let two = (frames.as_slice(), with_ids(2));
+    refuses(&rt, rt.alloc(), two, &written, Refused::TooManyIds(4));
+    let one = recording(&rt, rt.alloc(), &[INITIALIZE]);
+    let none = (one.as_slice(), with_ids(0));
+    refuses(&rt, rt.alloc(), none, &[], Refused::TooManyIds(1));
 }
 
 #[test]
-fn a_normal_text_stands_still(rt: HostRuntime) -> Result<(), Fail> {
-    let alloc = rt.alloc();
-    for (_, lines) in NORMAL_FORMS {
-        let input = recording(alloc, lines)?;
-        let mut sink = MemorySink::new(alloc, 4096)?;
-        let answer = normalise(
-            alloc,
-            &mut MemorySource::new(input.as_slice()),
-            &mut sink,
-            LIMITS,
+fn a_normal_text_stands_still(rt: HostRuntime) {
+    for (_, lines) in &NORMAL_FORMS {
+        let text = recording(&rt, rt.alloc(), lines);
+        let input = (text.as_slice(), LIMITS);
+        asks_memory(
+            &rt,
+            rt.alloc(),
+            Engine::Normalise,
+            input,
+            Ok(()),
+            text.as_slice(),
         );
-        assert_eq!(rt; answer, Ok(()));
-        assert_eq!(rt; sink.bytes(), input.as_slice());
     }
-    Ok(())
 }
 
+/// How many ids are taken, the lines of the normal text that is written, what is told, and the status.
+const TOLD: [(usize, &[Line], &[u8], u8); 2] = [
+    (2_147_483_647, &NORMAL_CONFIGURED, b"", 0),
+    (
+        1,
+        &[INITIALIZE, FILLED_RESPONSE],
+        b"dapnorm: record 3: TooManyIds\n",
+        2,
+    ),
+];
+
 #[test]
-fn the_program_writes_the_normal_text_and_one_line_of_a_refusal(
-    rt: HostRuntime,
-) -> Result<(), Fail> {
-    let alloc = rt.alloc();
-    let configured = recording(alloc, CONFIGURED.as_slice())?;
-    let normal = recording(alloc, NORMAL_CONFIGURED.as_slice())?;
-    let limits = Limits { ids: 1, ..LIMITS };
-    for (limits, len, line, wanted) in [
-        (LIMITS, 1709, b"".as_slice(), 0),
-        (
-            limits,
-            1447,
-            b"dapnorm: record 3: TooManyIds\n".as_slice(),
-            2,
-        ),
-    ] {
-        let mut sink = MemorySink::new(alloc, 4096)?;
-        let mut errors = MemorySink::new(alloc, 4096)?;
-        let status = run_stream(
-            alloc,
-            &Job::Normalise,
-            &mut MemorySource::new(configured.as_slice()),
-            &mut sink,
-            &mut errors,
-            limits,
-        );
-        assert_eq!(rt; status, wanted);
-        assert_eq!(rt;
-            sink.bytes(),
-            normal.as_slice().get(..len).ok_or("too far")?
-        );
-        assert_eq!(rt; errors.bytes(), line);
+fn the_program_writes_the_normal_text_and_one_line_of_a_refusal(rt: HostRuntime) {
+    let bytes = recording(&rt, rt.alloc(), &CONFIGURED);
+    for (ids, lines, line, wanted) in &TOLD {
+        let written = recording(&rt, rt.alloc(), lines);
+        let run = JobRun {
+            input: whole(bytes.as_slice()),
+            limits: with_ids(*ids),
+            ..job_on(Job::Normalise, b"")
+        };
+        tells(&rt, rt.alloc(), run, *wanted, written.as_slice(), line);
     }
-    let words = ["dapnorm", "normalise"];
-    match job(alloc, words.as_slice()) {
-        Ok(job) => assert_eq!(rt; job, Job::Normalise),
-        Err(fault) => assert!(rt; false, "{fault:?}"),
-    }
-    Ok(())
 }

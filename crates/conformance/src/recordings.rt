@@ -1,7 +1,7 @@
 //! Recordings for tests, written out apart from the crates that are tested.
-use crate::examples::LIMITS;
-use dapnorm::{Checked, MemorySource, Refused, check};
+use dapnorm::{Checked, Refused};
 use std::alloc::{AllocError, Global};
+use std::process::Abort;
 
 /// A marker and a content.
 pub type Line = (&'static str, &'static str);
@@ -128,21 +128,31 @@ pub fn ends_normal_records(len: usize) -> bool {
 }
 
 /// The recording of these lines.
-pub fn recording(alloc: Global, lines: &[Line]) -> Result<Vec<u8>, AllocError> {
+pub fn recording(rt: &impl Abort, alloc: Global, lines: &[Line]) -> Vec<u8> {
     let mut bytes = Vec::new(alloc);
     for (marker, content) in lines {
-        let record = format!(in alloc;
-            "{marker}Content-Length: {}\r\n\r\n{content}\n",
-            content.len()
-        )?;
-        bytes.extend_from_slice(record.as_bytes())?;
+        add_record(alloc, &mut bytes, marker, content).expect(rt, "no memory");
     }
-    Ok(bytes)
+    bytes
 }
 
-/// What `check` answers of bytes, where open requests are let be.
-pub fn checked(alloc: Global, bytes: &[u8]) -> Result<Checked, Refused> {
-    check(alloc, &mut MemorySource::new(bytes), LIMITS, false)
+/// Writes the record of a content behind bytes.
+pub fn add_record(
+    alloc: Global,
+    bytes: &mut Vec<u8>,
+    marker: &str,
+    content: &str,
+) -> Result<(), AllocError> {
+    let record = format!(in alloc;
+        "{marker}Content-Length: {}\r\n\r\n{content}\n",
+        content.len()
+    )?;
+    bytes.extend_from_slice(record.as_bytes())
+}
+
+/// So many bytes from the front.
+pub fn front<'a>(rt: &impl Abort, bytes: &'a [u8], len: usize) -> &'a [u8] {
+    bytes.get(..len).expect(rt, "too far")
 }
 
 /// That so many records are accepted, and so many requests of the client and of the adapter are open.

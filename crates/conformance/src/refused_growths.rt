@@ -1,228 +1,288 @@
 //! Each growth of a call refused in turn: the answer is that of ample memory, or want of memory, and never another.
 //!
 //! tests/fault_injection.py runs these under a shim that refuses. Without it each makes one turn with ample memory.
+use crate::engines::Engine;
 use crate::examples::{CANONICAL, LIMITS, LOOSE};
-use dap_frame::{FrameFault, Framer, write_frame};
-use dap_tree::{TreeFault, read_tree, write_tree};
-use dapnorm::{Job, MemorySink, MemorySource, Refused, UsageFault, compact, job, run_stream};
+use crate::growths::{Case, asks_each_turn, tells_each_turn, was_wanted};
+use crate::recordings::{OUTPUT, recording};
+use crate::showing::{FRAMES, SCOPES, VARIABLES};
+use crate::traces::{BOTH_SIDES, FIRST, RECORDED};
+use dap_frame::{Fed, FrameFault, Framer, write_frame};
+use dap_tree::{Side, Tree, TreeFault, read_tree, write_tree};
+use dapnorm::{Job, RecorderFault, Refused, UsageFault, job};
 use fault_injection::{refuse_growth, was_refused};
-use std::test::Fail;
+use std::alloc::Global;
+use std::process::Abort;
+
+const COMPACTED: [Case<'static>; 4] = [
+    Case {
+        engine: Engine::Compact,
+        input: LOOSE,
+        wanted: Ok(()),
+        written: CANONICAL,
+    },
+    Case {
+        engine: Engine::Compact,
+        input: b"",
+        wanted: Ok(()),
+        written: b"",
+    },
+    Case {
+        engine: Engine::Compact,
+        input: b"Content-Length: 3\r\n\r\n1.5",
+        wanted: Err(Refused::Fraction(1)),
+        written: b"",
+    },
+    Case {
+        engine: Engine::Compact,
+        input: b"Content-Length: 9\r\n\r\n{\"a\":[1.5",
+        wanted: Err(Refused::Json(1)),
+        written: b"",
+    },
+];
 
 #[test]
-fn compact_is_refused_in_turn(rt: HostRuntime) -> Result<(), Fail> {
-    let alloc = rt.alloc();
-    let refused = b"Content-Length: 9\r\n\r\n{\"a\":[1.5".as_slice();
-    for (input, wanted) in [
-        (LOOSE, Ok(CANONICAL)),
-        (b"".as_slice(), Ok(b"".as_slice())),
-        (
-            b"Content-Length: 3\r\n\r\n1.5".as_slice(),
-            Err(Refused::Fraction(1)),
-        ),
-        (refused, Err(Refused::Json(1))),
-    ] {
-        for turn in 1..1000u16 {
-            let mut sink = MemorySink::new(alloc, 4096)?;
-            refuse_growth(alloc, turn);
-            let answer = compact(alloc, &mut MemorySource::new(input), &mut sink, LIMITS);
-            let is_refused = was_refused(alloc);
-            match answer {
-                Err(Refused::Memory) => {
-                    assert!(rt; is_refused, "memory was there at turn {turn}");
-                    assert_eq!(rt; sink.bytes().len(), 0);
-                }
-                Ok(()) => assert_eq!(rt; Ok(sink.bytes()), wanted),
-                Err(refused) => assert_eq!(rt; Err(refused), wanted),
+fn compact_is_refused_in_turn(rt: HostRuntime) {
+    for case in &COMPACTED {
+        asks_each_turn(&rt, rt.alloc(), case);
+    }
+}
+
+/// A piece of the client's frame and then all of the adapter's.
+const CUT_TRACE: &[u8] = b">10\nContent-Le<25\nContent-Length: 4\r\n\r\nnull";
+
+const TRACED: [Case<'static>; 3] = [
+    Case {
+        engine: Engine::Record,
+        input: b"",
+        wanted: Ok(()),
+        written: b"",
+    },
+    Case {
+        engine: Engine::Record,
+        input: BOTH_SIDES,
+        wanted: Ok(()),
+        written: RECORDED,
+    },
+    Case {
+        engine: Engine::Record,
+        input: CUT_TRACE,
+        wanted: Err(Refused::Recorder(2, RecorderFault::Frame(Side::Client, FrameFault::Cut))),
+        written: FIRST,
+    },
+];
+
+#[test]
+fn record_is_refused_in_turn(rt: HostRuntime) {
+    for case in &TRACED {
+        asks_each_turn(&rt, rt.alloc(), case);
+    }
+}
+
+const SHOWN: &str =
+    "1 < event \"output\" seq=1\n2 < response \"stackTrace\" seq=2 request_seq=2 ok\n  frame 1000 3:1 \"f\"\n  frame 1001 9:1 \"g\"\n3 < response \"scopes\" seq=0 request_seq=-2 ok\n  scope -7 \"a \\\"b\\\"\\n\"\n  scope 0 \"\u{e9}\"\n4 < response \"variables\" seq=2 request_seq=2 ok\n  variable 0 \"a\" \"1\"\n  variable 5 \"b\" \"1\"\n  variable 0 \"c\" \"1\"\n  variable 5 \"d\" \"1\"\n  variable 3 \"e\" \"1\"\n";
+
+#[test]
+fn show_is_refused_in_turn(rt: HostRuntime) {
+    let lines = [OUTPUT, FRAMES, SCOPES, VARIABLES];
+    let bytes = recording(&rt, rt.alloc(), &lines);
+    let case = Case {
+        engine: Engine::Show,
+        input: bytes.as_slice(),
+        wanted: Ok(()),
+        written: SHOWN.as_bytes(),
+    };
+    asks_each_turn(&rt, rt.alloc(), &case);
+}
+
+/// Asks for what `write_frame` answers and leaves behind a text, with this growth refused. Whether it was.
+fn writes_frame(rt: &impl Abort, alloc: Global, turn: u16) -> bool {
+    let mut out = Vec::from_slice(alloc, b"before").expect(rt, "no memory");
+    refuse_growth(alloc, turn);
+    let answer = write_frame(&mut out, b"{}", LIMITS.frame);
+    let is_refused = was_refused(alloc);
+    if answer == Err(FrameFault::Memory) {
+        was_wanted(rt, is_refused, turn);
+        assert!(rt; out.as_slice() == b"before".as_slice());
+        assert!(rt; write_frame(&mut out, b"{}", LIMITS.frame) == Ok(()));
+    } else {
+        assert!(rt; answer == Ok(()));
+    }
+    assert!(rt; out.as_slice() == b"beforeContent-Length: 2\r\n\r\n{}".as_slice());
+    is_refused
+}
+
+#[test]
+fn write_frame_is_refused_in_turn(rt: HostRuntime) {
+    for turn in 1..100u16 {
+        if !writes_frame(&rt, rt.alloc(), turn) {
+            break;
+        }
+    }
+}
+
+/// The content of the loose frame.
+const FIRST_CONTENT: &[u8] = b"{ \"b\":1,\"a\":2 }";
+
+/// What a framer made of one piece of at most 20 bytes.
+enum Made {
+    /// It took so many bytes.
+    Took(usize),
+    /// It took so many bytes and gave the content that is wanted.
+    Gave(usize),
+    /// It wanted memory and is as before.
+    Wanted,
+    /// Anything else.
+    Failed,
+}
+
+fn told(fed: &Fed) -> Made {
+    match &fed.content {
+        None => Made::Took(fed.used),
+        Some(content) if content.as_slice() == FIRST_CONTENT => Made::Gave(fed.used),
+        Some(_) => Made::Failed,
+    }
+}
+
+fn feed(framer: &mut Framer, bytes: &[u8]) -> Made {
+    let held = framer.held();
+    let piece = bytes.get(..20).unwrap_or(bytes);
+    match framer.feed(piece) {
+        Ok(fed) => told(&fed),
+        Err(FrameFault::Memory) if framer.held() == held => Made::Wanted,
+        Err(_) => Made::Failed,
+    }
+}
+
+/// Asks that a framer gives its content with this growth refused, and is as before where it was. Whether it was.
+fn feeds_all(rt: &impl Abort, alloc: Global, turn: u16) -> bool {
+    let mut framer = Framer::new(alloc, LIMITS.frame);
+    let mut rest = LOOSE;
+    let mut is_wanted = false;
+    let mut is_given = false;
+    refuse_growth(alloc, turn);
+    for _ in 0..10 {
+        match feed(&mut framer, rest) {
+            Made::Took(used) => rest = rest.get(used..).unwrap_or(b""),
+            Made::Gave(used) => {
+                rest = rest.get(used..).unwrap_or(b"");
+                is_given = true;
+                break;
             }
-            if !is_refused {
+            Made::Wanted => is_wanted = true,
+            Made::Failed => assert!(rt; false, "another answer at turn {turn}"),
+        }
+    }
+    assert!(rt; is_given && rest.is_empty());
+    let is_refused = was_refused(alloc);
+    assert!(rt; is_wanted == is_refused);
+    is_refused
+}
+
+#[test]
+fn a_framer_is_refused_in_turn(rt: HostRuntime) {
+    for turn in 1..100u16 {
+        if !feeds_all(&rt, rt.alloc(), turn) {
+            break;
+        }
+    }
+}
+
+/// Words, and the job that they are.
+const JOBS: [(&[&str], Job<'static>); 6] = [
+    (&["dapnorm", "compact"], Job::Compact),
+    (&["dapnorm", "record"], Job::Record),
+    (&["dapnorm", "normalise"], Job::Normalise),
+    (&["dapnorm", "show"], Job::Show),
+    (
+        &["dapnorm", "check", "--complete"],
+        Job::Check { complete: true },
+    ),
+    (
+        &["dapnorm", "compare", "a", "b"],
+        Job::Compare { a: "a", b: "b" },
+    ),
+];
+
+/// Asks for the job with this growth refused. Whether it was.
+fn finds_job(rt: &impl Abort, alloc: Global, words: &[&str], wanted: &Job, turn: u16) -> bool {
+    refuse_growth(alloc, turn);
+    let answer = job(alloc, words);
+    let is_refused = was_refused(alloc);
+    match answer {
+        Ok(job) => assert!(rt; job == *wanted),
+        Err(UsageFault::Memory) => was_wanted(rt, is_refused, turn),
+        Err(_) => assert!(rt; false, "another fault at turn {turn}"),
+    }
+    is_refused
+}
+
+#[test]
+fn the_command_line_is_refused_in_turn(rt: HostRuntime) {
+    for (words, wanted) in &JOBS {
+        for turn in 1..1000u16 {
+            if !finds_job(&rt, rt.alloc(), words, wanted, turn) {
                 break;
             }
         }
     }
-    Ok(())
 }
 
 #[test]
-fn write_frame_is_refused_in_turn(rt: HostRuntime) -> Result<(), Fail> {
-    let alloc = rt.alloc();
-    for turn in 1..100u16 {
-        let mut out = Vec::from_slice(alloc, b"before")?;
-        refuse_growth(alloc, turn);
-        let answer = write_frame(&mut out, b"{}", LIMITS.frame);
-        let is_refused = was_refused(alloc);
-        match answer {
-            Err(FrameFault::Memory) => {
-                assert!(rt; is_refused, "memory was there at turn {turn}");
-                assert_eq!(rt; out.as_slice(), b"before".as_slice());
-                assert_eq!(rt; write_frame(&mut out, b"{}", LIMITS.frame), Ok(()));
-            }
-            other => assert_eq!(rt; other, Ok(())),
-        }
-        assert_eq!(rt;
-            out.as_slice(),
-            b"beforeContent-Length: 2\r\n\r\n{}".as_slice()
-        );
-        if !is_refused {
-            break;
+fn want_of_memory_is_told_without_memory(rt: HostRuntime) {
+    tells_each_turn(&rt, rt.alloc(), &Job::Compact, LOOSE, CANONICAL);
+}
+
+/// Whether the tree is sound and written so.
+fn is_written(alloc: Global, tree: &Tree, text: &str) -> bool {
+    tree.sound() && matches!(write_tree(alloc, tree), Ok(written) if written.as_str() == text)
+}
+
+const CONTENT: &[u8] =
+    b"{ \"b\" : [1, {\"c\": \"a text of some forty bytes, more or less\"}], \"a\": null }";
+
+const TEXT: &str = "{\"a\":null,\"b\":[1,{\"c\":\"a text of some forty bytes, more or less\"}]}";
+
+/// Asks for the tree of the content, or for want of memory where a growth was refused.
+fn is_tree(
+    rt: &impl Abort,
+    alloc: Global,
+    answer: Result<Tree, TreeFault>,
+    (is_refused, turn): (bool, u16),
+) {
+    match answer {
+        Ok(tree) => assert!(rt; is_written(alloc, &tree, TEXT)),
+        Err(fault) => {
+            assert!(rt; fault == TreeFault::Memory);
+            was_wanted(rt, is_refused, turn);
         }
     }
-    Ok(())
 }
 
 #[test]
-fn a_framer_is_refused_in_turn(rt: HostRuntime) -> Result<(), Fail> {
-    let alloc = rt.alloc();
-    for turn in 1..100u16 {
-        let mut framer = Framer::new(alloc, LIMITS.frame);
-        let mut rest = LOOSE;
-        let mut refusals = 0u16;
-        refuse_growth(alloc, turn);
-        for _ in 0..10 {
-            let held = framer.held();
-            match framer.feed(rest.get(..20.min(rest.len())).ok_or("no piece")?) {
-                Ok(fed) => {
-                    rest = rest.get(fed.used..).ok_or("used too much")?;
-                    if let Some(content) = fed.content {
-                        assert_eq!(rt; content.as_slice(), b"{ \"b\":1,\"a\":2 }".as_slice());
-                        break;
-                    }
-                }
-                Err(fault) => {
-                    assert_eq!(rt; fault, FrameFault::Memory);
-                    assert_eq!(rt; framer.held(), held);
-                    refusals = refusals.saturating_add(1);
-                }
-            }
-        }
-        assert!(rt; rest.is_empty());
-        let is_refused = was_refused(alloc);
-        assert_eq!(rt; refusals > 0, is_refused);
-        if !is_refused {
-            break;
-        }
-    }
-    Ok(())
-}
-
-#[test]
-fn the_command_line_is_refused_in_turn(rt: HostRuntime) -> Result<(), Fail> {
-    let alloc = rt.alloc();
-    let table = [
-        (["dapnorm", "compact"].as_slice(), Job::Compact),
-        (["dapnorm", "record"].as_slice(), Job::Record),
-        (["dapnorm", "normalise"].as_slice(), Job::Normalise),
-        (["dapnorm", "show"].as_slice(), Job::Show),
-        (
-            ["dapnorm", "compare", "a", "b"].as_slice(),
-            Job::Compare { a: "a", b: "b" },
-        ),
-    ];
-    for (words, wanted) in table {
-        for turn in 1..1000u16 {
-            refuse_growth(alloc, turn);
-            let answer = job(alloc, words);
-            let is_refused = was_refused(alloc);
-            match answer {
-                Ok(job) => assert_eq!(rt; job, wanted),
-                Err(UsageFault::Memory) => {
-                    assert!(rt; is_refused, "memory was there at turn {turn}")
-                }
-                Err(fault) => assert!(rt; false, "{fault:?}"),
-            }
-            if !is_refused {
-                break;
-            }
-        }
-    }
-    Ok(())
-}
-
-#[test]
-fn want_of_memory_is_told_without_memory(rt: HostRuntime) -> Result<(), Fail> {
-    let alloc = rt.alloc();
+fn a_tree_is_refused_in_turn(rt: HostRuntime) {
     for turn in 1..1000u16 {
-        let mut sink = MemorySink::new(alloc, 4096)?;
-        let mut errors = MemorySink::new(alloc, 4096)?;
-        refuse_growth(alloc, turn);
-        let status = run_stream(
-            alloc,
-            &Job::Compact,
-            &mut MemorySource::new(LOOSE),
-            &mut sink,
-            &mut errors,
-            LIMITS,
-        );
-        let is_refused = was_refused(alloc);
-        if status == 5 {
-            assert!(rt; is_refused, "memory was there at turn {turn}");
-            assert_eq!(rt; errors.bytes(), b"dapnorm: out of memory\n".as_slice());
-            assert_eq!(rt; sink.bytes().len(), 0);
-        } else {
-            assert_eq!(rt; status, 0);
-            assert_eq!(rt; sink.bytes(), CANONICAL);
-        }
+        refuse_growth(rt.alloc(), turn);
+        let answer = read_tree(rt.alloc(), CONTENT);
+        let is_refused = was_refused(rt.alloc());
+        is_tree(&rt, rt.alloc(), answer, (is_refused, turn));
         if !is_refused {
             break;
         }
     }
-    Ok(())
 }
 
 #[test]
-fn a_tree_is_refused_in_turn(rt: HostRuntime) -> Result<(), Fail> {
-    let alloc = rt.alloc();
-    let content =
-        b"{ \"b\" : [1, {\"c\": \"a text of some forty bytes, more or less\"}], \"a\": null }";
-    let wanted = "{\"a\":null,\"b\":[1,{\"c\":\"a text of some forty bytes, more or less\"}]}";
+fn a_copy_is_refused_in_turn(rt: HostRuntime) {
+    let tree = read_tree(rt.alloc(), TEXT.as_bytes()).expect(&rt, "no tree");
     for turn in 1..1000u16 {
-        refuse_growth(alloc, turn);
-        let answer = read_tree(alloc, content);
-        let is_refused = was_refused(alloc);
-        match answer {
-            Ok(tree) => {
-                assert!(rt; tree.sound());
-                let text = write_tree(alloc, &tree)?;
-                assert_eq!(rt; text.as_str(), wanted);
-            }
-            Err(fault) => {
-                assert_eq!(rt; fault, TreeFault::Memory);
-                assert!(rt; is_refused, "memory was there at turn {turn}");
-            }
-        }
+        refuse_growth(rt.alloc(), turn);
+        let answer = tree.copy(rt.alloc());
+        let is_refused = was_refused(rt.alloc());
+        is_tree(&rt, rt.alloc(), answer, (is_refused, turn));
+        assert!(rt; is_written(rt.alloc(), &tree, TEXT));
         if !is_refused {
             break;
         }
     }
-    Ok(())
-}
-
-#[test]
-fn a_copy_is_refused_in_turn(rt: HostRuntime) -> Result<(), Fail> {
-    let alloc = rt.alloc();
-    let content = b"{\"a\":[1,\"a text of some forty bytes, more or less\"],\"b\":{}}";
-    let wanted = "{\"a\":[1,\"a text of some forty bytes, more or less\"],\"b\":{}}";
-    let tree = read_tree(alloc, content)?;
-    for turn in 1..1000u16 {
-        refuse_growth(alloc, turn);
-        let answer = tree.copy(alloc);
-        let is_refused = was_refused(alloc);
-        match answer {
-            Ok(copy) => {
-                assert!(rt; copy.sound());
-                let text = write_tree(alloc, &copy)?;
-                assert_eq!(rt; text.as_str(), wanted);
-            }
-            Err(fault) => {
-                assert_eq!(rt; fault, TreeFault::Memory);
-                assert!(rt; is_refused, "memory was there at turn {turn}");
-            }
-        }
-        assert!(rt; tree.sound());
-        let text = write_tree(alloc, &tree)?;
-        assert_eq!(rt; text.as_str(), wanted);
-        if !is_refused {
-            break;
-        }
-    }
-    Ok(())
 }

@@ -2,11 +2,12 @@
 //! another. What is lent is as before.
 //!
 //! tests/fault_injection.py runs these under a shim that refuses. Without it each makes one turn with ample memory.
+use crate::growths::was_wanted;
 use dap_message::{Message, MessageFault, Side, typed};
 use dap_tree::{Sort, read_tree};
 use fault_injection::{refuse_growth, was_refused};
 use std::alloc::Global;
-use std::test::Fail;
+use std::process::Abort;
 
 /// A response of the adapter to `initialize` that tells one capability.
 const INITIALIZED: &str =
@@ -37,140 +38,173 @@ fn message(alloc: Global, text: &str) -> Result<Message, MessageFault> {
     }
 }
 
+fn content(alloc: Global, message: Result<Message, MessageFault>) -> Result<String, MessageFault> {
+    message?.content(alloc)
+}
+
+/// Asks for the content with this growth of typing refused. Whether it was.
+fn types_turn(
+    rt: &impl Abort,
+    alloc: Global,
+    text: &str,
+    wanted: &Result<String, MessageFault>,
+    turn: u16,
+) -> bool {
+    let tree = read_tree(alloc, text.as_bytes()).expect(rt, "no tree");
+    refuse_growth(alloc, turn);
+    let answer = typed(alloc, Side::Adapter, tree);
+    let is_refused = was_refused(alloc);
+    let found = content(alloc, answer);
+    if found == Err(MessageFault::Memory) {
+        was_wanted(rt, is_refused, turn);
+    } else {
+        assert!(rt; found == *wanted);
+    }
+    is_refused
+}
+
+/// Texts, and the length of the content of each, or why it is no message. The 34 other capabilities come in.
+const TYPED: [(&str, Result<usize, MessageFault>); 4] = [
+    (INITIALIZED, Ok(1314)),
+    (FRAMES, Ok(FRAMES.len())),
+    (TEXT_AS_COLUMN, Err(MessageFault::WrongType(65))),
+    ("[]", Err(MessageFault::NotObject)),
+];
+
+fn length(found: &Result<String, MessageFault>) -> Result<usize, MessageFault> {
+    match found {
+        Ok(content) => Ok(content.len()),
+        Err(fault) => Err(*fault),
+    }
+}
+
 #[test]
-fn typing_is_refused_in_turn(rt: HostRuntime) -> Result<(), Fail> {
-    let alloc = rt.alloc();
-    for (text, length) in [
-        // The 34 other capabilities come in.
-        (INITIALIZED, Ok(1314)),
-        (FRAMES, Ok(FRAMES.len())),
-        (TEXT_AS_COLUMN, Err(MessageFault::WrongType(65))),
-        ("[]", Err(MessageFault::NotObject)),
-    ] {
-        let wanted = message(alloc, text).and_then(|message| message.content(alloc));
-        match &wanted {
-            Ok(content) => assert_eq!(rt; Ok(content.len()), length),
-            Err(fault) => assert_eq!(rt; Err(*fault), length),
-        }
+fn typing_is_refused_in_turn(rt: HostRuntime) {
+    for (text, wanted) in &TYPED {
+        let ample = content(rt.alloc(), message(rt.alloc(), text));
+        assert!(rt; length(&ample) == *wanted);
         for turn in 1..1000u16 {
-            let Ok(tree) = read_tree(alloc, text.as_bytes()) else {
-                assert!(rt; false, "no tree");
-                return Ok(());
-            };
-            refuse_growth(alloc, turn);
-            let answer = typed(alloc, Side::Adapter, tree);
-            let is_refused = was_refused(alloc);
-            match answer.and_then(|message| message.content(alloc)) {
-                Err(MessageFault::Memory) => assert!(rt;
-                    is_refused,
-                    "memory was there at turn {turn}"
-                ),
-                answer => assert_eq!(rt; answer, wanted),
-            }
-            if !is_refused {
+            if !types_turn(&rt, rt.alloc(), text, &ample, turn) {
                 break;
             }
         }
     }
-    Ok(())
+}
+
+/// A message, which a call leaves as it is.
+fn frames(rt: &impl Abort, alloc: Global) -> Message {
+    message(alloc, FRAMES).expect(rt, "no message")
+}
+
+/// Whether the content of the message is that of the frames.
+fn has_frames(alloc: Global, message: &Message) -> bool {
+    matches!(message.content(alloc), Ok(content) if content.as_str() == FRAMES)
+}
+
+/// Whether the message has these ids, or why none were given.
+fn has_ids(alloc: Global, message: &Message) -> Result<bool, MessageFault> {
+    let ids = message.ids(alloc)?;
+    Ok(ids.as_slice() == IDS.as_slice())
+}
+
+/// Whether the tree of the message adds these ids to one that was found, or leaves it alone.
+fn adds_ids(rt: &impl Abort, alloc: Global, message: &Message, turn: u16) -> (bool, bool) {
+    let mut found = Vec::new(alloc);
+    found.push((Sort::Reference, 7)).expect(rt, "no memory");
+    refuse_growth(alloc, turn);
+    let is_added = message.tree().add_ids(&mut found).is_ok();
+    let is_refused = was_refused(alloc);
+    let (before, added) = found.as_slice().split_at(1.min(found.len()));
+    assert!(rt; before == [(Sort::Reference, 7)].as_slice());
+    if is_added {
+        assert!(rt; added == IDS.as_slice());
+    } else {
+        assert!(rt; added.is_empty());
+    }
+    (is_added, is_refused)
+}
+
+/// A copy of the message with this growth refused, and whether it was.
+fn copies(alloc: Global, message: &Message, turn: u16) -> (Result<Message, MessageFault>, bool) {
+    refuse_growth(alloc, turn);
+    let answer = message.copy(alloc);
+    (answer, was_refused(alloc))
+}
+
+fn is_like_frames(alloc: Global, copy: &Message) -> bool {
+    copy.side() == Side::Adapter && has_frames(alloc, copy)
+}
+
+/// Whether the message has the content of the frames, or why it was not given.
+fn has_content(alloc: Global, message: &Message) -> Result<bool, MessageFault> {
+    let content = message.content(alloc)?;
+    Ok(content.as_str() == FRAMES)
+}
+
+/// Asks for the answer `true`, or for want of memory where this growth was refused.
+fn is_true(rt: &impl Abort, answer: Result<bool, MessageFault>, (is_refused, turn): (bool, u16)) {
+    if answer == Err(MessageFault::Memory) {
+        was_wanted(rt, is_refused, turn);
+    } else {
+        assert!(rt; answer == Ok(true));
+    }
 }
 
 #[test]
-fn ids_are_refused_in_turn(rt: HostRuntime) -> Result<(), Fail> {
-    let alloc = rt.alloc();
-    let message = message(alloc, FRAMES)?;
+fn ids_are_refused_in_turn(rt: HostRuntime) {
+    let message = frames(&rt, rt.alloc());
     for turn in 1..1000u16 {
-        refuse_growth(alloc, turn);
-        let answer = message.ids(alloc);
-        let is_refused = was_refused(alloc);
-        match answer {
-            Ok(ids) => assert_eq!(rt; ids.as_slice(), IDS.as_slice()),
-            Err(fault) => {
-                assert_eq!(rt; fault, MessageFault::Memory);
-                assert!(rt; is_refused, "memory was there at turn {turn}");
-            }
-        }
-        let content = message.content(alloc)?;
-        assert_eq!(rt; content.as_str(), FRAMES);
+        refuse_growth(rt.alloc(), turn);
+        let answer = has_ids(rt.alloc(), &message);
+        let is_refused = was_refused(rt.alloc());
+        is_true(&rt, answer, (is_refused, turn));
+        assert!(rt; has_frames(rt.alloc(), &message));
         if !is_refused {
             break;
         }
     }
-    Ok(())
 }
 
 #[test]
-fn ids_of_a_tree_are_refused_in_turn(rt: HostRuntime) -> Result<(), Fail> {
-    let alloc = rt.alloc();
-    let message = message(alloc, FRAMES)?;
+fn ids_of_a_tree_are_refused_in_turn(rt: HostRuntime) {
+    let message = frames(&rt, rt.alloc());
     for turn in 1..1000u16 {
-        let mut found = Vec::new(alloc);
-        found.push((Sort::Reference, 7))?;
-        refuse_growth(alloc, turn);
-        let answer = message.tree().add_ids(&mut found);
-        let is_refused = was_refused(alloc);
-        let (before, added) = found.as_slice().split_at(1.min(found.len()));
-        assert_eq!(rt; before, [(Sort::Reference, 7)].as_slice());
-        match answer {
-            Ok(()) => assert_eq!(rt; added, IDS.as_slice()),
-            Err(_) => {
-                assert!(rt; is_refused, "memory was there at turn {turn}");
-                assert!(rt; added.is_empty());
-            }
+        let (is_added, is_refused) = adds_ids(&rt, rt.alloc(), &message, turn);
+        if !is_added {
+            was_wanted(&rt, is_refused, turn);
         }
         if !is_refused {
             break;
         }
     }
-    Ok(())
 }
 
 #[test]
-fn the_content_is_refused_in_turn(rt: HostRuntime) -> Result<(), Fail> {
-    let alloc = rt.alloc();
-    let message = message(alloc, FRAMES)?;
+fn the_content_is_refused_in_turn(rt: HostRuntime) {
+    let message = frames(&rt, rt.alloc());
     for turn in 1..1000u16 {
-        refuse_growth(alloc, turn);
-        let answer = message.content(alloc);
-        let is_refused = was_refused(alloc);
-        match answer {
-            Ok(content) => assert_eq!(rt; content.as_str(), FRAMES),
-            Err(fault) => {
-                assert_eq!(rt; fault, MessageFault::Memory);
-                assert!(rt; is_refused, "memory was there at turn {turn}");
-            }
-        }
+        refuse_growth(rt.alloc(), turn);
+        let answer = has_content(rt.alloc(), &message);
+        let is_refused = was_refused(rt.alloc());
+        is_true(&rt, answer, (is_refused, turn));
         if !is_refused {
             break;
         }
     }
-    Ok(())
 }
 
 #[test]
-fn a_copy_of_a_message_is_refused_in_turn(rt: HostRuntime) -> Result<(), Fail> {
-    let alloc = rt.alloc();
-    let message = message(alloc, FRAMES)?;
+fn a_copy_of_a_message_is_refused_in_turn(rt: HostRuntime) {
+    let message = frames(&rt, rt.alloc());
     for turn in 1..1000u16 {
-        refuse_growth(alloc, turn);
-        let answer = message.copy(alloc);
-        let is_refused = was_refused(alloc);
+        let (answer, is_refused) = copies(rt.alloc(), &message, turn);
         match answer {
-            Ok(copy) => {
-                assert!(rt; copy.side() == Side::Adapter);
-                let content = copy.content(alloc)?;
-                assert_eq!(rt; content.as_str(), FRAMES);
-            }
-            Err(fault) => {
-                assert_eq!(rt; fault, MessageFault::Memory);
-                assert!(rt; is_refused, "memory was there at turn {turn}");
-            }
+            Ok(copy) => assert!(rt; is_like_frames(rt.alloc(), &copy)),
+            Err(fault) => is_true(&rt, Err(fault), (is_refused, turn)),
         }
-        let content = message.content(alloc)?;
-        assert_eq!(rt; content.as_str(), FRAMES);
+        assert!(rt; has_frames(rt.alloc(), &message));
         if !is_refused {
             break;
         }
     }
-    Ok(())
 }

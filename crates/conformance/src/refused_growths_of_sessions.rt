@@ -1,17 +1,22 @@
-//! Each growth of a reader of records, a session and names refused in turn: the answer is that of ample memory, or want of
-//! memory, and never another. After want of memory each is as before, and takes the same again.
+//! Each growth of a reader of records, a recorder, a session and names refused in turn: the answer is that of ample memory,
+//! or want of memory, and never another. After want of memory each is as before, and takes the same again.
 //!
 //! tests/fault_injection.py runs these under a shim that refuses. Without it each makes one turn with ample memory.
-use crate::examples::{LIMITS, index_tables};
+use crate::examples::{IndexTable, LIMITS, index_tables};
+use crate::growths::was_wanted;
 use crate::recordings::{INITIALIZE, INITIALIZE_RESPONSE, recording};
+use crate::traces::RECORDED;
+use dap_frame::FrameFault;
 use dap_message::{Message, MessageFault, Side, typed};
-use dap_recording::{RecordCause, RecordReader, write_record};
+use dap_recording::{
+    FedRecord, Record, RecordCause, RecordReader, Recorder, RecorderFault, write_record,
+};
 use dap_rename::{NameFault, Names};
 use dap_session::{Session, SessionFault};
 use dap_tree::{Sort, read_tree};
 use fault_injection::{refuse_growth, was_refused};
 use std::alloc::Global;
-use std::test::Fail;
+use std::process::Abort;
 
 /// Two requests of a client.
 const SCOPES_REQUEST: &str =
@@ -28,134 +33,269 @@ const RENAMED_SCOPES: &str =
     "{\"body\":{\"scopes\":[{\"name\":\"a\",\"variablesReference\":1},{\"name\":\"b\",\"variablesReference\":2}]},\"command\":\"scopes\",\"request_seq\":1,\"seq\":1,\"success\":true,\"type\":\"response\"}";
 
 /// The message of a side, with ample memory.
-fn message(alloc: Global, side: Side, text: &str) -> Result<Message, MessageFault> {
+fn message(rt: &impl Abort, alloc: Global, side: Side, text: &str) -> Message {
+    typed_text(alloc, side, text).expect(rt, "no message")
+}
+
+fn typed_text(alloc: Global, side: Side, text: &str) -> Result<Message, MessageFault> {
     match read_tree(alloc, text.as_bytes()) {
         Ok(tree) => typed(alloc, side, tree),
         Err(_) => Err(MessageFault::Memory),
     }
 }
 
-#[test]
-fn a_reader_of_records_is_refused_in_turn(rt: HostRuntime) -> Result<(), Fail> {
-    let alloc = rt.alloc();
-    let bytes = recording(alloc, [INITIALIZE].as_slice())?;
-    for turn in 1..100u16 {
-        let mut reader = RecordReader::new(alloc, LIMITS.frame);
-        let mut rest = bytes.as_slice();
-        let mut refusals = 0u16;
-        refuse_growth(alloc, turn);
-        for _ in 0..20 {
-            match reader.feed(rest.get(..20.min(rest.len())).ok_or("no piece")?) {
-                Ok(fed) => {
-                    rest = rest.get(fed.used..).ok_or("used too much")?;
-                    if let Some(record) = fed.whole {
-                        assert!(rt; record.side == Side::Client);
-                        assert_eq!(rt; record.content.as_slice(), INITIALIZE.1.as_bytes());
-                        break;
-                    }
-                }
-                Err(fault) => {
-                    assert!(rt; fault.number == 1 && fault.cause == RecordCause::Memory);
-                    refusals = refusals.saturating_add(1);
-                }
-            }
-        }
-        assert!(rt; rest.is_empty());
-        let is_refused = was_refused(alloc);
-        assert_eq!(rt; refusals > 0, is_refused);
-        if !is_refused {
+/// What a call made of one piece.
+#[derive(Clone, Copy, PartialEq, Eq)]
+enum Made {
+    /// It took so many bytes.
+    Took(usize),
+    /// It wanted memory and is as before.
+    Wanted,
+    /// Anything else.
+    Failed,
+}
+
+fn told(fed: &FedRecord) -> Made {
+    match &fed.whole {
+        None => Made::Took(fed.used),
+        Some(record) if is_initialize(record) => Made::Took(fed.used),
+        Some(_) => Made::Failed,
+    }
+}
+
+/// Gives a reader at most 20 bytes. A record that ends has to be that of `initialize`.
+fn read(reader: &mut RecordReader, bytes: &[u8]) -> Made {
+    let piece = bytes.get(..20).unwrap_or(bytes);
+    match reader.feed(piece) {
+        Ok(fed) => told(&fed),
+        Err(fault) if fault.number == 1 && fault.cause == RecordCause::Memory => Made::Wanted,
+        Err(_) => Made::Failed,
+    }
+}
+
+fn is_initialize(record: &Record) -> bool {
+    record.side == Side::Client && record.content.as_slice() == INITIALIZE.1.as_bytes()
+}
+
+/// Asks that a reader takes all of a recording with this growth refused. Whether it was.
+fn reads_all(rt: &impl Abort, alloc: Global, bytes: &[u8], turn: u16) -> bool {
+    let mut reader = RecordReader::new(alloc, LIMITS.frame);
+    let mut rest = bytes;
+    let mut is_wanted = false;
+    refuse_growth(alloc, turn);
+    for _ in 0..20 {
+        if rest.is_empty() {
             break;
         }
+        match read(&mut reader, rest) {
+            Made::Took(used) => rest = rest.get(used..).unwrap_or(b"!"),
+            Made::Wanted => is_wanted = true,
+            Made::Failed => assert!(rt; false, "another answer at turn {turn}"),
+        }
     }
-    Ok(())
+    assert!(rt; rest.is_empty());
+    let is_refused = was_refused(alloc);
+    assert!(rt; is_wanted == is_refused);
+    is_refused
 }
 
 #[test]
-fn write_record_is_refused_in_turn(rt: HostRuntime) -> Result<(), Fail> {
-    let alloc = rt.alloc();
+fn a_reader_of_records_is_refused_in_turn(rt: HostRuntime) {
+    let bytes = recording(&rt, rt.alloc(), &[INITIALIZE]);
     for turn in 1..100u16 {
-        let mut out = Vec::from_slice(alloc, b"before")?;
-        refuse_growth(alloc, turn);
-        let answer = write_record(&mut out, Side::Adapter, b"{}", LIMITS.frame);
-        let is_refused = was_refused(alloc);
-        if answer.is_err() {
-            assert!(rt; is_refused, "memory was there at turn {turn}");
-            assert_eq!(rt; out.as_slice(), b"before".as_slice());
-            write_record(&mut out, Side::Adapter, b"{}", LIMITS.frame)?;
-        }
-        assert_eq!(rt;
-            out.as_slice(),
-            b"before<Content-Length: 2\r\n\r\n{}\n".as_slice()
-        );
-        if !is_refused {
+        if !reads_all(&rt, rt.alloc(), bytes.as_slice(), turn) {
             break;
         }
     }
-    Ok(())
+}
+
+/// Gives a recorder the bytes of a side. Where it wants memory its text is as before.
+fn record(recorder: &mut Recorder, side: Side, bytes: &[u8]) -> Made {
+    let before = recorder.text().len();
+    match recorder.piece(side, bytes) {
+        Ok(used) => Made::Took(used),
+        Err(RecorderFault::Memory) if recorder.text().len() == before => Made::Wanted,
+        Err(_) => Made::Failed,
+    }
+}
+
+/// Asks that a recorder takes all of a piece. Whether it wanted memory.
+fn records_all(rt: &impl Abort, recorder: &mut Recorder, side: Side, piece: &[u8]) -> bool {
+    let mut rest = piece;
+    let mut is_wanted = false;
+    for _ in 0..10 {
+        if rest.is_empty() {
+            break;
+        }
+        match record(recorder, side, rest) {
+            Made::Took(used) => rest = rest.get(used..).unwrap_or(b"!"),
+            Made::Wanted => is_wanted = true,
+            Made::Failed => assert!(rt; false, "another answer"),
+        }
+    }
+    assert!(rt; rest.is_empty());
+    is_wanted
+}
+
+const PIECES: [(Side, &[u8]); 4] = [
+    (Side::Client, b"Content-Le"),
+    (Side::Adapter, b"Content-Length: 4\r\n\r\nnull"),
+    (Side::Client, b"ngth: 2\r\n\r\n{"),
+    (Side::Client, b"}"),
+];
+
+/// Asks for the recording of the pieces with this growth refused. Whether it was.
+fn records_pieces(rt: &impl Abort, alloc: Global, turn: u16) -> bool {
+    let mut recorder = Recorder::new(alloc, LIMITS.frame);
+    let mut is_wanted = false;
+    refuse_growth(alloc, turn);
+    for (side, piece) in &PIECES {
+        if records_all(rt, &mut recorder, *side, piece) {
+            is_wanted = true;
+        }
+    }
+    assert!(rt; recorder.text() == RECORDED);
+    assert!(rt; recorder.finish().is_ok());
+    let is_refused = was_refused(alloc);
+    assert!(rt; is_wanted == is_refused);
+    is_refused
 }
 
 #[test]
-fn a_session_is_refused_in_turn(rt: HostRuntime) -> Result<(), Fail> {
-    let alloc = rt.alloc();
-    let initialize = message(alloc, Side::Client, INITIALIZE.1)?;
-    let response = message(alloc, Side::Adapter, INITIALIZE_RESPONSE.1)?;
-    let scopes = message(alloc, Side::Client, SCOPES_REQUEST)?;
-    let other = message(alloc, Side::Client, OTHER_REQUEST)?;
+fn a_recorder_is_refused_in_turn(rt: HostRuntime) {
     for turn in 1..100u16 {
-        let mut session = Session::new(alloc);
-        let mut open = 0usize;
-        refuse_growth(alloc, turn);
-        for message in [&initialize, &response, &scopes, &other] {
-            let mut answer = session.accept(message);
-            if answer.is_err() {
-                assert!(rt; was_refused(alloc), "memory was there at turn {turn}");
-                assert_eq!(rt; answer, Err(SessionFault::Memory));
-                assert_eq!(rt; session.open(Side::Client), open);
-                answer = session.accept(message);
-            }
-            assert_eq!(rt; answer, Ok(()));
-            open = session.open(Side::Client);
-        }
-        assert_eq!(rt; open, 2);
-        if !was_refused(alloc) {
+        if !records_pieces(&rt, rt.alloc(), turn) {
             break;
         }
     }
-    Ok(())
+}
+
+/// Asks for the record behind a text with this growth refused. Whether it was.
+fn writes_record(rt: &impl Abort, alloc: Global, turn: u16) -> bool {
+    let mut out = Vec::from_slice(alloc, b"before").expect(rt, "no memory");
+    refuse_growth(alloc, turn);
+    let answer = write_record(&mut out, Side::Adapter, b"{}", LIMITS.frame);
+    let is_refused = was_refused(alloc);
+    if answer.is_err() {
+        was_wanted(rt, is_refused, turn);
+        assert!(rt; answer == Err(FrameFault::Memory));
+        assert!(rt; out.as_slice() == b"before".as_slice());
+        assert!(rt; write_record(&mut out, Side::Adapter, b"{}", LIMITS.frame).is_ok());
+    }
+    assert!(rt; out.as_slice() == b"before<Content-Length: 2\r\n\r\n{}\n".as_slice());
+    is_refused
 }
 
 #[test]
-fn names_are_refused_in_turn(rt: HostRuntime) -> Result<(), Fail> {
+fn write_record_is_refused_in_turn(rt: HostRuntime) {
+    for turn in 1..100u16 {
+        if !writes_record(&rt, rt.alloc(), turn) {
+            break;
+        }
+    }
+}
+
+/// Asks that a session accepts a message, again where it wanted memory, and is as before where it did. Whether it did.
+fn accepts(
+    rt: &impl Abort,
+    alloc: Global,
+    session: &mut Session,
+    message: &Message,
+    turn: u16,
+) -> bool {
+    let open = session.open(Side::Client);
+    let answer = session.accept(message);
+    if answer.is_ok() {
+        return false;
+    }
+    was_wanted(rt, was_refused(alloc), turn);
+    assert!(rt; answer == Err(SessionFault::Memory));
+    assert!(rt; session.open(Side::Client) == open);
+    assert!(rt; session.accept(message) == Ok(()));
+    true
+}
+
+/// Asks that a session accepts the messages with this growth refused. Whether it was.
+fn accepts_all(rt: &impl Abort, alloc: Global, messages: &[Message], turn: u16) -> bool {
+    let mut session = Session::new(alloc);
+    let mut is_wanted = false;
+    refuse_growth(alloc, turn);
+    for message in messages {
+        if accepts(rt, alloc, &mut session, message, turn) {
+            is_wanted = true;
+        }
+    }
+    assert!(rt; session.open(Side::Client) == 2);
+    // Hearing of a refusal ends it.
+    is_wanted || was_refused(alloc)
+}
+
+#[test]
+fn a_session_is_refused_in_turn(rt: HostRuntime) {
     let alloc = rt.alloc();
+    let messages = [
+        message(&rt, alloc, Side::Client, INITIALIZE.1),
+        message(&rt, alloc, Side::Adapter, INITIALIZE_RESPONSE.1),
+        message(&rt, alloc, Side::Client, SCOPES_REQUEST),
+        message(&rt, alloc, Side::Client, OTHER_REQUEST),
+    ];
+    for turn in 1..100u16 {
+        if !accepts_all(&rt, alloc, &messages, turn) {
+            break;
+        }
+    }
+}
+
+/// What names made of a message.
+fn renamed(names: &mut Names<IndexTable>, message: Message) -> Result<Message, NameFault> {
+    names.rename(message)
+}
+
+const SORTS: [Sort; 4] = [
+    Sort::ClientSeq,
+    Sort::AdapterSeq,
+    Sort::Frame,
+    Sort::Reference,
+];
+
+fn are_empty(names: &Names<IndexTable>) -> bool {
+    for sort in &SORTS {
+        if names.len(*sort) != 0 {
+            return false;
+        }
+    }
+    true
+}
+
+fn has_content(alloc: Global, message: &Message, text: &str) -> bool {
+    matches!(message.content(alloc), Ok(content) if content.as_str() == text)
+}
+
+/// Asks for the renamed message with this growth refused, of names that are empty again where it was. Whether it was.
+fn renames(rt: &impl Abort, alloc: Global, turn: u16) -> bool {
+    let mut names = Names::new(alloc, index_tables(alloc, 4));
+    let first = message(rt, alloc, Side::Adapter, SCOPES);
+    let again = message(rt, alloc, Side::Adapter, SCOPES);
+    refuse_growth(alloc, turn);
+    let mut answer = renamed(&mut names, first);
+    let is_refused = was_refused(alloc);
+    if let Err(fault) = answer {
+        assert!(rt; fault == NameFault::Memory);
+        was_wanted(rt, is_refused, turn);
+        assert!(rt; are_empty(&names));
+        answer = renamed(&mut names, again);
+    }
+    let answer = answer.expect(rt, "not renamed");
+    assert!(rt; has_content(alloc, &answer, RENAMED_SCOPES));
+    assert!(rt; names.len(Sort::Reference) == 2);
+    is_refused
+}
+
+#[test]
+fn names_are_refused_in_turn(rt: HostRuntime) {
     for turn in 1..1000u16 {
-        let mut names = Names::new(alloc, index_tables(alloc, 4));
-        let first = message(alloc, Side::Adapter, SCOPES)?;
-        let again = message(alloc, Side::Adapter, SCOPES)?;
-        refuse_growth(alloc, turn);
-        let answer = names.rename(first);
-        let is_refused = was_refused(alloc);
-        let renamed = match answer {
-            Ok(renamed) => renamed,
-            Err(fault) => {
-                assert_eq!(rt; fault, NameFault::Memory);
-                assert!(rt; is_refused, "memory was there at turn {turn}");
-                for sort in [
-                    Sort::ClientSeq,
-                    Sort::AdapterSeq,
-                    Sort::Frame,
-                    Sort::Reference,
-                ] {
-                    assert_eq!(rt; names.len(sort), 0);
-                }
-                names.rename(again)?
-            }
-        };
-        let content = renamed.content(alloc)?;
-        assert_eq!(rt; content.as_str(), RENAMED_SCOPES);
-        assert_eq!(rt; names.len(Sort::Reference), 2);
-        if !is_refused {
+        if !renames(&rt, rt.alloc(), turn) {
             break;
         }
     }
-    Ok(())
 }

@@ -1,12 +1,14 @@
 //! Each rule of a session, broken alone and together with another, through `check`.
+use crate::checking::{checks, checks_lines};
+use crate::engines::checked;
+use crate::examples::LIMITS;
 use crate::recordings::{
     CONFIGURATION_DONE, CONFIGURED, INITIALIZE, INITIALIZE_RESPONSE, Line, OUTPUT, STOPPED,
-    THREADS, accepted, checked, recording,
+    THREADS, accepted, add_record, recording,
 };
-use dapnorm::{Refused, Rule};
+use dapnorm::{MemorySource, Refused, Rule};
 use std::alloc::Global;
 use std::process::Abort;
-use std::test::Fail;
 
 const BEGUN: [Line; 2] = [INITIALIZE, INITIALIZE_RESPONSE];
 
@@ -85,27 +87,38 @@ const INITIALIZE_ANSWERED_OTHERWISE: Line = (
     "{\"command\":\"pause\",\"request_seq\":1,\"seq\":1,\"success\":true,\"type\":\"response\"}",
 );
 
+/// Lines that break no rule, a line behind them, and the rule that it breaks.
+type Broken = (&'static [Line], Line, Rule);
+
+/// The recording of the lines with the last one.
+pub fn broken_recording(rt: &impl Abort, alloc: Global, broken: &Broken) -> Vec<u8> {
+    let (before, (marker, content), _) = broken;
+    let mut bytes = recording(rt, alloc, before);
+    add_record(alloc, &mut bytes, marker, content).expect(rt, "no memory");
+    bytes
+}
+
 /// Asks that the last line breaks the rule, and that no line before it breaks any.
-fn breaks(
-    rt: &impl Abort,
-    alloc: Global,
-    before: &[Line],
-    last: Line,
-    rule: Rule,
-) -> Result<(), Fail> {
-    let mut bytes = recording(alloc, before)?;
-    assert!(rt; checked(alloc, bytes.as_slice()).is_ok(), "{rule}");
-    bytes.extend_from_slice(recording(alloc, [last].as_slice())?.as_slice())?;
+fn breaks(rt: &impl Abort, alloc: Global, broken: &Broken) {
+    let (before, _, rule) = broken;
+    let bytes = recording(rt, alloc, before);
+    assert!(rt; is_accepted(alloc, bytes.as_slice()), "{rule}");
+    let bytes = broken_recording(rt, alloc, broken);
     let number = (before.len() as u64).saturating_add(1);
-    assert_eq!(rt;
-        checked(alloc, bytes.as_slice()),
-        Err(Refused::Rule(number, rule))
+    checks(
+        rt,
+        alloc,
+        bytes.as_slice(),
+        Err(Refused::Rule(number, *rule)),
     );
-    Ok(())
+}
+
+fn is_accepted(alloc: Global, bytes: &[u8]) -> bool {
+    checked(alloc, &mut MemorySource::new(bytes), LIMITS, false).is_ok()
 }
 
 /// A line that breaks each rule behind lines that break none.
-pub const BROKEN_ALONE: [(&[Line], Line, Rule); 11] = [
+pub const BROKEN_ALONE: [Broken; 11] = [
     (&BEGUN, CLIENT_EVENT, Rule::EventFromClient),
     (&[], STOPPED, Rule::NotInitialized),
     (&[INITIALIZE], THREADS, Rule::StillInitializing),
@@ -120,78 +133,61 @@ pub const BROKEN_ALONE: [(&[Line], Line, Rule); 11] = [
 ];
 
 #[test]
-fn each_rule_broken_alone(rt: HostRuntime) -> Result<(), Fail> {
-    let alloc = rt.alloc();
-    for (before, last, rule) in BROKEN_ALONE {
-        breaks(&rt, alloc, before, last, rule)?;
+fn each_rule_broken_alone(rt: HostRuntime) {
+    for broken in &BROKEN_ALONE {
+        breaks(&rt, rt.alloc(), broken);
     }
-    Ok(())
 }
 
-#[test]
-fn of_two_broken_rules_the_first_is_told(rt: HostRuntime) -> Result<(), Fail> {
-    let alloc = rt.alloc();
-    let initializing = [INITIALIZE];
-    let (begun, disconnected, configured) = (BEGUN, DISCONNECTED, CONFIGURED);
-    // The other rules that these break: NotInitialized, NoRequest, NoRequest, InitializeTwice, AfterDisconnect, SeqUsed,
-    // SeqUsed, ConfiguredEarly, ConfiguredTwice, OtherCommand.
-    for (before, last, rule) in [
-        ([].as_slice(), CLIENT_EVENT, Rule::EventFromClient),
-        ([].as_slice(), INITIALIZE_RESPONSE, Rule::NotInitialized),
-        (
-            initializing.as_slice(),
-            CLIENT_TO_NONE,
-            Rule::StillInitializing,
-        ),
-        (
-            initializing.as_slice(),
-            INITIALIZE_AGAIN,
-            Rule::StillInitializing,
-        ),
-        (
-            disconnected.as_slice(),
-            INITIALIZE_AGAIN,
-            Rule::InitializeTwice,
-        ),
-        (begun.as_slice(), INITIALIZE, Rule::InitializeTwice),
-        (disconnected.as_slice(), THREADS, Rule::AfterDisconnect),
-        (begun.as_slice(), CONFIGURATION_DONE_USED, Rule::SeqUsed),
-        (configured.as_slice(), CONFIGURATION_DONE, Rule::SeqUsed),
-        (
-            begun.as_slice(),
-            INITIALIZE_ANSWERED_OTHERWISE,
-            Rule::AnsweredTwice,
-        ),
-    ] {
-        breaks(&rt, alloc, before, last, rule)?;
-    }
-    Ok(())
-}
+/// Lines that break two rules, and the one that is told. The others: NotInitialized, NoRequest, NoRequest, InitializeTwice,
+/// AfterDisconnect, SeqUsed, SeqUsed, ConfiguredEarly, ConfiguredTwice, OtherCommand.
+const BROKEN_TWICE: [Broken; 10] = [
+    (&[], CLIENT_EVENT, Rule::EventFromClient),
+    (&[], INITIALIZE_RESPONSE, Rule::NotInitialized),
+    (&[INITIALIZE], CLIENT_TO_NONE, Rule::StillInitializing),
+    (&[INITIALIZE], INITIALIZE_AGAIN, Rule::StillInitializing),
+    (&DISCONNECTED, INITIALIZE_AGAIN, Rule::InitializeTwice),
+    (&BEGUN, INITIALIZE, Rule::InitializeTwice),
+    (&DISCONNECTED, THREADS, Rule::AfterDisconnect),
+    (&BEGUN, CONFIGURATION_DONE_USED, Rule::SeqUsed),
+    (&CONFIGURED, CONFIGURATION_DONE, Rule::SeqUsed),
+    (&BEGUN, INITIALIZE_ANSWERED_OTHERWISE, Rule::AnsweredTwice),
+];
 
 #[test]
-fn output_breaks_no_rule(rt: HostRuntime) -> Result<(), Fail> {
-    let alloc = rt.alloc();
-    let lines = [OUTPUT, INITIALIZE, OUTPUT, INITIALIZE_RESPONSE, OUTPUT];
-    let bytes = recording(alloc, lines.as_slice())?;
-    assert_eq!(rt; checked(alloc, bytes.as_slice()), accepted(5, 0, 0));
+fn of_two_broken_rules_the_first_is_told(rt: HostRuntime) {
+    for broken in &BROKEN_TWICE {
+        breaks(&rt, rt.alloc(), broken);
+    }
+}
+
+const WITH_OUTPUT: [Line; 5] = [OUTPUT, INITIALIZE, OUTPUT, INITIALIZE_RESPONSE, OUTPUT];
+
+#[test]
+fn output_breaks_no_rule(rt: HostRuntime) {
+    checks_lines(&rt, rt.alloc(), &WITH_OUTPUT, accepted(5, 0, 0));
     // That of a client is an event of a client.
-    let of_client: Line = (">", OUTPUT.1);
-    breaks(&rt, alloc, [].as_slice(), of_client, Rule::EventFromClient)
+    let (_, output) = OUTPUT;
+    let no_lines: &[Line] = &[];
+    let of_client = (no_lines, (">", output), Rule::EventFromClient);
+    breaks(&rt, rt.alloc(), &of_client);
 }
 
+/// A request of the adapter, and its response.
+const ASKS: Line = (
+    "<",
+    "{\"arguments\":{\"args\":[\"sh\"],\"cwd\":\"/\"},\"command\":\"runInTerminal\",\"seq\":1,\"type\":\"request\"}",
+);
+
+const ANSWERS: Line = (
+    ">",
+    "{\"command\":\"runInTerminal\",\"request_seq\":1,\"seq\":2,\"success\":true,\"type\":\"response\"}",
+);
+
+const ASKED_BY_ADAPTER: [Line; 4] = [INITIALIZE, INITIALIZE_RESPONSE, ASKS, ANSWERS];
+
 #[test]
-fn each_side_has_numbers_of_its_own(rt: HostRuntime) -> Result<(), Fail> {
-    let alloc = rt.alloc();
-    let asks: Line = (
-        "<",
-        "{\"arguments\":{\"args\":[\"sh\"],\"cwd\":\"/\"},\"command\":\"runInTerminal\",\"seq\":1,\"type\":\"request\"}",
-    );
-    let answers: Line = (
-        ">",
-        "{\"command\":\"runInTerminal\",\"request_seq\":1,\"seq\":2,\"success\":true,\"type\":\"response\"}",
-    );
-    let lines = [INITIALIZE, INITIALIZE_RESPONSE, asks, answers];
-    let bytes = recording(alloc, lines.as_slice())?;
-    assert_eq!(rt; checked(alloc, bytes.as_slice()), accepted(4, 0, 0));
-    breaks(&rt, alloc, lines.as_slice(), asks, Rule::SeqUsed)
+fn each_side_has_numbers_of_its_own(rt: HostRuntime) {
+    checks_lines(&rt, rt.alloc(), &ASKED_BY_ADAPTER, accepted(4, 0, 0));
+    breaks(&rt, rt.alloc(), &(&ASKED_BY_ADAPTER, ASKS, Rule::SeqUsed));
 }

@@ -1,302 +1,321 @@
 //! The engines that hold one record at a time: how the bytes of a recording come does not matter, and little is read behind
 //! what is answered.
 use crate::comparing::UNNUMBERED;
-use crate::devices::{TestSink, TestSource};
-use crate::examples::LIMITS;
+use crate::devices::{Failing, Input, Output, ROOM, TestSource, whole};
+use crate::engines::{Engine, answer};
+use crate::examples::{LIMITS, up_to};
 use crate::recordings::{
-    ANSWERED_TWICE, CONFIGURED, FILLED_RESPONSE, INITIALIZE, INITIALIZE_RESPONSE,
-    NORMAL_CONFIGURED, OUTPUT, last_end, recording,
+    ANSWERED_TWICE, CONFIGURED, FILLED_RESPONSE, INITIALIZE, INITIALIZE_RESPONSE, Line,
+    NORMAL_CONFIGURED, OUTPUT, front, last_end, recording,
 };
-use crate::worked::{Outcome, is_one, worked};
-use dapnorm::{
-    CompareRefused, Limits, MemorySink, MemorySource, RecordCause, Refused, Rule, Source, Verdict,
-    Which, check, compare, normalise,
+use crate::runs::{
+    Compared, Run, asks, asks_check, asks_compare, checked_of, is_one, run_of, verdict_on,
 };
-use std::alloc::{AllocError, Global};
-use std::test::Fail;
+use crate::worked::worked;
+use dapnorm::{Checked, CompareRefused, MemorySink, RecordCause, Refused, Rule, Which};
+use std::alloc::Global;
+use std::process::Abort;
 
-/// The answers where a read gives at most so many bytes.
-fn answers(alloc: Global, bytes: &[u8], piece: usize) -> Result<Outcome, Fail> {
-    let mut source = TestSource::new(bytes);
-    source.piece = piece;
-    let mut sink = MemorySink::new(alloc, 4096)?;
-    let normalised = normalise(alloc, &mut source, &mut sink, LIMITS);
-    let mut source = TestSource::new(bytes);
-    source.piece = piece;
-    let checked = check(alloc, &mut source, LIMITS, false);
-    let mut source = TestSource::new(bytes);
-    source.piece = piece;
-    let complete = check(alloc, &mut source, LIMITS, true);
-    Ok(Outcome {
-        normalised,
-        written: Vec::from_slice(alloc, sink.bytes())?,
-        checked,
-        complete,
-    })
+/// What the engines answer of one recording, and what is written of it.
+#[derive(PartialEq, Eq, Drop)]
+struct Outcome {
+    normalised: Result<(), Refused>,
+    written: Vec<u8>,
+    checked: Result<Checked, Refused>,
+    complete: Result<Checked, Refused>,
 }
 
-#[test]
-fn recordings_that_come_a_byte_at_a_time(rt: HostRuntime) -> Result<(), Fail> {
-    let alloc = rt.alloc();
-    let all = worked(alloc)?;
-    for bytes in all.iter() {
-        let at_once = answers(alloc, bytes.as_slice(), 65_536)?;
-        let by_bytes = answers(alloc, bytes.as_slice(), 1)?;
-        assert_eq!(rt; by_bytes.normalised, at_once.normalised);
-        assert_eq!(rt; by_bytes.written.as_slice(), at_once.written.as_slice());
-        assert_eq!(rt; by_bytes.checked, at_once.checked);
-        assert_eq!(rt; by_bytes.complete, at_once.complete);
+/// An input of which a read gives at most so many bytes.
+fn by(text: &[u8], piece: usize) -> Input<'_> {
+    Input {
+        piece,
+        ..whole(text)
     }
-    Ok(())
 }
 
-/// What `compare` answers where a read gives at most so many bytes.
-fn verdict(alloc: Global, a: &[u8], b: &[u8], piece: usize) -> Result<Verdict, CompareRefused> {
-    let mut source_a = TestSource::new(a);
-    source_a.piece = piece;
-    let mut source_b = TestSource::new(b);
-    source_b.piece = piece;
-    compare(alloc, &mut source_a, &mut source_b, LIMITS)
+/// What `normalise` writes and answers.
+fn normalised(rt: &impl Abort, alloc: Global, input: Input) -> (Result<(), Refused>, Vec<u8>) {
+    let mut source = TestSource::new(input);
+    let mut sink = MemorySink::new(alloc, 4096).expect(rt, "no memory");
+    let answer = answer(Engine::Normalise, alloc, &mut source, &mut sink, LIMITS);
+    let written = Vec::from_slice(alloc, sink.bytes()).expect(rt, "no memory");
+    (answer, written)
+}
+
+fn outcome_of(rt: &impl Abort, alloc: Global, input: Input) -> Outcome {
+    let (normalised, written) = normalised(rt, alloc, input);
+    Outcome {
+        normalised,
+        written,
+        checked: checked_of(alloc, input, false),
+        complete: checked_of(alloc, input, true),
+    }
 }
 
 #[test]
-fn two_recordings_that_come_a_byte_at_a_time(rt: HostRuntime) -> Result<(), Fail> {
+fn recordings_that_come_a_byte_at_a_time(rt: HostRuntime) {
+    let all = worked(&rt, rt.alloc());
+    for bytes in all.iter() {
+        let at_once = outcome_of(&rt, rt.alloc(), whole(bytes.as_slice()));
+        let by_bytes = outcome_of(&rt, rt.alloc(), by(bytes.as_slice(), 1));
+        assert!(rt; by_bytes == at_once);
+    }
+}
+
+/// Whether `compare` answers the same where the inputs come a byte at a time.
+fn is_one_by_bytes(alloc: Global, a: &[u8], b: &[u8]) -> bool {
+    let at_once = verdict_on(alloc, whole(a), whole(b));
+    let by_bytes = verdict_on(alloc, by(a, 1), by(b, 1));
+    is_one(&by_bytes, &at_once)
+}
+
+#[test]
+fn two_recordings_that_come_a_byte_at_a_time(rt: HostRuntime) {
     let alloc = rt.alloc();
-    let all = worked(alloc)?;
-    let configured = recording(alloc, CONFIGURED.as_slice())?;
+    let all = worked(&rt, alloc);
+    let configured = recording(&rt, alloc, &CONFIGURED);
     let session = configured.as_slice();
     // Each is compared with itself, with the one before it, and with the configured session.
     let mut before = b"".as_slice();
     for bytes in all.iter() {
         let bytes = bytes.as_slice();
-        for (a, b) in [
-            (bytes, bytes),
-            (before, bytes),
-            (session, bytes),
-            (bytes, session),
-        ] {
-            let at_once = verdict(alloc, a, b, 65_536);
-            let by_bytes = verdict(alloc, a, b, 1);
-            assert!(rt; is_one(&by_bytes, &at_once));
-        }
+        assert!(rt; is_one_by_bytes(alloc, bytes, bytes));
+        assert!(rt; is_one_by_bytes(alloc, before, bytes));
+        assert!(rt; is_one_by_bytes(alloc, session, bytes));
+        assert!(rt; is_one_by_bytes(alloc, bytes, session));
         before = bytes;
     }
-    Ok(())
 }
 
-#[test]
-fn nothing_is_read_behind_what_is_answered(rt: HostRuntime) -> Result<(), Fail> {
-    let alloc = rt.alloc();
-    let twice = recording(alloc, ANSWERED_TWICE.as_slice())?;
-    let mut bytes = Vec::from_slice(alloc, twice.as_slice())?;
-    bytes.extend_from_slice(twice.as_slice())?;
-    let refused = Refused::Rule(3, Rule::AnsweredTwice);
-    let mut source = TestSource::new(bytes.as_slice());
-    source.piece = 1;
-    let mut sink = MemorySink::new(alloc, 4096)?;
-    let answer = normalise(alloc, &mut source, &mut sink, LIMITS);
-    assert_eq!(rt; answer, Err(refused));
-    assert_eq!(rt; source.given(), twice.len() as u64);
-    let mut source = TestSource::new(bytes.as_slice());
-    source.piece = 1;
-    assert_eq!(rt; check(alloc, &mut source, LIMITS, false), Err(refused));
-    assert_eq!(rt; source.given(), twice.len() as u64);
-    Ok(())
-}
-
-#[test]
-fn compare_reads_a_record_of_each_in_turn(rt: HostRuntime) -> Result<(), Fail> {
-    let alloc = rt.alloc();
-    let configured = recording(alloc, CONFIGURED.as_slice())?;
-    let twice = recording(alloc, ANSWERED_TWICE.as_slice())?;
-    let unnumbered = recording(alloc, UNNUMBERED.as_slice())?;
-    let refused = Refused::Rule(3, Rule::AnsweredTwice);
-    let table = [
-        // The third records differ: the first three have 281 bytes on either side.
-        (
-            configured.as_slice(),
-            unnumbered.as_slice(),
-            Ok(Verdict::Differ(3)),
-            281,
-            281,
-        ),
-        // The third record of the first is refused: the second gives two.
-        (
-            twice.as_slice(),
-            configured.as_slice(),
-            Err(CompareRefused::Input(Which::A, refused)),
-            316,
-            211,
-        ),
-        (
-            configured.as_slice(),
-            twice.as_slice(),
-            Err(CompareRefused::Input(Which::B, refused)),
-            281,
-            316,
-        ),
-    ];
-    for (a, b, wanted, given_a, given_b) in table {
-        let mut source_a = TestSource::new(a);
-        source_a.piece = 1;
-        let mut source_b = TestSource::new(b);
-        source_b.piece = 1;
-        let answer = compare(alloc, &mut source_a, &mut source_b, LIMITS);
-        assert!(rt; is_one(&answer, &wanted));
-        assert_eq!(rt; source_a.given(), given_a);
-        assert_eq!(rt; source_b.given(), given_b);
+/// A run of `normalise` on an input.
+fn normalising(input: Input<'_>) -> Run<'_> {
+    Run {
+        input,
+        ..run_of(Engine::Normalise, b"")
     }
-    Ok(())
+}
+
+/// A session whose third record answers the first again, twice.
+const TWICE: [Line; 6] = [
+    INITIALIZE,
+    INITIALIZE_RESPONSE,
+    INITIALIZE_RESPONSE,
+    INITIALIZE,
+    INITIALIZE_RESPONSE,
+    INITIALIZE_RESPONSE,
+];
+
+#[test]
+fn nothing_is_read_behind_what_is_answered(rt: HostRuntime) {
+    let twice = recording(&rt, rt.alloc(), &ANSWERED_TWICE);
+    let bytes = recording(&rt, rt.alloc(), &TWICE);
+    let normal = recording(&rt, rt.alloc(), &[INITIALIZE, FILLED_RESPONSE]);
+    let refused = Refused::Rule(3, Rule::AnsweredTwice);
+    let input = by(bytes.as_slice(), 1);
+    let run = normalising(input);
+    let counts = asks(&rt, rt.alloc(), run, Err(refused), normal.as_slice());
+    assert!(rt; counts.given == twice.len() as u64);
+    let given = asks_check(&rt, rt.alloc(), (input, LIMITS), false, Err(refused));
+    assert!(rt; given == twice.len() as u64);
 }
 
 #[test]
-fn a_reader_that_fails_beside_another(rt: HostRuntime) -> Result<(), Fail> {
+fn compare_reads_a_record_of_each_in_turn(rt: HostRuntime) {
     let alloc = rt.alloc();
-    let configured = recording(alloc, CONFIGURED.as_slice())?;
-    let unnumbered = recording(alloc, UNNUMBERED.as_slice())?;
-    for place in [0, 105, 106, 107, 361, 473] {
-        let mut failing = TestSource::new(configured.as_slice());
-        failing.fails_at = place;
-        let mut whole = TestSource::new(configured.as_slice());
-        let answer = compare(alloc, &mut failing, &mut whole, LIMITS);
-        let wanted = CompareRefused::Input(Which::A, Refused::ReadFault);
-        assert!(rt; is_one(&answer, &Err(wanted)), "behind {place} bytes");
+    let configured = recording(&rt, alloc, &CONFIGURED);
+    let answered_twice = recording(&rt, alloc, &ANSWERED_TWICE);
+    let unnumbered = recording(&rt, alloc, &UNNUMBERED);
+    let session = by(configured.as_slice(), 1);
+    let twice = by(answered_twice.as_slice(), 1);
+    let refused = Refused::Rule(3, Rule::AnsweredTwice);
+    // The third records differ: the first three have 281 bytes on either side.
+    let other = by(unnumbered.as_slice(), 1);
+    let given = asks_compare(&rt, alloc, session, other, Compared::Differ(3));
+    assert!(rt; given == (281, 281));
+    // The third record of the first is refused: the second gives two.
+    let wanted = Compared::Refused(CompareRefused::Input(Which::A, refused));
+    assert!(rt; asks_compare(&rt, alloc, twice, session, wanted) == (316, 211));
+    let wanted = Compared::Refused(CompareRefused::Input(Which::B, refused));
+    assert!(rt; asks_compare(&rt, alloc, session, twice, wanted) == (281, 316));
+}
 
-        let mut failing = TestSource::new(configured.as_slice());
-        failing.fails_at = place;
-        let mut whole = TestSource::new(configured.as_slice());
-        let answer = compare(alloc, &mut whole, &mut failing, LIMITS);
-        let wanted = CompareRefused::Input(Which::B, Refused::ReadFault);
-        assert!(rt; is_one(&answer, &Err(wanted)), "behind {place} bytes");
+/// That the reader of this input fails.
+fn read_fault(which: Which) -> Compared {
+    Compared::Refused(CompareRefused::Input(which, Refused::ReadFault))
+}
+
+#[test]
+fn a_reader_that_fails_beside_another(rt: HostRuntime) {
+    let alloc = rt.alloc();
+    let configured = recording(&rt, alloc, &CONFIGURED);
+    let session = whole(configured.as_slice());
+    for fails_at in [0, 105, 106, 107, 361, 473] {
+        let failing = Input {
+            fails_at,
+            ..session
+        };
+        asks_compare(&rt, alloc, failing, session, read_fault(Which::A));
+        asks_compare(&rt, alloc, session, failing, read_fault(Which::B));
     }
-    // A difference of what came before is told.
-    let mut failing = TestSource::new(unnumbered.as_slice());
-    failing.fails_at = 281;
-    let mut whole = TestSource::new(configured.as_slice());
-    let answer = compare(alloc, &mut whole, &mut failing, LIMITS);
-    assert!(rt; is_one(&answer, &Ok(Verdict::Differ(3))));
-    Ok(())
 }
 
 #[test]
-fn a_fault_of_an_endless_input(rt: HostRuntime) -> Result<(), Fail> {
+fn a_difference_of_what_came_before_a_reader_fails_is_told(rt: HostRuntime) {
     let alloc = rt.alloc();
-    // Two records of 211 bytes, a byte that is no marker, and others without end.
-    let mut bytes = recording(alloc, [INITIALIZE, INITIALIZE_RESPONSE].as_slice())?;
-    bytes.push(b'!')?;
-    bytes.resize(100_000, b'a')?;
-    let others = bytes.as_slice().get(212..).ok_or("too short")?;
-    let normal = recording(alloc, [INITIALIZE, FILLED_RESPONSE].as_slice())?;
+    let configured = recording(&rt, alloc, &CONFIGURED);
+    let unnumbered = recording(&rt, alloc, &UNNUMBERED);
+    let failing = Input {
+        fails_at: 281,
+        ..whole(unnumbered.as_slice())
+    };
+    asks_compare(
+        &rt,
+        alloc,
+        whole(configured.as_slice()),
+        failing,
+        Compared::Differ(3),
+    );
+}
+
+/// Two records of 211 bytes, a byte that is no marker, and others: 100,000 bytes.
+fn faulty(rt: &impl Abort, alloc: Global) -> Vec<u8> {
+    let mut bytes = recording(rt, alloc, &[INITIALIZE, INITIALIZE_RESPONSE]);
+    bytes.push(b'!').expect(rt, "no memory");
+    bytes.resize(100_000, b'a').expect(rt, "no memory");
+    bytes
+}
+
+/// How many bytes a read gives at most, and how many are read at most.
+const READ: [(usize, u64); 3] = [(1, 212), (211, 422), (65_536, 65_748)];
+
+#[test]
+fn a_fault_of_an_endless_input(rt: HostRuntime) {
+    let bytes = faulty(&rt, rt.alloc());
+    let normal = recording(&rt, rt.alloc(), &[INITIALIZE, FILLED_RESPONSE]);
     let refused = Refused::Record(3, RecordCause::BadMarker);
-    for (piece, most) in [(1, 212), (211, 422), (65_536, 65_748)] {
-        let mut source = TestSource::new(bytes.as_slice());
-        source.then = others;
-        source.piece = piece;
-        let mut sink = MemorySink::new(alloc, 4096)?;
-        let answer = normalise(alloc, &mut source, &mut sink, LIMITS);
-        assert_eq!(rt; answer, Err(refused));
-        assert_eq!(rt; sink.bytes(), normal.as_slice());
-        assert!(rt; source.given() <= most, "{} by {piece}", source.given());
-
-        let mut source = TestSource::new(bytes.as_slice());
-        source.then = others;
-        source.piece = piece;
-        assert_eq!(rt; check(alloc, &mut source, LIMITS, false), Err(refused));
-        assert!(rt; source.given() <= most, "{} by {piece}", source.given());
+    for (piece, most) in &READ {
+        let input = Input {
+            then: bytes.as_slice(),
+            ..by(bytes.as_slice(), *piece)
+        };
+        let run = normalising(input);
+        let counts = asks(&rt, rt.alloc(), run, Err(refused), normal.as_slice());
+        assert!(rt; counts.given <= *most);
+        let given = asks_check(&rt, rt.alloc(), (input, LIMITS), false, Err(refused));
+        assert!(rt; given <= *most);
     }
-    Ok(())
 }
 
 /// A thousand records of output, of 88 bytes each: more than is read at once.
-fn outputs(alloc: Global) -> Result<Vec<u8>, AllocError> {
-    let output = recording(alloc, [OUTPUT].as_slice())?;
+fn outputs(rt: &impl Abort, alloc: Global) -> Vec<u8> {
+    let output = recording(rt, alloc, &[OUTPUT]);
     let mut bytes = Vec::new(alloc);
     for _ in 0..1000 {
-        bytes.extend_from_slice(output.as_slice())?;
+        bytes
+            .extend_from_slice(output.as_slice())
+            .expect(rt, "no memory");
     }
-    Ok(bytes)
+    bytes
+}
+
+/// An input of a text for ever, of which a read gives at most so many bytes.
+fn endless(text: &[u8], piece: usize) -> Input<'_> {
+    Input {
+        then: text,
+        ..by(b"", piece)
+    }
+}
+
+/// The same for records of output.
+const READ_OF_OUTPUT: [(usize, u64); 3] = [(1, 88), (64, 128), (65_536, 65_624)];
+
+#[test]
+fn a_writer_that_fails_ends_an_endless_recording(rt: HostRuntime) {
+    let outputs = outputs(&rt, rt.alloc());
+    for (piece, most) in &READ_OF_OUTPUT {
+        let run = Run {
+            output: Output {
+                fails_at: 0,
+                ..ROOM
+            },
+            ..normalising(endless(outputs.as_slice(), *piece))
+        };
+        let counts = asks(&rt, rt.alloc(), run, Err(Refused::WriteFault), b"");
+        assert!(rt; counts.given <= *most);
+    }
 }
 
 #[test]
-fn a_writer_that_fails_ends_an_endless_recording(rt: HostRuntime) -> Result<(), Fail> {
-    let alloc = rt.alloc();
-    let outputs = outputs(alloc)?;
-    for (piece, most) in [(1, 88), (64, 128), (65_536, 65_624)] {
-        let mut source = TestSource::new(b"");
-        source.then = outputs.as_slice();
-        source.piece = piece;
-        let mut full = TestSink::new(alloc, 0)?;
-        let answer = normalise(alloc, &mut source, &mut full, LIMITS);
-        assert_eq!(rt; answer, Err(Refused::WriteFault));
-        assert!(rt; source.given() <= most, "{} by {piece}", source.given());
+fn an_endless_recording_differs_from_an_empty_one(rt: HostRuntime) {
+    let outputs = outputs(&rt, rt.alloc());
+    let differ = Compared::Differ(1);
+    for (piece, most) in &READ_OF_OUTPUT {
+        let endless = endless(outputs.as_slice(), *piece);
+        let (given, _) = asks_compare(&rt, rt.alloc(), endless, whole(b""), differ);
+        assert!(rt; given <= *most);
+        let (_, given) = asks_compare(&rt, rt.alloc(), whole(b""), endless, differ);
+        assert!(rt; given <= *most);
     }
-    Ok(())
+}
+
+/// How many bytes are taken, the record that is past them, and how many bytes are written.
+const TAKEN: [(u64, u64, usize); 2] = [(1000, 12, 968), (264_000, 3001, 264_000)];
+
+/// Room for all of it.
+const LARGE: Output = Output {
+    room: 264_000,
+    piece: 264_000,
+    fails_at: 264_000,
+    failing: Failing::Fault,
+    fails_to_flush: false,
+};
+
+/// So much of the records of output as is written.
+fn outputs_up_to(rt: &impl Abort, alloc: Global, outputs: &[u8], len: usize) -> Vec<u8> {
+    let mut bytes = Vec::new(alloc);
+    for _ in 0..4 {
+        bytes.extend_from_slice(outputs).expect(rt, "no memory");
+    }
+    bytes.truncate(len);
+    bytes
 }
 
 #[test]
-fn an_endless_recording_differs_from_an_empty_one(rt: HostRuntime) -> Result<(), Fail> {
-    let alloc = rt.alloc();
-    let outputs = outputs(alloc)?;
-    for (piece, most) in [(1, 88), (64, 128), (65_536, 65_624)] {
-        for is_first in [true, false] {
-            let mut endless = TestSource::new(b"");
-            endless.then = outputs.as_slice();
-            endless.piece = piece;
-            let mut empty = MemorySource::new(b"");
-            let answer = if is_first {
-                compare(alloc, &mut endless, &mut empty, LIMITS)
-            } else {
-                compare(alloc, &mut empty, &mut endless, LIMITS)
-            };
-            assert!(rt; is_one(&answer, &Ok(Verdict::Differ(1))));
-            assert!(rt; endless.given() <= most, "{} by {piece}", endless.given());
-        }
+fn an_endless_recording_is_normalised_up_to_the_limit(rt: HostRuntime) {
+    let outputs = outputs(&rt, rt.alloc());
+    for (most, record, written) in &TAKEN {
+        let text = outputs_up_to(&rt, rt.alloc(), outputs.as_slice(), *written);
+        let run = Run {
+            limits: up_to(*most),
+            output: LARGE,
+            ..normalising(endless(outputs.as_slice(), 65_536))
+        };
+        let refused = Err(Refused::InputTooLong(*record));
+        let counts = asks(&rt, rt.alloc(), run, refused, text.as_slice());
+        assert!(rt; counts.given <= most.saturating_add(1));
     }
-    Ok(())
+}
+
+/// What is answered of so many bytes of the configured session.
+fn cut_at(place: usize) -> Result<(), Refused> {
+    let end = last_end(place);
+    if end.at == place {
+        Ok(())
+    } else {
+        Err(Refused::Record(end.records.saturating_add(1), RecordCause::Cut))
+    }
 }
 
 #[test]
-fn an_endless_recording_is_normalised_up_to_the_limit(rt: HostRuntime) -> Result<(), Fail> {
-    let alloc = rt.alloc();
-    let outputs = outputs(alloc)?;
-    for (input, record, written) in [(1000, 12, 968), (264_000, 3001, 264_000)] {
-        let limits = Limits { input, ..LIMITS };
-        assert!(rt; limits.frame.sound() && input <= 264_000);
-        let mut source = TestSource::new(b"");
-        source.then = outputs.as_slice();
-        let mut sink = TestSink::new(alloc, 264_000)?;
-        let answer = normalise(alloc, &mut source, &mut sink, limits);
-        assert_eq!(rt; answer, Err(Refused::InputTooLong(record)));
-        assert_eq!(rt; sink.bytes().len(), written);
-        for text in sink.bytes().chunks(88_000) {
-            assert!(rt; outputs.as_slice().starts_with(text));
-        }
-        assert!(rt; source.given() <= input.saturating_add(1));
-    }
-    Ok(())
-}
-
-#[test]
-fn whole_records_are_normalised_of_a_recording_cut_at_each_place(
-    rt: HostRuntime,
-) -> Result<(), Fail> {
-    let alloc = rt.alloc();
-    let bytes = recording(alloc, CONFIGURED.as_slice())?;
-    let normal = recording(alloc, NORMAL_CONFIGURED.as_slice())?;
+fn whole_records_are_normalised_of_a_recording_cut_at_each_place(rt: HostRuntime) {
+    let bytes = recording(&rt, rt.alloc(), &CONFIGURED);
+    let normal = recording(&rt, rt.alloc(), &NORMAL_CONFIGURED);
     for place in 0..=473usize {
-        let cut = bytes.as_slice().get(..place).ok_or("too far")?;
-        let end = last_end(place);
-        let is_cut = Refused::Record(end.records.saturating_add(1), RecordCause::Cut);
-        let wanted = if end.at == place { Ok(()) } else { Err(is_cut) };
-        let text = normal.as_slice().get(..end.normal).ok_or("too far")?;
+        let cut = front(&rt, bytes.as_slice(), place);
+        let text = front(&rt, normal.as_slice(), last_end(place).normal);
         for piece in [1, 65_536] {
-            let mut source = TestSource::new(cut);
-            source.piece = piece;
-            let mut sink = MemorySink::new(alloc, 4096)?;
-            let answer = normalise(alloc, &mut source, &mut sink, LIMITS);
-            assert_eq!(rt; answer, wanted, "cut at {place}");
-            assert_eq!(rt; sink.bytes(), text, "cut at {place}");
+            let run = normalising(by(cut, piece));
+            asks(&rt, rt.alloc(), run, cut_at(place), text);
         }
     }
-    Ok(())
 }

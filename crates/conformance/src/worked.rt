@@ -1,20 +1,19 @@
-//! The recordings of the tests of `normalise`, `check` and `compare`, and what these answer of them.
+//! The recordings of the tests of `normalise`, `check` and `compare`.
 use crate::checking::{
     FAILED, LEAST, OPEN, OPEN_ON_BOTH_SIDES, REFUSED_ENVELOPES, REFUSED_LINES, REFUSED_RECORDS,
     nested, several_faults,
 };
 use crate::comparing::{
-    EXCHANGED, FRAMES, NEW_FRAME, STALE_FRAME, UNNUMBERED, faulty_behind_a_difference,
+    CONFIGURING, EXCHANGED, FRAMES, NEW_FRAME, STALE_FRAME, UNNUMBERED, faulty_behind_a_difference,
 };
 use crate::normalising::{NORMAL_FORMS, REFUSED_CONTENTS, THREE_FRAMES};
-use crate::recordings::{CONFIGURED, INITIALIZE, INITIALIZE_RESPONSE, Line, recording};
-use crate::session_rules::BROKEN_ALONE;
-use dapnorm::{Checked, CompareRefused, Refused, Verdict};
-use std::alloc::{AllocError, Global};
-use std::test::Fail;
+use crate::recordings::{INITIALIZE, INITIALIZE_RESPONSE, Line, recording};
+use crate::session_rules::{BROKEN_ALONE, broken_recording};
+use std::alloc::Global;
+use std::process::Abort;
 
 /// Sessions that are accepted.
-const SESSIONS: [&[Line]; 10] = [
+const SESSIONS: [&[Line]; 11] = [
     &OPEN,
     &OPEN_ON_BOTH_SIDES,
     &FAILED,
@@ -25,82 +24,61 @@ const SESSIONS: [&[Line]; 10] = [
     &STALE_FRAME,
     &NEW_FRAME,
     &THREE_FRAMES,
+    &CONFIGURING,
 ];
 
+/// Recordings that are gathered.
+type All = Vec<Vec<u8>>;
+
+fn add(rt: &impl Abort, all: &mut All, bytes: Vec<u8>) {
+    all.push(bytes).expect(rt, "no memory");
+}
+
+fn add_lines(rt: &impl Abort, alloc: Global, all: &mut All, lines: &[Line]) {
+    add(rt, all, recording(rt, alloc, lines));
+}
+
 /// The recordings of those tests.
-pub(crate) fn worked(alloc: Global) -> Result<Vec<Vec<u8>>, Fail> {
+pub fn worked(rt: &impl Abort, alloc: Global) -> All {
     let mut all = Vec::new(alloc);
-    add_normal_forms(alloc, &mut all)?;
-    add_refused_contents(alloc, &mut all)?;
-    add_refused_records(alloc, &mut all)?;
-    add_broken_rules(alloc, &mut all)?;
-    for lines in SESSIONS {
-        all.push(recording(alloc, lines)?)?;
+    add_normal_forms(rt, alloc, &mut all);
+    add_refused_contents(rt, alloc, &mut all);
+    add_refused_records(rt, alloc, &mut all);
+    for broken in &BROKEN_ALONE {
+        add(rt, &mut all, broken_recording(rt, alloc, broken));
     }
-    all.push(recording(alloc, &CONFIGURED[..4])?)?;
-    all.push(faulty_behind_a_difference(alloc)?)?;
-    all.push(several_faults(alloc)?)?;
-    all.push(nested(alloc, 125)?)?;
-    all.push(nested(alloc, 126)?)?;
-    Ok(all)
+    for lines in &SESSIONS {
+        add_lines(rt, alloc, &mut all, lines);
+    }
+    add(rt, &mut all, faulty_behind_a_difference(rt, alloc));
+    add(rt, &mut all, several_faults(rt, alloc));
+    add(rt, &mut all, nested(rt, alloc, 125));
+    add(rt, &mut all, nested(rt, alloc, 126));
+    all
 }
 
-fn add_normal_forms(alloc: Global, all: &mut Vec<Vec<u8>>) -> Result<(), AllocError> {
-    for (lines, normal_lines) in NORMAL_FORMS {
-        all.push(recording(alloc, lines)?)?;
-        all.push(recording(alloc, normal_lines)?)?;
+fn add_normal_forms(rt: &impl Abort, alloc: Global, all: &mut All) {
+    for (lines, normal_lines) in &NORMAL_FORMS {
+        add_lines(rt, alloc, all, lines);
+        add_lines(rt, alloc, all, normal_lines);
     }
-    Ok(())
 }
 
-fn add_refused_contents(alloc: Global, all: &mut Vec<Vec<u8>>) -> Result<(), AllocError> {
-    for (lines, _, _) in REFUSED_CONTENTS {
-        all.push(recording(alloc, lines)?)?;
+fn add_refused_contents(rt: &impl Abort, alloc: Global, all: &mut All) {
+    for (lines, _, _) in &REFUSED_CONTENTS {
+        add_lines(rt, alloc, all, lines);
     }
-    for (line, _) in REFUSED_LINES {
-        let lines = [INITIALIZE, INITIALIZE_RESPONSE, line];
-        all.push(recording(alloc, lines.as_slice())?)?;
+    for (line, _) in &REFUSED_LINES {
+        add_lines(rt, alloc, all, &[INITIALIZE, INITIALIZE_RESPONSE, *line]);
     }
-    for (content, _) in REFUSED_ENVELOPES {
-        all.push(recording(alloc, [(">", content)].as_slice())?)?;
+    for (content, _) in &REFUSED_ENVELOPES {
+        add_lines(rt, alloc, all, &[(">", *content)]);
     }
-    Ok(())
 }
 
-fn add_refused_records(alloc: Global, all: &mut Vec<Vec<u8>>) -> Result<(), AllocError> {
-    for (bytes, _) in REFUSED_RECORDS {
-        all.push(Vec::from_slice(alloc, bytes)?)?;
-    }
-    Ok(())
-}
-
-fn add_broken_rules(alloc: Global, all: &mut Vec<Vec<u8>>) -> Result<(), AllocError> {
-    for (before, last, _) in BROKEN_ALONE {
-        let mut bytes = recording(alloc, before)?;
-        bytes.extend_from_slice(recording(alloc, [last].as_slice())?.as_slice())?;
-        all.push(bytes)?;
-    }
-    Ok(())
-}
-
-/// What the engines answer of one recording, and what is written of it.
-#[derive(Drop)]
-pub(crate) struct Outcome {
-    pub(crate) normalised: Result<(), Refused>,
-    pub(crate) written: Vec<u8>,
-    pub(crate) checked: Result<Checked, Refused>,
-    pub(crate) complete: Result<Checked, Refused>,
-}
-
-/// Whether these are one answer of `compare`.
-pub(crate) fn is_one(
-    x: &Result<Verdict, CompareRefused>,
-    y: &Result<Verdict, CompareRefused>,
-) -> bool {
-    match (x, y) {
-        (Ok(Verdict::Same(x)), Ok(Verdict::Same(y))) => x.pairs() == y.pairs(),
-        (Ok(Verdict::Differ(x)), Ok(Verdict::Differ(y))) => x == y,
-        (Err(x), Err(y)) => x == y,
-        _ => false,
+fn add_refused_records(rt: &impl Abort, alloc: Global, all: &mut All) {
+    for (bytes, _) in &REFUSED_RECORDS {
+        let bytes = Vec::from_slice(alloc, bytes).expect(rt, "no memory");
+        add(rt, all, bytes);
     }
 }

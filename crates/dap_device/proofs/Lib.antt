@@ -1,3 +1,3 @@
-pub mod Filled
+pub mod FilledVectors
 pub mod Sending
 pub mod Windows

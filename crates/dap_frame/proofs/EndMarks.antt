@@ -4,7 +4,7 @@ use Rattle.std.proofs.lemmas.Bool.{and_right}
 use Rattle.dap_frame.specs.declared.header_scan.EndMark.{EndMark}
 use Rattle.dap_frame.specs.declared.header_scan.EndMark.TheVariants.{Nothing, Cr, CrLf, CrLfCr}
 use Rattle.dap_frame.specs.HeaderScan.{pending, at_cr, ends, IsMark, is_cr, is_crlf, is_crlfcr}
-use Rattle.dap_frame.proofs.Ends.{and_true, ends_more, ends_nil}
+use Rattle.dap_frame.proofs.ByteEnds.{and_true, ends_more, ends_nil}
 
 abbrev pub lf_mark : EndMark → EndMark
 lf_mark Nothing = Nothing

@@ -1,6 +1,6 @@
 -- What a framer stands for once it has taken of a frame.
 use Rattle.std.proofs.Common.{◌≡◌, ℕ, ◌+◌, ◌-◌, ◌<◌, ◌≤◌, List, [], ◌++◌, length, take, drop, min, Result, Ok, Err, sym, ap, ◌∙◌, subst, arith}
-use Rattle.std.proofs.lemmas.List.{take-append-drop, take_all, append_assoc, length-append, length-take-le, length-drop, drop-append-le}
+use Rattle.std.proofs.lemmas.List.{take-append-drop, take_all, append_assoc, length-append, length-take-le, length-drop, drop-append-le, nil_from_length}
 use Rattle.std.proofs.Math.Seq.{take-add}
 use Rattle.dap_frame.specs.declared.limits.FrameLimits.{FrameLimits}
 use Rattle.dap_frame.specs.declared.fault.FrameFault.{FrameFault}
@@ -10,16 +10,12 @@ use Rattle.dap_frame.specs.declared.progress.Progress.{Progress}
 use Rattle.dap_frame.specs.declared.progress.Progress.TheVariants.{Content}
 use Rattle.dap_frame.specs.declared.progress.HeaderTaken.{HeaderTaken}
 use Rattle.dap_frame.specs.declared.progress.HeaderTaken.TheVariants.{Unfinished, Ended}
-use Rattle.dap_frame.specs.Frame.{BeginsWith, HasContentByte, IsFrame, IsOpen, header_open, content_open}
+use Rattle.dap_frame.specs.Frame.{BeginsWith, HasContentByte, IsFrame, IsOpen}
 use Rattle.dap_frame.specs.Reading.{Reading, Stands, IsKeptOf, IsKeptBy}
 use Rattle.dap_frame.specs.Framer.{reading, progress_in}
 use Rattle.dap_frame.specs.Progress.{IsAtContent, TakesHeader, TakesRestOfHeader}
-use Rattle.dap_frame.proofs.Marks.{BeginsWith-more}
-use Rattle.dap_frame.proofs.Ends.{is_empty, no_header_end}
-
--- a framer at the start of a frame stands for no bytes
-pub open_at_first : (limits : FrameLimits) → 0 < limits.header → IsOpen limits []
-open_at_first limits some = header_open some no_header_end
+use Rattle.dap_frame.proofs.MarkEnds.{BeginsWith-more}
+use Rattle.dap_frame.proofs.Frames.{frame_of, open_in_content}
 
 -- what the fields keep is that of the rest that the framer stands for
 pub kept_of : (fields : Inside) (framer : Reading) (progress : Progress) (rest : List ℕ) → reading fields ≡ framer
@@ -41,7 +37,7 @@ rest_taken limits bytes rest piece (Ok (Ended header_len content used)) e h =
       progress = omega (arith, some);
       room = omega (arith, ap length e);
       header = h.header;
-      behind = is_empty (drop header_len (rest ++ take used piece)) (omega (arith, header_len_is, length-drop header_len (rest ++ take used piece))) ∙ sym e;
+      behind = nil_from_length (drop header_len (rest ++ take used piece)) (omega (arith, header_len_is, length-drop header_len (rest ++ take used piece))) ∙ sym e;
       small = h.small;
     }
 rest_taken limits bytes rest piece (Err fault) e h = (e, h)
@@ -76,20 +72,14 @@ module _ (limits : FrameLimits) (bytes rest piece new : List ℕ) (header_len co
       let header = subst (λ b. BeginsWith limits b header_len (Ok content)) whole begins in
       let left : drop header_len (rest ++ piece) ≡ new = ap (drop header_len) (sym whole) ∙ behind in
       let long : length (rest ++ piece) < header_len + content = omega (arith, ap length left, length-drop header_len (rest ++ piece), header.ended.within) in
-      ((header, left, short), content_open header_len content header long)
+      ((header, left, short), open_in_content limits (rest ++ piece) header_len content header long)
 
   pub fed_frame : content ≤ length new
       → (used + more ≤ length piece) × IsFrame limits (rest ++ take (used + more) piece) new
   fed_frame long =
       let room = begun.room in
-      let exact : length new ≡ content = omega (arith, len) in (
-        fits,
-        record {
-          len = header_len;
-          header = subst (λ n. BeginsWith limits (rest ++ take (used + more) piece) header_len (Ok n)) (sym exact) begins;
-          content_is = behind;
-        },
-      )
+      let exact : length new ≡ content = omega (arith, len) in
+      (fits, frame_of limits (rest ++ take (used + more) piece) new header_len content begins behind exact)
 
 -- memory is asked for bytes of a content alone
 pub content_byte : (limits : FrameLimits) (bytes rest piece : List ℕ) (header_len content_len used : ℕ)

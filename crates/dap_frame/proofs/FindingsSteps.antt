@@ -12,7 +12,7 @@ use Rattle.dap_frame.specs.Lines.{is_field_line, is_length_line, value_of, trimm
 use Rattle.dap_frame.specs.Frame.{lengths_in, the_length, length_from}
 use Rattle.dap_frame.specs.LineScan.{LineSays}
 use Rattle.dap_frame.specs.Findings.{AreFindings, is_some_line, with_line}
-use Rattle.dap_frame.proofs.Ends.{and_true, and_assoc}
+use Rattle.dap_frame.proofs.ByteEnds.{and_true, and_assoc}
 
 all_push : (p : List ℕ → Bool) (xs : List (List ℕ)) (x : List ℕ) → list_all p (xs ++ x ∷ []) ≡ (list_all p xs && p x)
 all_push p [] x = and_true (p x)

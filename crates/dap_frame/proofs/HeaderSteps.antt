@@ -1,19 +1,18 @@
 -- What a byte more of a piece makes of a header part.
-use Rattle.std.proofs.Common.{◌≡◌, ℕ, ◌+◌, ◌<◌, ◌≤◌, List, [], ◌∷◌, ◌++◌, length, take, drop, get_or, Result, Ok, Err, sym, ap, ◌∙◌, subst, arith}
-use Rattle.std.proofs.lemmas.List.{take_more, take-append-le, take-append-drop, take_all, append_assoc, length-append, length-take-le}
+use Rattle.std.proofs.Common.{refl, ◌≡◌, ℕ, ◌+◌, ◌<◌, ◌≤◌, List, [], ◌∷◌, ◌++◌, length, take, drop, get_or, Result, Ok, Err, sym, ap, ◌∙◌, subst, arith}
+use Rattle.std.proofs.lemmas.List.{take_more, take-append-drop, append_assoc, length-append, length-take-le}
+use Rattle.dap_items.specs.Then.{in_first}
 use Rattle.dap_frame.specs.declared.limits.FrameLimits.{FrameLimits}
 use Rattle.dap_frame.specs.declared.fault.FrameFault.{FrameFault}
 use Rattle.dap_frame.specs.declared.fault.FrameFault.TheVariants.{HeaderTooLong}
 use Rattle.dap_frame.specs.declared.header_scan.HeaderScan.{HeaderScan}
 use Rattle.dap_frame.specs.declared.header_scan.ScanStep.TheVariants.{Unfinished, Ended}
 use Rattle.dap_frame.specs.declared.header_scan.Findings.{Findings}
-use Rattle.dap_frame.specs.Lines.{Lacks, header_end}
-use Rattle.dap_frame.specs.Frame.{BeginsWith, in_header, too_long, judged}
+use Rattle.dap_frame.specs.Frame.{BeginsWith, EndsHeader, in_header, too_long, judged, Shows}
 use Rattle.dap_frame.specs.Findings.{AreFindings}
 use Rattle.dap_frame.specs.HeaderScan.{header_step, IsScanOf, StepGives, HeaderEnds}
 use Rattle.dap_frame.specs.Progress.{HasEnded, ShowsInHeader}
-use Rattle.dap_frame.proofs.Marks.{BeginsWith-more}
-use Rattle.dap_frame.proofs.Judged.{judged-small, judged-fault}
+use Rattle.dap_frame.proofs.HeaderFindings.{judged-small, judged-fault}
 use Rattle.dap_frame.proofs.HeaderParts.{header_begins}
 use Rattle.dap_frame.proofs.ScanSteps.{scan_gives}
 
@@ -59,6 +58,11 @@ module _ (limits : FrameLimits) (rest piece : List ℕ) (i : ℕ) (scan : Header
           small = judged-small limits b.says.lines content (sym b.says.said_so);
         }
 
+    -- the front that was taken shows the fault
+    shown : {fault : FrameFault} → EndsHeader limits (rest ++ take (i + 1) piece) (Err fault)
+        → Shows limits (rest ++ piece) fault (length (rest ++ take (i + 1) piece))
+    shown {fault} ends = record { front = rest ++ take (i + 1) piece; more = drop (i + 1) piece; bytes_are = sym whole; ends = in_first fault ends refl; place = refl }
+
     pub header_fault : (findings : Findings) (fault : FrameFault)
         → Ended findings ≡ header_step limits scan (get_or piece i 0)
         → ((lines : List (List ℕ)) → AreFindings limits lines findings → Err fault ≡ judged limits lines)
@@ -68,8 +72,7 @@ module _ (limits : FrameLimits) (rest piece : List ℕ) (i : ℕ) (scan : Header
         record {
           no_memory = (judged-fault limits b.says.lines fault (sym b.says.said_so)).1;
           place = length (rest ++ take (i + 1) piece);
-          shown = in_header (subst (λ bytes. BeginsWith limits bytes (length (rest ++ take (i + 1) piece)) (Err fault)) whole
-              (BeginsWith-more limits (rest ++ take (i + 1) piece) (drop (i + 1) piece) _ (Err fault) b));
+          shown = shown (in_header b);
         }
 
     pub header_too_long : (next : HeaderScan) → Unfinished next ≡ header_step limits scan (get_or piece i 0)
@@ -77,10 +80,4 @@ module _ (limits : FrameLimits) (rest piece : List ℕ) (i : ℕ) (scan : Header
     header_too_long next e past =
         let h = gives_more next e in
         let many = h.count in
-        let full : take limits.header (rest ++ piece) ≡ rest ++ take (i + 1) piece =
-        ap (take limits.header) (sym whole) ∙ take-append-le limits.header (rest ++ take (i + 1) piece) (drop (i + 1) piece) (omega arith) ∙ take_all limits.header (rest ++ take (i + 1) piece) (omega (arith, long)) in
-        record {
-          no_memory = λ same. cc;
-          place = limits.header;
-          shown = too_long (omega (arith, ap length whole, length-append (rest ++ take (i + 1) piece) (drop (i + 1) piece))) (subst (Lacks header_end) (sym full) h.lacks);
-        }
+        record { no_memory = λ same. cc; place = length (rest ++ take (i + 1) piece); shown = shown (too_long (omega (arith, long)) h.lacks) }

@@ -1,6 +1,6 @@
-pub mod Marks
-pub mod Judged
-pub mod Ends
+pub mod MarkEnds
+pub mod HeaderFindings
+pub mod ByteEnds
 pub mod LengthRuns
 pub mod LineRuns
 pub mod EndMarks
@@ -10,8 +10,9 @@ pub mod HeaderParts
 pub mod HeaderSteps
 pub mod FedSteps
 pub mod Decimal
-pub mod Unique
-pub mod Faults
+pub mod OneHeader
 pub mod Outcomes
-pub mod Written
+pub mod Frames
+pub mod Faults
+pub mod WrittenFrames
 pub mod Streams

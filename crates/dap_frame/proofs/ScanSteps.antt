@@ -16,9 +16,9 @@ use Rattle.dap_frame.specs.Lines.{Lacks, line_end, header_end, ended}
 use Rattle.dap_frame.specs.LineScan.{LineSays, line_run, line_step}
 use Rattle.dap_frame.specs.Findings.{AreFindings, with_line}
 use Rattle.dap_frame.specs.HeaderScan.{held_line, at_cr, at_lf, header_step, HeaderEnds, StepGives, ends, IsMark, is_cr, FitsMark, IsScanOf}
-use Rattle.dap_frame.proofs.Marks.{ends_at_front}
+use Rattle.dap_frame.proofs.MarkEnds.{ends_at_front}
 use Rattle.dap_frame.proofs.LineRuns.{line_says, run_append}
-use Rattle.dap_frame.proofs.Ends.{and_true, ends_more, ends_nil, lacks_more, no_line_end, no_header_end}
+use Rattle.dap_frame.proofs.ByteEnds.{and_true, ends_more, ends_nil, lacks_more, no_line_end, no_header_end}
 use Rattle.dap_frame.proofs.EndMarks.{cr_all, mark_lf, mark_cr, mark_other}
 use Rattle.dap_frame.proofs.FindingsSteps.{found_more}
 

@@ -1,6 +1,9 @@
 -- Frames, and what the bytes of a stream hold ("Base Protocol" of the Debug Adapter Protocol).
-use Rattle.std.specs.Prelude.{◌≡◌, ℕ, ◌+◌, ◌<◌, ◌≤◌, not, if◌then◌else◌, List, [], ◌∷◌, ◌++◌, length, take, drop, nat_le, Result, Ok, Err, map, filter, codes, decimal}
+use Rattle.std.specs.Prelude.{◌≡◌, ℕ, ◌<◌, ◌≤◌, not, if◌then◌else◌, List, [], ◌∷◌, ◌++◌, length, take, nat_le, Result, Ok, Err, map, filter, codes, decimal}
 use Rattle.std.specs.List.{list_all}
+use Rattle.dap_items.specs.Items as items
+use Rattle.dap_items.specs.Items.{Items, IsItem, AreItems, HasItem, IsStream}
+use Rattle.dap_items.specs.Then.{and_then, so_many}
 use Rattle.dap_frame.specs.declared.limits.FrameLimits.{FrameLimits}
 use Rattle.dap_frame.specs.declared.fault.FrameFault.{FrameFault}
 use Rattle.dap_frame.specs.declared.fault.FrameFault.TheVariants.{HeaderLine, NoLength, TwoLengths, BadLength, HeaderTooLong, ContentTooLong}
@@ -47,50 +50,45 @@ pub record HasContentByte (limits : FrameLimits) (bytes : List ℕ) : Type 0 whe
   pub header : BeginsWith limits bytes len (Ok content_len)
   pub byte : len < length bytes
 
--- The bytes are one frame with this content: a header part, and as many bytes as it says (DAP base
--- protocol).
-pub record IsFrame (limits : FrameLimits) (bytes content : List ℕ) : Type 0 where
-  pub len : ℕ
-  pub header : BeginsWith limits bytes len (Ok (length content))
-  pub content_is : drop len bytes ≡ content
-
 -- the frame that is written for a content (own: the one field, one space, no leading zeros)
 abbrev pub frame_text : List ℕ → List ℕ
 frame_text content = codes "Content-Length: " ++ decimal (length content) ++ codes "\r\n\r\n" ++ content
 
--- The bytes are frames of these contents, in order.
-abbrev pub AreFrames : FrameLimits → List ℕ → List (List ℕ) → Type 0
-AreFrames limits bytes [] = bytes ≡ []
-AreFrames limits bytes (content ∷ contents) =
-    (frame : List ℕ) × (more : List ℕ) × IsFrame limits frame content × (bytes ≡ frame ++ more)
-    × AreFrames limits more contents
+-- With the last of the bytes a header part says this (own): it ends there, or it is as long as its
+-- limit and has not ended.
+pub data EndsHeader (limits : FrameLimits) (bytes : List ℕ) : Result ℕ FrameFault → Type 0 where
+  in_header : {said : Result ℕ FrameFault} → BeginsWith limits bytes (length bytes) said → EndsHeader limits bytes said
+  too_long : length bytes ≡ limits.header → Lacks header_end bytes → EndsHeader limits bytes (Err HeaderTooLong)
 
--- Some front of the bytes is a frame.
-pub record HasFrame (limits : FrameLimits) (bytes : List ℕ) : Type 0 where
-  pub frame : List ℕ
-  pub more : List ℕ
-  pub content : List ℕ
-  pub bytes_are : bytes ≡ frame ++ more
-  pub is_frame : IsFrame limits frame content
+-- header parts as items; their values are lengths
+abbrev pub headers : FrameLimits → Items ℕ FrameFault
+headers limits = record {
+  Ends = EndsHeader limits;
+  IsOpen = λ bytes. (length bytes < limits.header) × Lacks header_end bytes;
+}
 
--- The bytes are frames of these contents, in order, and then the rest, no front of which is a frame
--- (own).
-pub record Stream (limits : FrameLimits) (bytes : List ℕ) (contents : List (List ℕ)) (rest : List ℕ) : Type 0 where
-  pub front : List ℕ
-  pub frames : AreFrames limits front contents
-  pub whole : bytes ≡ front ++ rest
-  pub no_frame : HasFrame limits rest → ⊥
+-- frames as the items of a stream (DAP base protocol): a header part, and as many bytes of content as it says
+abbrev pub frames : FrameLimits → Items (List ℕ) FrameFault
+frames limits = and_then (headers limits) (so_many (λ content. content)) (λ fault. fault)
 
--- The rest of a stream shows a fault at its byte i (own): its header part ends there and says the
--- fault, or it is as long as the limit of a header part and has not ended.
-pub data Shows (limits : FrameLimits) (rest : List ℕ) : FrameFault → ℕ → Type 0 where
-  in_header : {fault : FrameFault} {i : ℕ} → BeginsWith limits rest i (Err fault) → Shows limits rest fault i
-  too_long : limits.header ≤ length rest → Lacks header_end (take limits.header rest)
-      → Shows limits rest HeaderTooLong limits.header
+-- The bytes are one frame with this content.
+abbrev pub IsFrame : FrameLimits → List ℕ → List ℕ → Type 0
+IsFrame limits = IsItem (frames limits)
 
 -- The rest of a stream may still become a frame (own): its header part has not ended, or less than
 -- its content has come.
-pub data IsOpen (limits : FrameLimits) (rest : List ℕ) : Type 0 where
-  header_open : length rest < limits.header → Lacks header_end rest → IsOpen limits rest
-  content_open : (len content_len : ℕ) → BeginsWith limits rest len (Ok content_len) → length rest < len + content_len
-      → IsOpen limits rest
+abbrev pub IsOpen : FrameLimits → List ℕ → Type 0
+IsOpen limits = (frames limits).IsOpen
+
+-- the words of items, of frames
+abbrev pub AreFrames : FrameLimits → List ℕ → List (List ℕ) → Type 0
+AreFrames limits = AreItems (frames limits)
+
+abbrev pub HasFrame : FrameLimits → List ℕ → Type 0
+HasFrame limits = HasItem (frames limits)
+
+abbrev pub Stream : FrameLimits → List ℕ → List (List ℕ) → List ℕ → Type 0
+Stream limits = IsStream (frames limits)
+
+abbrev pub Shows : FrameLimits → List ℕ → FrameFault → ℕ → Type 0
+Shows limits = items.Shows (frames limits)

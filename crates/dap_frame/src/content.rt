@@ -1,3 +1,4 @@
+//! The content of a frame.
 ghost use Rattle.std.specs.Prelude.{◌≡◌};
 
 use std::marker::Model;

@@ -1,3 +1,4 @@
+//! Why a frame is not read or written.
 use thiserror::Error;
 
 /// Why no frame is read or written.

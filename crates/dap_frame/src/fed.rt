@@ -1,3 +1,4 @@
+//! What a framer takes of a piece.
 use crate::content::Content;
 
 /// What a call of `Framer::feed` took of its piece.

@@ -1,3 +1,4 @@
+//! Frames read from the pieces of a stream.
 ghost use Rattle.std.specs.Prelude.{◌≡◌, ℕ, ◌≤◌, ◌+◌, ◌<◌, ◌↔◌, ◌++◌, List, [], length, Err, IsErrOf, IfErr, IsOk, IfOk};
 ghost use Rattle.dap_frame.specs.Limits.{IsSound};
 ghost use Rattle.dap_frame.specs.Frame.{HasContentByte};

@@ -17,8 +17,6 @@ mod length_scan;
 mod limits;
 mod line_scan;
 mod progress;
-#[cfg(test)]
-mod tests;
 mod write;
 
 pub use content::Content;

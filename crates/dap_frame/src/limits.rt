@@ -1,3 +1,4 @@
+//! How long the parts of a frame may be.
 ghost use Rattle.std.specs.Prelude.{◌↔◌, IsTrue};
 ghost use Rattle.dap_frame.specs.Limits.{IsSound};
 

@@ -1,3 +1,4 @@
+//! Frames written.
 ghost use Rattle.std.specs.Prelude.{◌≡◌, ◌+◌, ◌^◌, ◌<◌, ◌≤◌, ◌⊎◌, ◌↔◌, ◌++◌, length, vec_len, vec_capacity, Err, IsOk, OnOk, OnErr, IfErr};
 ghost use Rattle.std.specs.Io.{StartsWith};
 ghost use Rattle.dap_frame.specs.Limits.{IsSound};

@@ -9,7 +9,7 @@ use Rattle.std.proofs.lemmas.Slice.Eq.{bytes_eq-Decides}
 use Rattle.std.specs.List.{filter, list_all, flat_map}
 use Rattle.std.specs.Option.{option_or, option_map_or}
 use Rattle.dap_tree.proofs.Booleans.{and_left, and_right}
-use Rattle.dap_message.specs.Asked.{asked_rows, kind_typed, kind_told, name_told, same_kind, may_ask, has_name, asks, rows_asked, rows_named, front, none_of, only_front, one_name, together, fault_by, first_by, mark_by, marks_by}
+use Rattle.dap_message.specs.AskedRows.{asked_rows, kind_typed, kind_told, name_told, same_kind, may_ask, has_name, asks, rows_asked, rows_named, front, none_of, only_front, one_name, together, fault_by, first_by, mark_by, marks_by}
 use Rattle.dap_message.specs.Capabilities.{tells_capabilities, filled}
 use Rattle.dap_message.specs.Envelope.{text_value}
 use Rattle.dap_message.specs.Faults.{fault, row_broken, has_kind}
@@ -23,12 +23,12 @@ use Rattle.dap_message.specs.declared.fault.MessageFault.TheVariants.{NotObject,
 use Rattle.dap_message.specs.declared.profile.Kind.{Kind}
 use Rattle.dap_message.specs.declared.profile.Kind.TheVariants.{Request, Response, Event}
 use Rattle.dap_message.specs.declared.profile.Row.{Row}
-use Rattle.dap_message.proofs.Apart.{AskedAlike}
+use Rattle.dap_message.proofs.SortsApart.{AskedAlike}
 use Rattle.dap_message.proofs.BodyRows.{other_word, asked-outside}
 use Rattle.dap_message.proofs.Edits.{by_bool}
 use Rattle.dap_message.proofs.Envelopes.{get-filled}
 use Rattle.dap_message.proofs.FilledFits.{object-if}
-use Rattle.dap_message.proofs.Marking.{asked-mark_row}
+use Rattle.dap_message.proofs.RowMarks.{asked-mark_row}
 
 -- ---- faults and marks of the rows that are asked
 

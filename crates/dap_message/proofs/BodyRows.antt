@@ -7,7 +7,7 @@ use Rattle.std.proofs.lemmas.Slice.Eq.{bytes_eq-Decides}
 use Rattle.dap_message.specs.Places.{PlaceStep, named, each, is_object, found}
 use Rattle.dap_message.specs.Profile.{profile}
 use Rattle.dap_message.specs.Rows.{ProfileRow, is_asked, is_text, is_true, row_fault, first_fault, of_row, broken_at, judged, first_cause}
-use Rattle.dap_message.specs.declared.broken.Cause.{Cause}
+use Rattle.dap_message.specs.declared.broken_rows.Cause.{Cause}
 use Rattle.dap_message.specs.declared.profile.Kind.{Kind}
 use Rattle.dap_message.specs.declared.profile.Kind.TheVariants.{Request, Response, Event}
 use Rattle.dap_message.specs.declared.fault.MessageFault.{MessageFault}
@@ -15,7 +15,7 @@ use Rattle.dap_message.specs.declared.profile.Want.TheVariants.{Bool as WantBool
 use Rattle.dap_message.specs.Capabilities.{default_to, default_member, is_given, false_members, capabilities}
 use Rattle.dap_message.proofs.Edits.{by_bool}
 use Rattle.dap_message.proofs.Envelopes.{given_other, apart, fault_free, free_cause, one_cause}
-use Rattle.dap_message.proofs.Refilled.{get_member-put}
+use Rattle.dap_message.proofs.FilledOnce.{get_member-put}
 
 -- ---- rows that the body does not touch
 

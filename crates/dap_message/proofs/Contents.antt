@@ -1,13 +1,13 @@
 -- The laws of contents and their messages, from those of documents.
 use Rattle.dap_tree.specs.Doc.{Doc, null, boolean, whole, text, list, object, id, get, is_plain, is_sound, is_ordered, all_utf8}
-use Rattle.dap_tree.specs.Json.{data_of, Reads, text_of, IsRead, HasNoReading, HasFraction, Outcome, HasOutcome}
+use Rattle.dap_tree.specs.Json.{text_of, IsRead, Outcome, HasOutcome}
 use Rattle.dap_tree.proofs.Booleans.{and_left, and_right}
 use Rattle.dap_tree.specs.Ids.{ids, skeleton, without_ids}
 use Rattle.dap_tree.specs.declared.side.Side.{Side}
 use Rattle.dap_tree.specs.declared.sort.Sort.{Sort}
 use Rattle.dap_tree.specs.declared.sort.Sort.TheVariants.{Reference}
 use Rattle.dap_tree.proofs.Outcomes.{read_once, one_outcome, some_outcome, read_is_plain}
-use Rattle.dap_tree.proofs.Ordered.{read_is_ordered}
+use Rattle.dap_tree.proofs.MemberOrder.{read_is_ordered}
 use Rattle.dap_tree.proofs.Utf8.{read_is_utf8}
 use Rattle.dap_message.specs.Message.{IsTypedBack, IsRenumberedBack}
 use Rattle.std.proofs.Common.{◌≡◌, ◌⊎◌, inl, inr, ℕ, zero, suc, ◌<◌, ℤ, pos, true, cond, List, [], ◌∷◌, length, get_or, Contains, Option, Some, None, option_map, codes, refl, sym, ◌∙◌, ap, ap₂, arith}
@@ -24,10 +24,10 @@ use Rattle.dap_message.specs.Rows.{is_of_kind, type_name, name_key}
 use Rattle.dap_message.specs.declared.fault.MessageFault.{MessageFault}
 use Rattle.dap_message.specs.declared.profile.Kind.{Kind}
 use Rattle.dap_message.specs.declared.profile.Kind.TheVariants.{Request, Response, Event}
-use Rattle.dap_message.proofs.Refilled.{numbers-again, filled-again}
+use Rattle.dap_message.proofs.FilledOnce.{numbers-again, filled-again}
 use Rattle.dap_message.proofs.Envelopes.{enveloped-message, some_is}
-use Rattle.dap_message.proofs.Keeps.{sound-message, proper-message}
-use Rattle.dap_message.proofs.Names.{ordered-message, utf8-message}
+use Rattle.dap_message.proofs.KeptByTyping.{sound-message, proper-message}
+use Rattle.dap_message.proofs.MemberNames.{ordered-message, utf8-message}
 use Rattle.dap_message.proofs.FilledFits.{fault-filled}
 use Rattle.dap_message.proofs.Shapes.{skeleton_keeps, text-shape}
 use Rattle.dap_message.proofs.TypedAgain.{typed_again, text_again}

@@ -20,15 +20,15 @@ use Rattle.dap_message.specs.Faults.{fault, row_broken, has_kind}
 use Rattle.dap_message.specs.Capabilities.{filled, with_capabilities, default_to, is_given, false_at, capabilities, tells_capabilities}
 use Rattle.dap_message.specs.Marks.{made, made_by, marked, is_id_of, mark_rows, top, sort_of, mark}
 use Rattle.dap_message.specs.Envelope.{has_envelope, is_named, text_value, boolean_value, id_number, seq_of}
-use Rattle.dap_message.specs.declared.broken.Cause.{Cause}
-use Rattle.dap_message.specs.declared.broken.Cause.TheVariants.{WrongType}
+use Rattle.dap_message.specs.declared.broken_rows.Cause.{Cause}
+use Rattle.dap_message.specs.declared.broken_rows.Cause.TheVariants.{WrongType}
 use Rattle.dap_message.specs.declared.profile.Kind.{Kind}
 use Rattle.dap_message.specs.declared.profile.Kind.TheVariants.{Request, Response, Event}
 use Rattle.dap_message.specs.declared.profile.Want.{Want}
 use Rattle.dap_message.specs.declared.profile.Want.TheVariants.{Bool as WantBool, Text, OwnSeq, OtherSeq}
 use Rattle.dap_message.specs.declared.fault.MessageFault.TheVariants as MessageFault
 use Rattle.dap_message.proofs.Edits.{by_bool, get-change_other}
-use Rattle.dap_message.proofs.Marking.{one_step, text-top, at-mark}
+use Rattle.dap_message.proofs.RowMarks.{one_step, text-top, at-mark}
 
 -- ---- members that a capability does not touch
 

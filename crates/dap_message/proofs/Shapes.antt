@@ -11,8 +11,8 @@ use Rattle.dap_message.specs.Places.{PlaceStep, named, each, found, is_object, l
 use Rattle.dap_message.specs.Rows.{is_text, is_true, is_asked, may_have_body, type_name, name_key}
 use Rattle.dap_message.specs.declared.profile.Kind.{Kind}
 use Rattle.dap_message.specs.declared.profile.Kind.TheVariants.{Request, Response, Event}
-use Rattle.dap_message.proofs.Apart.{AskedAlike}
-use Rattle.dap_message.proofs.Pending.{SmallIds, small_left, small_right}
+use Rattle.dap_message.proofs.SortsApart.{AskedAlike}
+use Rattle.dap_message.proofs.MarkedPlaces.{SmallIds, small_left, small_right}
 
 map_append : {A B : Type 0} (f : A → B) (xs ys : List A) → map f (xs ++ ys) ≡ map f xs ++ map f ys
 map_append f [] ys = refl

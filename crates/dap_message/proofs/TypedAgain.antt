@@ -5,9 +5,9 @@ use Rattle.dap_tree.specs.Json.{text_of, IsRead}
 use Rattle.dap_tree.specs.declared.side.Side.{Side}
 use Rattle.dap_tree.specs.declared.side.Side.TheVariants.{Client, Adapter}
 use Rattle.dap_tree.proofs.Booleans.{and_left, and_right, and_both}
-use Rattle.dap_tree.proofs.Numbered.{with_others, ordered-skeleton, utf8-skeleton, sound_with}
+use Rattle.dap_tree.proofs.IdNumbers.{with_others, ordered-skeleton, utf8-skeleton, sound_with}
 use Rattle.dap_tree.proofs.Texts.{text_is_read}
-use Rattle.dap_tree.proofs.Without.{sound_without}
+use Rattle.dap_tree.proofs.WithoutIds.{sound_without}
 use Rattle.std.proofs.Common.{◌≡◌, ℕ, ℤ, pos, negsuc, Bool, true, false, cond, ◌&&◌, ◌||◌, List, [], ◌∷◌, map, Option, Some, None, option_map, option_and_then, Ordering, Less, Equal, Greater, nat_cmp, codes, refl, sym, ◌∙◌, ap, ap₂, arith}
 use Rattle.std.proofs.lemmas.Bool.Decides.{nat_tests}
 use Rattle.std.specs.Cmp.Lexicographic.{slice_cmp}
@@ -21,19 +21,19 @@ use Rattle.dap_message.specs.Numbers.{has_small_ids, is_small}
 use Rattle.dap_message.specs.Places.{PlaceStep, found, is_object}
 use Rattle.dap_message.specs.Profile.{profile}
 use Rattle.dap_message.specs.Rows.{ProfileRow, is_asked, is_id_number, judged, first_cause, broken_at, of_row, row_fault, first_fault}
-use Rattle.dap_message.specs.declared.broken.Cause.{Cause}
+use Rattle.dap_message.specs.declared.broken_rows.Cause.{Cause}
 use Rattle.dap_message.specs.declared.fault.MessageFault.TheVariants.{NotObject, UnknownType}
 use Rattle.dap_message.specs.declared.profile.Kind.TheVariants.{Request, Response, Event}
 use Rattle.dap_message.specs.declared.profile.Want.{Want}
 use Rattle.dap_message.specs.declared.profile.Want.TheVariants.{Bool as WantBool, Whole, Text, Object, List as WantList, OwnSeq, OtherSeq, Frame, Reference}
-use Rattle.dap_message.proofs.Refilled.{numbers-again, tells-again, AllGiven, false-given, false-noop}
-use Rattle.dap_message.proofs.Apart.{AskedAlike, pending, mark_rows-edits, agree_profile}
+use Rattle.dap_message.proofs.FilledOnce.{numbers-again, tells-again, AllGiven, false-given, false-noop}
+use Rattle.dap_message.proofs.SortsApart.{AskedAlike, pending, mark_rows-edits, agree_profile}
 use Rattle.dap_message.proofs.BodyRows.{both_free, Tells, row_50, body_case, body_was, get-default}
 use Rattle.dap_message.proofs.Edits.{by_bool}
 use Rattle.dap_message.proofs.Envelopes.{fault_free, fault_parts, rows_free, free_at}
-use Rattle.dap_message.proofs.Keeps.{sound-message}
-use Rattle.dap_message.proofs.Names.{ordered-message, utf8-message}
-use Rattle.dap_message.proofs.Pending.{edits, edits-again, small_number, SmallIds, small_left, small_right}
+use Rattle.dap_message.proofs.KeptByTyping.{sound-message}
+use Rattle.dap_message.proofs.MemberNames.{ordered-message, utf8-message}
+use Rattle.dap_message.proofs.MarkedPlaces.{edits, edits-again, small_number, SmallIds, small_left, small_right}
 use Rattle.dap_message.proofs.FilledFits.{fault-filled, rows_broken, faultless, body-filled}
 use Rattle.dap_message.proofs.Shapes.{KeepsShape, without_keeps, skeleton_keeps, found-shape, asked-shape, asked_without, SmallAt, AllSmall, small_found}
 

@@ -6,9 +6,9 @@ pub mod Steps
 pub mod Marks
 pub mod Capabilities
 pub mod Envelope
-pub mod Asked
+pub mod AskedRows
 pub mod Numbers
 pub mod Views
-pub mod Shown
+pub mod ViewItems
 pub mod Message
 pub mod Laws

@@ -3,8 +3,8 @@ use Rattle.dap_tree.specs.Doc.{Doc, null, boolean, whole, text, list, object, ge
 use Rattle.std.specs.Prelude.{ℕ, ◌^◌, ℤ, pos, negsuc, Bool, true, false, cond, not, ◌&&◌, nat_lt, List, [], ◌∷◌, map, Option, Some, None, option_map, codes, bytes_eq}
 use Rattle.std.specs.Option.{option_or}
 use Rattle.dap_message.specs.Places.{PlaceStep, named, each, found}
-use Rattle.dap_message.specs.declared.broken.Cause.{Cause}
-use Rattle.dap_message.specs.declared.broken.Cause.TheVariants.{Missing, WrongType}
+use Rattle.dap_message.specs.declared.broken_rows.Cause.{Cause}
+use Rattle.dap_message.specs.declared.broken_rows.Cause.TheVariants.{Missing, WrongType}
 use Rattle.dap_message.specs.declared.fault.MessageFault.{MessageFault}
 use Rattle.dap_message.specs.declared.fault.MessageFault.TheVariants.{Missing as MissingRow, WrongType as WrongTypeRow}
 use Rattle.dap_message.specs.declared.profile.Kind.{Kind}

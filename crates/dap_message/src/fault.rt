@@ -1,3 +1,4 @@
+//! Why a tree is no message.
 ghost use Rattle.std.specs.Prelude.{◌≡◌};
 
 use std::alloc::AllocError;

@@ -1,3 +1,4 @@
+//! The ids of a message.
 ghost use Rattle.std.specs.Prelude.{◌≡◌};
 
 use dap_tree::Sort;

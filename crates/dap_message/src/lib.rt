@@ -5,8 +5,8 @@
 //! and the capabilities that an adapter left out are false. `specs/` says what that means, and [`laws`] has the theorems.
 #![tactic(auto)]
 
-mod asked;
-mod broken;
+mod asked_rows;
+mod broken_rows;
 mod capabilities;
 mod fault;
 mod first_fault;
@@ -16,12 +16,8 @@ mod listing;
 mod marks;
 mod message;
 mod profile;
-#[cfg(test)]
-mod tests;
 mod typing;
 mod views;
-#[cfg(test)]
-mod views_tests;
 
 pub use dap_tree::Side;
 pub use fault::MessageFault;

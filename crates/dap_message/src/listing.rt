@@ -29,7 +29,7 @@ pub struct Variables<'a> {
 
 impl<'a> Frames<'a> {
     ghost use Rattle.std.specs.Prelude.{filter_map};
-    ghost use Rattle.dap_message.specs.Shown.{frames_left};
+    ghost use Rattle.dap_message.specs.ViewItems.{frames_left};
 
     pub(crate) fn new(elements: &'a [Tree]) -> Frames<'a>
         requires { are_frames (map view elements.now) ≡ true }
@@ -41,7 +41,7 @@ impl<'a> Frames<'a> {
 
 impl<'a> Scopes<'a> {
     ghost use Rattle.std.specs.Prelude.{filter_map};
-    ghost use Rattle.dap_message.specs.Shown.{scopes_left};
+    ghost use Rattle.dap_message.specs.ViewItems.{scopes_left};
 
     pub(crate) fn new(elements: &'a [Tree]) -> Scopes<'a>
         requires { are_scopes (map view elements.now) ≡ true }
@@ -53,7 +53,7 @@ impl<'a> Scopes<'a> {
 
 impl<'a> Variables<'a> {
     ghost use Rattle.std.specs.Prelude.{filter_map};
-    ghost use Rattle.dap_message.specs.Shown.{variables_left};
+    ghost use Rattle.dap_message.specs.ViewItems.{variables_left};
 
     pub(crate) fn new(elements: &'a [Tree]) -> Variables<'a>
         requires { are_variables (map view elements.now) ≡ true }
@@ -65,7 +65,7 @@ impl<'a> Variables<'a> {
 
 impl<'a> Iterator for Frames<'a> {
     ghost use Rattle.std.specs.Iterator.{YieldsFirstBy, item_count};
-    ghost use Rattle.dap_message.specs.Shown.{frame_shown, frames_left};
+    ghost use Rattle.dap_message.specs.ViewItems.{frame_shown, frames_left};
 
     type Item = FrameView<'a>;
 
@@ -82,7 +82,7 @@ impl<'a> Iterator for Frames<'a> {
 
 impl<'a> Iterator for Scopes<'a> {
     ghost use Rattle.std.specs.Iterator.{YieldsFirstBy, item_count};
-    ghost use Rattle.dap_message.specs.Shown.{scope_shown, scopes_left};
+    ghost use Rattle.dap_message.specs.ViewItems.{scope_shown, scopes_left};
 
     type Item = ScopeView<'a>;
 
@@ -99,7 +99,7 @@ impl<'a> Iterator for Scopes<'a> {
 
 impl<'a> Iterator for Variables<'a> {
     ghost use Rattle.std.specs.Iterator.{YieldsFirstBy, item_count};
-    ghost use Rattle.dap_message.specs.Shown.{variable_shown, variables_left};
+    ghost use Rattle.dap_message.specs.ViewItems.{variable_shown, variables_left};
 
     type Item = VariableView<'a>;
 

@@ -2,7 +2,7 @@
 ghost use Rattle.std.specs.Prelude.{◌≡◌, map};
 ghost use Rattle.dap_tree.specs.Doc.{change_child, change_items, map_items};
 ghost use Rattle.dap_tree.specs.View.{view, items_view};
-ghost use Rattle.dap_message.specs.Asked.{asked_rows, rows_in, mark_by, marks_by};
+ghost use Rattle.dap_message.specs.AskedRows.{asked_rows, rows_in, mark_by, marks_by};
 ghost use Rattle.dap_message.specs.Marks.{sort_of, is_id_of, marked, edit, mark};
 ghost use Rattle.dap_message.specs.Rows.{row_of, steps_of};
 ghost use Rattle.dap_message.specs.Steps.{place_of};

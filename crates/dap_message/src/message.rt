@@ -1,3 +1,4 @@
+//! Messages: their parts, their views, and their ids replaced.
 ghost use Rattle.std.specs.Prelude.{◌≡◌, length, true, Some, is_some, option_map, IfOk, IfErr, string_bytes};
 ghost use Rattle.dap_tree.specs.Doc.{is_sound, get};
 ghost use Rattle.dap_tree.specs.Ids.{ids, with_ids, without_ids, skeleton};
@@ -10,7 +11,7 @@ ghost use Rattle.dap_message.specs.Views.{shows_all};
 ghost use Rattle.dap_message.specs.declared.fault.MessageFault.{MessageFault};
 ghost use Rattle.dap_message.specs.declared.profile.Kind.{Kind};
 
-use crate::asked::is_of_kind;
+use crate::asked_rows::is_of_kind;
 use crate::fault::MessageFault;
 use crate::ids::IdList;
 use crate::listing::{Frames, Scopes, Variables};
@@ -36,7 +37,7 @@ pub struct Message {
 impl Message {
     ghost use Rattle.std.specs.Prelude.{map};
     ghost use Rattle.dap_message.specs.Message.{side_of, doc_of, list_of_ids, IsTypedBack, IsRenumberedBack};
-    ghost use Rattle.dap_message.specs.Shown.{frames_left, scopes_left, variables_left};
+    ghost use Rattle.dap_message.specs.ViewItems.{frames_left, scopes_left, variables_left};
     ghost use Rattle.dap_message.specs.Views.{frame_of, frames_of, listed_frames, scope_of, scopes_of, listed_scopes, variable_of, variables_of, listed_variables};
 
     pub(crate) fn new(side: Side, tree: Tree) -> Message

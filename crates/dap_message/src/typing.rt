@@ -1,9 +1,10 @@
+//! A tree typed as a message: judged by the profile, its ids marked.
 ghost use Rattle.std.specs.Prelude.{◌≡◌, true, IfOk, IfErr};
 ghost use Rattle.dap_tree.specs.Doc.{is_plain};
 ghost use Rattle.dap_tree.specs.View.{view};
 ghost use Rattle.dap_message.specs.Message.{IsTypedAs, HasIdsByPath, Refuses};
 
-use crate::asked::asked_rows;
+use crate::asked_rows::asked_rows;
 use crate::capabilities::fill;
 use crate::fault::MessageFault;
 use crate::first_fault::{first_broken, message_kind};

@@ -3,10 +3,10 @@ ghost use Rattle.std.specs.Prelude.{◌≡◌, map, option_map};
 ghost use Rattle.dap_tree.specs.Doc.{get};
 ghost use Rattle.dap_tree.specs.View.{view};
 ghost use Rattle.dap_message.specs.Views.{frame_of, scope_of, variable_of, listed, number_value, reference_value};
-ghost use Rattle.dap_message.specs.Shown.{frame_shown, scope_shown, variable_shown};
+ghost use Rattle.dap_message.specs.ViewItems.{frame_shown, scope_shown, variable_shown};
 
-use crate::asked::{has_succeeded, has_text, is_of_kind};
-use crate::broken::list_at;
+use crate::asked_rows::{has_succeeded, has_text, is_of_kind};
+use crate::broken_rows::list_at;
 use crate::message::text_at;
 use crate::profile::Kind;
 use dap_tree::Tree;

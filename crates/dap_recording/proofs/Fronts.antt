@@ -9,10 +9,6 @@ heads a b xs ys e = (cc, cc)
 pub not_empty : (x ys : List ℕ) (b : ℕ) → x ≡ [] → x ≡ b ∷ ys → ⊥
 not_empty x ys b e f = cc
 
-pub is_empty : (xs : List ℕ) → length xs ≡ 0 → xs ≡ []
-is_empty [] e = refl
-is_empty (x ∷ xs) e = absurd (omega arith)
-
 pub first_is : (piece : List ℕ) → 0 < length piece → piece ≡ get_or piece 0 0 ∷ drop 1 piece
 first_is [] some = absurd (omega arith)
 first_is (x ∷ xs) some = refl

@@ -1,12 +1,13 @@
 pub mod Fronts
 pub mod FramerSteps
-pub mod RecordUnique
+pub mod Markers
+pub mod Records
 pub mod RecordFaults
-pub mod RecordOutcomes
+pub mod RecordsWritten
 pub mod RecordSteps
 pub mod RecordStreams
-pub mod TraceUnique
-pub mod TraceOutcomes
+pub mod Counts
+pub mod TracePieces
 pub mod TraceSteps
 pub mod RecorderSteps
 pub mod RecorderRuns

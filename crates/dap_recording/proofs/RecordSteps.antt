@@ -1,11 +1,12 @@
 -- What a reader of records stands for once it has read on.
-use Rattle.std.proofs.Common.{◌≡◌, ◌≢◌, ℕ, suc, ◌+◌, ◌<◌, ⊎_elim, List, [], ◌∷◌, ◌++◌, length, take, drop, get_or, refl, sym, ap, ◌∙◌, subst}
-use Rattle.std.proofs.lemmas.List.{append_assoc, take_more}
+use Rattle.std.proofs.Common.{arith, ◌≡◌, ◌≢◌, ℕ, suc, ◌+◌, ◌<◌, ⊎_elim, List, [], ◌∷◌, ◌++◌, length, take, drop, get_or, Ok, Err, refl, sym, ap, ◌∙◌, subst}
+use Rattle.std.proofs.lemmas.List.{append_assoc, append-nil, take_more}
 use Rattle.std.proofs.Math.Seq.{drop-cons}
+use Rattle.dap_items.specs.Then.{in_first, in_second, first_open, second_open}
 use Rattle.dap_frame.specs.declared.limits.FrameLimits.{FrameLimits}
 use Rattle.dap_frame.specs.declared.fault.FrameFault.{FrameFault}
 use Rattle.dap_frame.specs.declared.fault.FrameFault.TheVariants as frame_fault
-use Rattle.dap_frame.specs.Frame.{IsFrame}
+use Rattle.dap_frame.specs.Frame.{IsFrame, Shows}
 use Rattle.dap_frame.specs.Reading.{Reading, GivesFault, limits_of}
 use Rattle.dap_tree.specs.declared.side.Side.{Side}
 use Rattle.dap_recording.specs.declared.record_fault.RecordCause.{RecordCause}
@@ -14,10 +15,12 @@ use Rattle.dap_recording.specs.declared.record_fault.RecordFault.{RecordFault}
 use Rattle.dap_recording.specs.declared.record_state.RecordState.{RecordState}
 use Rattle.dap_recording.specs.declared.record_state.RecordState.TheVariants as states
 use Rattle.dap_recording.specs.Marker.{marker, IsNoMarker}
-use Rattle.dap_recording.specs.Recording.{IsRecord, ShowsFault, at_marker, in_frame, at_line_end, IsOpenRecord, before_marker, before_frame_end, before_line_end}
+use Rattle.dap_recording.specs.Recording.{IsRecord, ShowsFault, IsOpenRecord}
 use Rattle.dap_recording.specs.RecordReading.{RecordReading, StandsFor, IsKeptOfRecord, HasFailedAt, GivesRecordFault, record_limits}
 use Rattle.dap_recording.proofs.Fronts.{first_is, split_at}
 use Rattle.dap_recording.proofs.FramerSteps.{is_memory}
+use Rattle.dap_recording.proofs.Markers.{a_marker}
+use Rattle.dap_recording.proofs.Records.{ends_line}
 
 abbrev pub reader_at : Reading → RecordState → ℕ → RecordReading
 reader_at framer state number = record { framer = framer; state = state; number = number }
@@ -38,9 +41,11 @@ at_state reader number bytes state e stands = subst (λ s. IsKeptOfRecord reader
 
 kept_open : (framer : Reading) (state : RecordState) (bytes : List ℕ) → IsKeptOfRecord framer state bytes
     → IsOpenRecord (limits_of framer) bytes
-kept_open framer states.Marker bytes h = before_marker h.0
-kept_open framer (states.Frame side) bytes h = before_frame_end side h.0 h.1 h.2.is_open
-kept_open framer (states.LineEnd whole) bytes h = before_line_end whole.side h.0 whole.content h.1 h.2
+kept_open framer states.Marker bytes h = first_open h.0
+kept_open framer (states.Frame side) bytes h = second_open (marker side ∷ []) h.0 side h.1 (a_marker BadMarker side) (first_open h.2.is_open)
+kept_open framer (states.LineEnd whole) bytes h =
+    second_open (marker whole.side ∷ []) h.0 whole.side h.1 (a_marker BadMarker whole.side)
+    (second_open h.0 [] whole.content (sym (append-nil h.0)) h.2 refl)
 kept_open framer (states.Failed cause) bytes h = absurd h
 
 pub stands_open : (reader : RecordReading) (number : ℕ) (bytes : List ℕ) → StandsFor reader number bytes
@@ -50,29 +55,50 @@ stands_open reader number bytes stands = kept_open reader.framer reader.state by
 pub bad_marker : (limits : FrameLimits) (bytes piece : List ℕ) → bytes ≡ [] → 0 < length piece
     → IsNoMarker (get_or piece 0 0) → ShowsFault limits (bytes ++ piece) BadMarker 1
 bad_marker limits bytes piece none some other =
-    at_marker (get_or piece 0 0) (drop 1 piece) (ap (λ xs. xs ++ piece) none ∙ first_is piece some) other
+    record {
+      front = get_or piece 0 0 ∷ [];
+      more = drop 1 piece;
+      bytes_are = ap (λ xs. xs ++ piece) none ∙ first_is piece some;
+      ends = in_first BadMarker ([], get_or piece 0 0, refl, refl, (other, refl)) refl;
+      place = refl;
+    }
 
 module _ (limits : FrameLimits) (bytes piece frame content : List ℕ) (side : Side) (from : ℕ) (inside : from < length piece)
     (front : bytes ++ take from piece ≡ marker side ∷ frame) (is : IsFrame limits frame content) where
   pub bad_line_end : (get_or piece from 0 ≡ 10 → ⊥) → (i : ℕ) × ShowsFault limits (bytes ++ piece) NoLineEnd i
   bad_line_end apart = (
-    length frame + 2,
-    at_line_end side frame content (get_or piece from 0) (drop (suc from) piece)
-        (split_at bytes piece (marker side ∷ frame) from front ∙ ap (λ xs. (marker side ∷ frame) ++ xs) (drop-cons piece from 0 inside)) is apart refl,
+    length ((marker side ∷ frame) ++ get_or piece from 0 ∷ []),
+    record {
+      front = (marker side ∷ frame) ++ get_or piece from 0 ∷ [];
+      more = drop (suc from) piece;
+      bytes_are = split_at bytes piece (marker side ∷ frame) from front ∙ ap (λ xs. (marker side ∷ frame) ++ xs) (drop-cons piece from 0 inside)
+          ∙ sym (append_assoc (marker side ∷ frame) (get_or piece from 0 ∷ []) (drop (suc from) piece));
+      ends = ends_line limits side frame content (get_or piece from 0) (Err NoLineEnd) is (apart, refl);
+      place = refl;
+    },
   )
 
   pub good_line_end : get_or piece from 0 ≡ 10 → IsRecord limits (bytes ++ take (from + 1) piece) side content
-  good_line_end lf = record {
-    frame = frame;
-    is_frame = is;
-    bytes_are = ap (λ xs. bytes ++ xs) (take_more piece from 0 inside) ∙ sym (append_assoc bytes (take from piece) (get_or piece from 0 ∷ []))
-        ∙ ap (λ xs. xs ++ get_or piece from 0 ∷ []) front ∙ ap (λ b. (marker side ∷ frame) ++ b ∷ []) lf;
-  }
+  good_line_end lf =
+      let line : bytes ++ take (from + 1) piece ≡ (marker side ∷ frame) ++ get_or piece from 0 ∷ [] =
+      ap (λ xs. bytes ++ xs) (take_more piece from 0 inside) ∙ sym (append_assoc bytes (take from piece) (get_or piece from 0 ∷ []))
+      ∙ ap (λ xs. xs ++ get_or piece from 0 ∷ []) front in
+      subst (λ xs. IsRecord limits xs side content) (sym line) (ends_line limits side frame content (get_or piece from 0) (Ok (side, content)) is (lf, refl))
 
 module _ (limits : FrameLimits) (number : ℕ) (bytes piece rest : List ℕ) (side : Side) (from : ℕ) (fault : FrameFault) (told : RecordFault) (old new : RecordReading) (framer : Reading)
     (front : bytes ++ take from piece ≡ marker side ∷ rest) (gives : GivesFault limits rest (drop from piece) fault framer) (number_is : told.number ≡ number)
     (memory : fault ≡ frame_fault.Memory → (told.cause ≡ Memory) × (new ≡ old)) (stands : fault ≡ frame_fault.Memory → StandsFor old number bytes)
     (other : fault ≢ frame_fault.Memory → (told.cause ≡ Frame fault) × HasFailedAt new told) where
+  -- what shows a fault of the frame shows it of the record
+  shown_in_frame : (i : ℕ) → Shows limits (rest ++ drop from piece) fault i → ShowsFault limits (bytes ++ piece) (Frame fault) (i + 1)
+  shown_in_frame i shows = record {
+    front = marker side ∷ shows.front;
+    more = shows.more;
+    bytes_are = split_at bytes piece (marker side ∷ rest) from front ∙ ap (λ xs. marker side ∷ xs) shows.bytes_are;
+    ends = in_second (marker side ∷ []) shows.front side refl (a_marker BadMarker side) (in_first fault shows.ends refl);
+    place = omega (arith, shows.place);
+  }
+
   pub frame_faults : GivesRecordFault limits number bytes piece told new
   frame_faults = ⊎_elim
       (λ (e : fault ≡ frame_fault.Memory). record {
@@ -87,7 +113,7 @@ module _ (limits : FrameLimits) (number : ℕ) (bytes piece rest : List ℕ) (si
         shown = λ _. (
           (gives.shown d).0 + 1,
           subst (λ cause. ShowsFault limits (bytes ++ piece) cause ((gives.shown d).0 + 1)) (sym (other d).0)
-              (in_frame side (rest ++ drop from piece) (split_at bytes piece (marker side ∷ rest) from front) (gives.shown d).1),
+              (shown_in_frame (gives.shown d).0 (gives.shown d).1),
         );
         failed = λ _. (other d).1;
       })

@@ -1,32 +1,14 @@
 -- The bytes of a trace are recorded in one way: front by front the same frames have ended.
 use Rattle.std.proofs.Common.{◌≡◌, ℕ, ◌⊎◌, inl, inr, false, List, [], ◌∷◌, ◌++◌, length, map, refl, sym, ap, ◌∙◌, subst, arith}
 use Rattle.std.proofs.lemmas.List.{append_assoc, append-nil, append_cancel_left, length-append}
+use Rattle.dap_items.proofs.Streams.{one_stream, stream_more}
 use Rattle.dap_frame.specs.declared.limits.FrameLimits.{FrameLimits}
-use Rattle.dap_frame.specs.Frame.{AreFrames, Stream}
-use Rattle.dap_frame.proofs.Streams.{some_stream, one_stream}
+use Rattle.dap_frame.specs.Frame.{Stream}
+use Rattle.dap_frame.proofs.Frames.{frame_grammar, no_empty_frame}
 use Rattle.dap_tree.specs.declared.side.Side.{Side}
 use Rattle.dap_tree.specs.declared.side.Side.TheVariants.{Client, Adapter}
-use Rattle.dap_recording.specs.Recorded.{is_side, of_side, HaveEnded, AreRecorded}
+use Rattle.dap_recording.specs.RecordedTraces.{is_side, of_side, HaveEnded, AreRecorded}
 use Rattle.dap_recording.proofs.RecorderRuns.{of_side-append, bytes_of_other, nothing_ended}
-
-frames_append : (limits : FrameLimits) (f g : List ℕ) (cs ds : List (List ℕ)) → AreFrames limits f cs → AreFrames limits g ds
-    → AreFrames limits (f ++ g) (cs ++ ds)
-frames_append limits f g [] ds none others = subst (λ xs. AreFrames limits (xs ++ g) ds) (sym none) others
-frames_append limits f g (c ∷ cs) ds all others =
-    (all.0, all.1 ++ g, all.2, ap (λ xs. xs ++ g) all.3 ∙ append_assoc all.0 all.1 g, frames_append limits all.1 g cs ds all.4 others)
-
--- with more bytes come more frames
-stream_more : (limits : FrameLimits) (b y : List ℕ) (cs ds : List (List ℕ)) (r q : List ℕ) → Stream limits b cs r
-    → Stream limits (b ++ y) ds q → (es : List (List ℕ)) × (ds ≡ cs ++ es)
-stream_more limits b y cs ds r q p longer =
-    let tail = some_stream limits (r ++ y) in
-    let whole : Stream limits (b ++ y) (cs ++ tail.0) tail.1 = record {
-      front = p.front ++ tail.2.front;
-      frames = frames_append limits p.front tail.2.front cs tail.0 p.frames tail.2.frames;
-      whole = ap (λ xs. xs ++ y) p.whole ∙ append_assoc p.front r y ∙ ap (λ xs. p.front ++ xs) tail.2.whole ∙ sym (append_assoc p.front tail.2.front tail.1);
-      no_frame = tail.2.no_frame;
-    } in
-    (tail.0, (one_stream limits (b ++ y) ds (cs ++ tail.0) q tail.1 longer whole).0)
 
 empty_list : (cs : List (List ℕ)) → length cs ≡ 0 → cs ≡ []
 empty_list [] e = refl
@@ -96,7 +78,7 @@ module _ (limits : FrameLimits) (bytes : List (Side × ℕ)) (ms ns : List (Side
       elim (two_fronts before1 after1 before after (sym e1 ∙ e)) [
         | inl longer ↦ longer
         | inr shorter ↦ (let none : shorter.0 ≡ [] = no_more before1 shorter.0 (λ side.
-            let streams = stream_more limits (of_side side front) (of_side side more) (of_side side before) (of_side side before1) (rests side) (rests1 side) (ended side)
+            let streams = stream_more (frame_grammar limits) (no_empty_frame limits) (of_side side front) (of_side side more) (of_side side before) (of_side side before1) (rests side) (rests1 side) (ended side)
             (subst (λ xs. Stream limits xs (of_side side before1) (rests1 side)) (of_side-append side front more) (ended1 side)) in
             (streams.0, streams.1 ∙ ap (λ xs. of_side side xs ++ streams.0) shorter.1)) in
             ([], sym (append-nil before1) ∙ ap (λ xs. before1 ++ xs) (sym none) ∙ sym shorter.1 ∙ sym (append-nil before)))
@@ -112,7 +94,7 @@ module _ (limits : FrameLimits) (bytes : List (Side × ℕ)) (ms ns : List (Side
       let ended_y = subst (λ m. HaveEnded limits (front ++ (s, b) ∷ []) m two.2) y.1 two.4 in
       let same : x.0 ≡ y.0 = all_of_side s x.0 (λ side apart. nothing_of_other side s b front was.before x.0 was.rests one.2 apart was.ended ended_x)
       ∙ ap (map (λ c. (s, c))) (append_cancel_left (of_side s was.before) (of_side s x.0) (of_side s y.0)
-      (sym (of_side-append s was.before x.0) ∙ (one_stream limits (of_side s (front ++ (s, b) ∷ [])) (of_side s (was.before ++ x.0)) (of_side s (was.before ++ y.0)) (one.2 s) (two.2 s) (ended_x s) (ended_y s)).0 ∙ of_side-append s was.before y.0))
+      (sym (of_side-append s was.before x.0) ∙ (one_stream (frame_grammar limits) (of_side s (front ++ (s, b) ∷ [])) (of_side s (was.before ++ x.0)) (of_side s (was.before ++ y.0)) (one.2 s) (two.2 s) (ended_x s) (ended_y s)).0 ∙ of_side-append s was.before y.0))
       ∙ sym (all_of_side s y.0 (λ side apart. nothing_of_other side s b front was.before y.0 was.rests two.2 apart was.ended ended_y)) in
       record {
         before = was.before ++ x.0;
@@ -129,7 +111,7 @@ module _ (limits : FrameLimits) (bytes : List (Side × ℕ)) (ms ns : List (Side
           → of_side side x ≡ []
       nothing_of_other side s b front before x rests others apart ended ended1 =
           let as_before = subst (λ xs. Stream limits xs (of_side side (before ++ x)) (others side)) (bytes_of_other side s front (b ∷ []) apart) (ended1 side) in
-          let same = (one_stream limits (of_side side front) (of_side side (before ++ x)) (of_side side before) (others side) (rests side) as_before (ended side)).0 in
+          let same = (one_stream (frame_grammar limits) (of_side side front) (of_side side (before ++ x)) (of_side side before) (others side) (rests side) as_before (ended side)).0 in
           append_cancel_left (of_side side before) (of_side side x) [] (sym (of_side-append side before x) ∙ same ∙ sym (append-nil (of_side side before)))
 
   agree : (front back : List (Side × ℕ)) → bytes ≡ front ++ back → Agree front → Agree bytes
@@ -144,7 +126,7 @@ module _ (limits : FrameLimits) (bytes : List (Side × ℕ)) (ms ns : List (Side
   all_ended whole before after rests all e ended full =
       let none : after ≡ [] = no_more before after (λ side. (
         [],
-        (one_stream limits (of_side side bytes) (of_side side before) (of_side side whole) (rests side) (all side) (ended side) (full side)).0
+        (one_stream (frame_grammar limits) (of_side side bytes) (of_side side before) (of_side side whole) (rests side) (all side) (ended side) (full side)).0
             ∙ ap (of_side side) e ∙ sym (append-nil (of_side side (before ++ after))),
       )) in
       e ∙ ap (λ xs. before ++ xs) none ∙ append-nil before

@@ -2,21 +2,22 @@
 -- them.
 use Rattle.std.proofs.Common.{◌≡◌, ℕ, ◌≤◌, ◌⊎◌, inl, inr, false, List, [], ◌∷◌, ◌++◌, length, take, drop, map, refl, sym, ap, ◌∙◌, subst, arith}
 use Rattle.std.specs.List.{filter}
-use Rattle.std.proofs.lemmas.List.{append_assoc, append-nil, map-append, take_all, take-append-drop, length-append}
+use Rattle.std.proofs.lemmas.List.{append_assoc, append-nil, map-append, take_all, take-append-drop}
 use Rattle.std.proofs.lemmas.List.Elements.{filter-append}
 use Rattle.std.proofs.lemmas.List.Concat.{flat_map-append}
+use Rattle.dap_items.proofs.Ends.{item_of_more, no_item_before, open_has_no_item}
+use Rattle.dap_items.proofs.Streams.{items_append, nothing_has_no_item, one_item_alone}
 use Rattle.dap_frame.specs.declared.limits.FrameLimits.{FrameLimits}
 use Rattle.dap_frame.specs.declared.fault.FrameFault.{FrameFault}
-use Rattle.dap_frame.specs.Frame.{IsFrame, HasFrame, Stream, IsOpen}
+use Rattle.dap_frame.specs.Frame.{IsFrame, HasFrame, Stream, IsOpen, frames}
 use Rattle.dap_frame.specs.Reading.{limits_of}
-use Rattle.dap_frame.proofs.Unique.{one_frame, no_empty_frame}
-use Rattle.dap_frame.proofs.Streams.{frames_push, open_has_no_frame}
+use Rattle.dap_frame.proofs.Frames.{frame_grammar, no_empty_frame}
 use Rattle.dap_tree.specs.declared.side.Side.{Side}
 use Rattle.dap_tree.specs.declared.side.Side.TheVariants.{Client, Adapter}
 use Rattle.dap_recording.specs.declared.recorder_fault.RecorderFault.TheVariants as told
 use Rattle.dap_recording.specs.Recording.{record_text, recording_text}
 use Rattle.dap_recording.specs.RecorderReading.{RecorderReading, StandsForRests, GoesOn, HasRecorded, framer_of, with_rest, text_of, recorder_limits}
-use Rattle.dap_recording.specs.Recorded.{is_side, of_side, bytes_of, HaveEnded, AreRecorded, RecordedSoFar}
+use Rattle.dap_recording.specs.RecordedTraces.{is_side, of_side, bytes_of, HaveEnded, AreRecorded, RecordedSoFar}
 use Rattle.dap_recording.specs.Feeding.{Records, begun, next_piece, took, refused}
 
 -- bytes of one side
@@ -78,42 +79,15 @@ ended_with limits Adapter taken bytes rest ms ns rests mine other was = each
         (subst (λ cs. Stream limits (of_side Client taken) cs (rests Client)) (sym (other Client refl)) (was Client))
     each Adapter = subst (λ xs. Stream limits xs (of_side Adapter ns) rest) (sym (bytes_of_side Adapter taken bytes)) mine
 
-no_frame_in_nothing : (limits : FrameLimits) → HasFrame limits [] → ⊥
-no_frame_in_nothing limits has = nothing has.frame has.more has.content has.bytes_are has.is_frame
-  where
-    nothing : (frame more content : List ℕ) → [] ≡ frame ++ more → IsFrame limits frame content → ⊥
-    nothing [] more content e is = no_empty_frame limits content is
-    nothing (b ∷ frame) more content e is = cc
-
--- a frame at the front of bytes is one at the front of more bytes
-pub frame_of_more : (limits : FrameLimits) (bytes more : List ℕ) → HasFrame limits bytes → HasFrame limits (bytes ++ more)
-frame_of_more limits bytes more has = record {
-  frame = has.frame;
-  more = has.more ++ more;
-  content = has.content;
-  bytes_are = ap (λ xs. xs ++ more) has.bytes_are ∙ append_assoc has.frame has.more more;
-  is_frame = has.is_frame;
-}
-
--- no frame ends before the last byte of a frame
-no_frame_before : (limits : FrameLimits) (bytes more content : List ℕ) (b : ℕ) → IsFrame limits (bytes ++ b ∷ more) content
-    → HasFrame limits bytes → ⊥
-unfolding frame_of_more
-no_frame_before limits bytes more content b is has =
-    let longer = frame_of_more limits bytes (b ∷ more) has in
-    let same = one_frame limits has.frame (bytes ++ b ∷ more) longer.more [] has.content content
-    (sym longer.bytes_are ∙ sym (append-nil (bytes ++ b ∷ more))) has.is_frame is in
-    omega (arith, ap length same.0, ap length has.bytes_are, length-append has.frame has.more, length-append bytes (b ∷ more))
-
 goes_on : (limits : FrameLimits) (s : Side) (taken : List (Side × ℕ)) (bytes : List ℕ) (ms : List (Side × List ℕ)) (rests : Side → List ℕ)
     → HaveEnded limits taken ms rests → (HasFrame limits (rests s ++ bytes) → ⊥)
     → HaveEnded limits (taken ++ sent_by s bytes) ms (with_rest s (rests s ++ bytes) rests)
 goes_on limits s taken bytes ms rests was none =
     ended_with limits s taken bytes (rests s ++ bytes) ms ms rests (record {
       front = (was s).front;
-      frames = (was s).frames;
+      items = (was s).items;
       whole = ap (λ xs. xs ++ bytes) (was s).whole ∙ append_assoc (was s).front (rests s) bytes;
-      no_frame = none;
+      no_item = none;
     }) (λ side e. refl) was
 
 frame_ends : (limits : FrameLimits) (s : Side) (taken : List (Side × ℕ)) (bytes content : List ℕ) (ms : List (Side × List ℕ)) (rests : Side → List ℕ)
@@ -126,9 +100,9 @@ frame_ends limits s taken bytes content ms rests was is =
     ended_with limits s taken bytes [] ms (ms ++ (s, content) ∷ []) rests
     (subst (λ cs. Stream limits (of_side s taken ++ bytes) cs []) (sym contents) (record {
       front = (was s).front ++ frame;
-      frames = frames_push limits (was s).front frame content (of_side s ms) (was s).frames is;
+      items = items_append (frames limits) (was s).front frame (of_side s ms) (content ∷ []) (was s).items (one_item_alone (frames limits) frame content is);
       whole = ap (λ xs. xs ++ bytes) (was s).whole ∙ append_assoc (was s).front (rests s) bytes ∙ sym (append-nil ((was s).front ++ frame));
-      no_frame = no_frame_in_nothing limits;
+      no_item = nothing_has_no_item (frame_grammar limits) (no_empty_frame limits);
     }))
     (λ side e. of_side-append side ms ((s, content) ∷ []) ∙ ap (λ cs. of_side side ms ++ cs) (none_of_side side s content e) ∙ append-nil (of_side side ms))
     was
@@ -195,7 +169,7 @@ module _ (limits : FrameLimits) (s : Side) (taken : List (Side × ℕ)) (bytes :
       (s, content) ∷ [],
       with_rest s (rests s ++ front) rests,
       refl,
-      goes_on limits s taken front ms rests was.all (no_frame_before limits (rests s ++ front) back content b
+      goes_on limits s taken front ms rests was.all (no_item_before (frame_grammar limits) (rests s ++ front) back b content
           (subst (λ xs. IsFrame limits xs content) (ap (λ xs. rests s ++ xs) e ∙ sym (append_assoc (rests s) front (b ∷ back))) is)),
     )
 
@@ -225,7 +199,7 @@ pub nothing_ended : (limits : FrameLimits) (bytes : List (Side × ℕ)) → [] �
 nothing_ended limits bytes e = subst (λ xs. HaveEnded limits xs [] (λ side. [])) e each
   where
     each : HaveEnded limits [] [] (λ side. [])
-    each side = record { front = []; frames = refl; whole = refl; no_frame = no_frame_in_nothing limits }
+    each side = record { front = []; items = refl; whole = refl; no_item = nothing_has_no_item (frame_grammar limits) (no_empty_frame limits) }
 
 pub nothing_recorded : (limits : FrameLimits) → AreRecorded limits [] [] (λ side. [])
 nothing_recorded limits = record {
@@ -270,8 +244,8 @@ module _ (first recorder new : RecorderReading) (pieces left : List (Side × Lis
         rests = with_rest side (was.rests side ++ take used piece) was.rests;
         bytes_are = was.bytes_are ∙ piece_parts side piece used was.taken (bytes_of left);
         recorded = recorded_on limits side was.taken (take used piece) was.messages was.rests was.recorded (λ front back e has.
-            open_has_no_frame limits rest is_open
-            (subst (HasFrame limits) (append_assoc (was.rests side) front back ∙ ap (λ xs. was.rests side ++ xs) (sym e ∙ all)) (frame_of_more limits (was.rests side ++ front) back has)));
+            open_has_no_item (frame_grammar limits) rest is_open
+            (subst (HasFrame limits) (append_assoc (was.rests side) front back ∙ ap (λ xs. was.rests side ++ xs) (sym e ∙ all)) (item_of_more (was.rests side ++ front) back has)));
         text_is = on.text ∙ was.text_is;
         stands = subst (λ xs. StandsForRests new (with_rest side (was.rests side ++ xs) was.rests)) (sym all) on.stands;
         limits = same ∙ was.limits;

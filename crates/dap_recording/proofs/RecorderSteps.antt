@@ -1,14 +1,14 @@
 -- What a recorder stands for once it has taken a piece.
 use Rattle.std.proofs.Common.{◌≡◌, ◌≢◌, ℕ, ◌+◌, ◌≤◌, inl, inr, true, false, List, [], ◌++◌, length, take, Option, Some, None, Result, Ok, Err, refl, sym, ap, ◌∙◌, subst, arith}
 use Rattle.std.specs.Result.{is_err, IsOk, IfOk, OnOk}
-use Rattle.std.proofs.lemmas.List.{length-append, length-drop, length-take-le}
+use Rattle.std.proofs.lemmas.List.{length-append, length-take-le}
 use Rattle.dap_frame.specs.declared.limits.FrameLimits.{FrameLimits}
 use Rattle.dap_frame.specs.declared.fault.FrameFault.{FrameFault}
 use Rattle.dap_frame.specs.declared.fault.FrameFault.TheVariants.{Memory}
 use Rattle.dap_frame.specs.declared.fed.Fed.{Fed}
 use Rattle.dap_frame.specs.Frame.{IsFrame, Shows}
 use Rattle.dap_frame.specs.Reading.{Reading, Stands, GivesFed, GivesFault, limits_of}
-use Rattle.dap_frame.proofs.Judged.{judged-small}
+use Rattle.dap_frame.proofs.Frames.{content_small}
 use Rattle.dap_tree.specs.declared.side.Side.{Side}
 use Rattle.dap_tree.specs.declared.side.Side.TheVariants.{Client, Adapter}
 use Rattle.dap_recording.specs.declared.recorder_fault.RecorderFault.{RecorderFault}
@@ -30,14 +30,11 @@ pub is_ok : (E : Type 0) (r : Result (Unit {0}) E) → is_err r ≡ false → Is
 is_ok E (Ok x) e = refl
 is_ok E (Err x) e = absurd (let f : ⊥ = cc in f)
 
--- a content is within its limit, and no longer than what came
-pub frame_small : (limits : FrameLimits) (frame content : List ℕ) → IsFrame limits frame content → length content ≤ limits.content
-frame_small limits frame content is = judged-small limits is.header.says.lines (length content) (sym is.header.says.said_so)
-
+-- a content is no longer than what came
 pub frame_short : (limits : FrameLimits) (rest piece content : List ℕ) (used : ℕ) → used ≤ length piece
     → IsFrame limits (rest ++ take used piece) content → length content ≤ length rest + length piece
 frame_short limits rest piece content used fits is =
-    omega (arith, fits, ap length is.content_is, length-drop is.len (rest ++ take used piece), length-append rest (take used piece), length-take-le used piece fits)
+    omega (arith, fits, (content_small limits (rest ++ take used piece) content is).1, length-append rest (take used piece), length-take-le used piece fits)
 
 pub takes_all : (limits : FrameLimits) (rest piece before after : List ℕ) (fed : Fed) (new : Reading) → fed.content ≡ None
     → GivesFed limits rest piece fed new → after ≡ before → TakesAll rest piece before after new fed.used

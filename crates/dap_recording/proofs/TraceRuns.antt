@@ -1,26 +1,23 @@
 -- Calls of a reader of traces over any inputs give the runs of the pieces in them.
-use Rattle.std.proofs.Common.{◌≡◌, ◌≢◌, ℕ, ◌<◌, ◌≤◌, ◌⊎◌, inl, inr, List, [], ◌∷◌, ◌++◌, length, take, drop, Option, Some, None, MatchOption, refl, sym, ap, ◌∙◌, subst, arith}
+use Rattle.std.proofs.Common.{◌≡◌, ◌≢◌, ℕ, ◌<◌, ◌≤◌, ◌⊎◌, inl, inr, List, [], ◌∷◌, ◌++◌, length, take, drop, Option, Some, None, MatchOption, Err, refl, sym, ap, ◌∙◌, subst, arith}
 use Rattle.std.specs.List.{concat, flat_map, AllByRecursion}
-use Rattle.std.proofs.lemmas.List.{append_assoc, append-nil, take-append-drop, length-append, length-drop}
+use Rattle.std.proofs.lemmas.List.{append_assoc, append-nil, take-append-drop, length-append, length-drop, nil_from_length}
 use Rattle.std.proofs.lemmas.List.Concat.{flat_map-append}
+use Rattle.dap_items.proofs.Streams.{items_append, one_item_alone, faulty_stream}
+use Rattle.dap_items.specs.Feeding.{begun, next_piece, fed_on, refused}
+use Rattle.dap_recording.proofs.TracePieces.{piece_grammar}
+use Rattle.dap_recording.specs.declared.trace_fault.TraceFault.{TraceFault}
 use Rattle.dap_tree.specs.declared.side.Side.{Side}
 use Rattle.dap_tree.specs.declared.side.Side.TheVariants.{Client}
 use Rattle.dap_recording.specs.declared.fed_trace.TracePart.{TracePart}
 use Rattle.dap_recording.specs.Marker.{marker}
 use Rattle.dap_recording.specs.RecordReading.{next_number, number_behind}
-use Rattle.dap_recording.specs.Trace.{IsPiece, IsTrace}
-use Rattle.dap_recording.specs.TraceReading.{TraceReading, StandsForPiece, GivesRun}
-use Rattle.dap_recording.specs.Feeding.{Run, run_in, FeedsTrace, begun, next_input, fed_on}
+use Rattle.dap_recording.specs.Trace.{IsPiece, PieceStream, ShowsTraceFault, pieces_of}
+use Rattle.dap_recording.specs.TraceReading.{TraceReading, StandsForPiece, HasFailedAtPiece, GivesRun}
+use Rattle.dap_recording.specs.Feeding.{Run, run_in, FeedsTrace, IsTraceCall}
 use Rattle.dap_recording.specs.Runs.{AreRunsOf, AreRunsOfPiece, AreRunsOfPieces, ReadSoFar}
-use Rattle.dap_recording.proofs.Fronts.{heads, is_empty}
-use Rattle.dap_recording.proofs.RecordUnique.{marker_one}
-
--- one piece more at the end
-pub trace_push : (front last : List ℕ) (side : Side) (raw : List ℕ) (pieces : List (Side × List ℕ)) → IsTrace front pieces
-    → IsPiece last side raw → IsTrace (front ++ last) (pieces ++ (side, raw) ∷ [])
-trace_push front last side raw [] none is = (last, [], is, ap (λ xs. xs ++ last) none ∙ sym (append-nil last), refl)
-trace_push front last side raw (p ∷ pieces) all is =
-    (all.0, all.1 ++ last, all.2, ap (λ xs. xs ++ last) all.3 ∙ append_assoc all.0 all.1 last, trace_push all.1 last side raw pieces all.4 is)
+use Rattle.dap_recording.proofs.Fronts.{heads}
+use Rattle.dap_recording.proofs.Markers.{marker_one}
 
 runs_push : (before : List (Side × List ℕ)) (runs mine : List Run) (pieces : List (Side × List ℕ)) (side : Side) (raw : List ℕ)
     → AreRunsOfPieces before runs pieces → AreRunsOfPiece (number_behind (before ++ pieces)) side raw mine
@@ -93,7 +90,7 @@ module _ (reader new : TraceReading) (inputs left : List (List ℕ)) (input : Li
   no_run : used ≡ length input → StandsForPiece new (number_behind was.pieces) (was.rest ++ input) was.raw
       → ReadSoFar new inputs (drop used input ∷ left) (runs ++ [])
   no_run all stands =
-      let over : drop used input ≡ [] = is_empty (drop used input) (omega (arith, all, length-drop used input)) in
+      let over : drop used input ≡ [] = nil_from_length (drop used input) (omega (arith, all, length-drop used input)) in
       record {
         front = was.front;
         pieces = was.pieces;
@@ -129,7 +126,7 @@ module _ (reader new : TraceReading) (inputs left : List (List ℕ)) (input : Li
         record {
           front = was.front ++ last;
           pieces = was.pieces ++ (side, was.raw ++ run) ∷ [];
-          trace = trace_push was.front last side (was.raw ++ run) was.pieces was.trace is;
+          trace = items_append pieces_of was.front last was.pieces ((side, was.raw ++ run) ∷ []) was.trace (one_item_alone pieces_of last (side, was.raw ++ run) is);
           rest = [];
           raw = [];
           bytes_are = was.bytes_are
@@ -151,7 +148,7 @@ module _ (reader new : TraceReading) (inputs left : List (List ℕ)) (input : Li
     goes_on : used ≡ length input → 0 < length run → StandsForPiece new (number_behind was.pieces) (was.rest ++ input) (was.raw ++ run)
         → ReadSoFar new inputs (drop used input ∷ left) (runs ++ record { piece = number_behind was.pieces; side = side; bytes = run } ∷ [])
     goes_on all some stands =
-        let over : drop used input ≡ [] = is_empty (drop used input) (omega (arith, all, length-drop used input)) in
+        let over : drop used input ≡ [] = nil_from_length (drop used input) (omega (arith, all, length-drop used input)) in
         record {
           front = was.front;
           pieces = was.pieces;
@@ -204,7 +201,7 @@ read_so_far first inputs _ _ _ stands begun = record {
   of_last = record { each = tt; joined = refl };
   begins = inl refl;
 }
-read_so_far first inputs runs left last stands (next_input feeds) =
+read_so_far first inputs runs left last stands (next_piece feeds) =
     let was = read_so_far first inputs runs ([] ∷ left) last stands feeds in
     record {
       front = was.front;
@@ -222,11 +219,22 @@ read_so_far first inputs runs left last stands (next_input feeds) =
       of_last = was.of_last;
       begins = was.begins;
     }
-read_so_far first inputs _ _ new stands (fed_on {runs = runs} {left = left} {reader = reader} input given feeds call) =
+read_so_far first inputs _ _ new stands (fed_on {values = runs} {left = left} {state = reader} input given feeds call) =
     let was = read_so_far first inputs runs (input ∷ left) reader stands feeds in
     let gives = call.gives (number_behind was.pieces) was.rest was.raw was.stands in
     fed reader new inputs left input runs given.used was gives.0 given.part gives.1
+read_so_far first inputs runs _ last stands (refused input feeds never) = absurd never
 
 pub any_inputs : (first last : TraceReading) (inputs left : List (List ℕ)) (runs : List Run) → StandsForPiece first 1 [] []
     → FeedsTrace first inputs runs left last → ReadSoFar last inputs left runs
 any_inputs first last inputs left runs = read_so_far first inputs runs left last
+
+pub fault_in_any_inputs : (first last new : TraceReading) (input : List ℕ) (inputs left : List (List ℕ)) (runs : List Run) (fault : TraceFault)
+    → StandsForPiece first 1 [] [] → FeedsTrace first inputs runs (input ∷ left) last → IsTraceCall last input (Err fault) new
+    → (pieces : List (Side × List ℕ)) × (rest : List ℕ) × (i : ℕ) × PieceStream (concat inputs) pieces rest
+    × ShowsTraceFault rest fault.cause i × (fault.piece ≡ number_behind pieces) × HasFailedAtPiece new fault
+fault_in_any_inputs first last new input inputs left runs fault stands feeds call =
+    let was = read_so_far first inputs runs (input ∷ left) last stands feeds in
+    let given = call.gives (number_behind was.pieces) was.rest was.raw was.stands in
+    let read = faulty_stream piece_grammar (concat inputs) was.front was.rest input (concat left) was.pieces fault.cause given.shown.0 was.trace was.bytes_are given.shown.1 in
+    (was.pieces, read.0, given.shown.0, read.1, read.2, given.piece_is, given.failed)

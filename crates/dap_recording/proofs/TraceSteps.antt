@@ -1,11 +1,12 @@
 -- What a reader of traces stands for once it has read on.
 use Rattle.std.proofs.Common.{◌≡◌, ◌≢◌, ℕ, suc, ◌+◌, ◌-◌, ◌*◌, ◌^◌, ◌<◌, ◌≤◌, ◌⊎◌, inl, inr, ⊎_elim, Bool, true, false, ◌&&◌, List, [], ◌∷◌, ◌++◌, length, take, drop, get_or, refl, sym, ap, ◌∙◌, subst, arith, add-one}
-use Rattle.std.proofs.lemmas.List.{append_assoc, take_more, take-append-drop, length-append, length-take-le, length-drop}
+use Rattle.std.proofs.lemmas.List.{append_assoc, take_more, take-append-drop, length-append, length-take-le, length-drop, nil_from_length}
 use Rattle.std.proofs.lemmas.List.Folds.{list_all-append}
 use Rattle.std.proofs.lemmas.List.Sums.{fold-append}
 use Rattle.std.proofs.Math.Nat.{pow-suc}
 use Rattle.std.proofs.Math.Seq.{drop-cons}
 use Rattle.std.specs.Char.{is_ascii_digit}
+use Rattle.dap_items.specs.Then.{in_first, in_second, first_open}
 use Rattle.dap_frame.specs.Lines.{number_of}
 use Rattle.dap_tree.specs.declared.side.Side.{Side}
 use Rattle.dap_recording.specs.declared.count.Count.{Count}
@@ -15,9 +16,11 @@ use Rattle.dap_recording.specs.declared.trace_state.TraceState.TheVariants as st
 use Rattle.dap_recording.specs.TraceReading.{TraceReading}
 use Rattle.dap_recording.specs.TraceReading.{StandsForPiece, IsKeptOfPiece}
 use Rattle.dap_recording.specs.Marker.{marker, IsNoMarker}
-use Rattle.dap_recording.specs.Trace.{IsCount, IsPiece, ShowsTraceFault, at_count, at_marker, IsOpenPiece, before_marker, in_count, in_raw}
-use Rattle.dap_recording.specs.Count.{IsCountOf, IsBadAt}
-use Rattle.dap_recording.proofs.Fronts.{first_is, is_empty, split_at, taken_more}
+use Rattle.dap_recording.specs.Trace.{IsCount, IsBadAt, IsPiece, ShowsTraceFault, IsOpenPiece}
+use Rattle.dap_recording.specs.Count.{IsCountOf}
+use Rattle.dap_recording.proofs.Fronts.{first_is, split_at, taken_more}
+use Rattle.dap_recording.proofs.Markers.{a_marker}
+use Rattle.dap_recording.proofs.TracePieces.{piece_of, open_in_count, open_in_raw}
 
 first_other : (text : List ℕ) (byte : ℕ) → (text ≡ []) ⊎ (get_or text 0 0 ≢ 48) → (text ≡ [] → byte ≢ 48) → get_or (text ++ byte ∷ []) 0 0 ≢ 48
 first_other [] byte h b = b refl
@@ -41,7 +44,7 @@ module _ (count next : Count) (text : List ℕ) (byte : ℕ) (was : IsCountOf co
         small = subst (λ k. next.number < 10 ^ k) (sym len) shown;
         few = omega (arith, len, was.digits, few);
         each = list_all-append is_ascii_digit text (byte ∷ []) ∙ ap (λ v. v && (is_ascii_digit byte && true)) was.each ∙ ap (λ v. v && true) digit;
-        zero = λ e. let got = lone e in ap (λ xs. xs ++ byte ∷ []) (is_empty text (sym was.digits ∙ got.0)) ∙ ap (λ b. b ∷ []) got.1;
+        zero = λ e. let got = lone e in ap (λ xs. xs ++ byte ∷ []) (nil_from_length text (sym was.digits ∙ got.0)) ∙ ap (λ b. b ∷ []) got.1;
         other = λ e. inr (first_other text byte (was.other plain) (λ n. apart e (none n)));
       }
 
@@ -76,12 +79,12 @@ module _ (bytes input raw text : List ℕ) (side : Side) (from left : ℕ) (with
   run_len long = length-take-le left (drop from input) (omega (arith, length-drop from input))
 
   pub run_ends : left ≤ length input - from → IsPiece (bytes ++ take (from + left) input) side (raw ++ take left (drop from input))
-  run_ends long = record {
+  run_ends long = piece_of (bytes ++ take (from + left) input) side (raw ++ take left (drop from input)) (record {
     count = text;
     is_count = is_count;
     says = omega (arith, says, length-append raw (take left (drop from input)), run_len long);
     bytes_are = taken_more bytes input (marker side ∷ (text ++ 10 ∷ raw)) from left front ∙ append_assoc (marker side ∷ text) (10 ∷ raw) (take left (drop from input));
-  }
+  })
 
   pub run_none : left ≤ length input - from → take left (drop from input) ≡ [] → left ≡ 0
   run_none long e = sym (run_len long) ∙ ap length e
@@ -91,18 +94,31 @@ run_some input from inside e = omega (arith, length-drop from input, ap length e
 
 pub bad_count : (bytes input text : List ℕ) (side : Side) (from k : ℕ) → bytes ++ take from input ≡ marker side ∷ text → k < length (drop from input)
     → IsBadAt (text ++ take k (drop from input)) (get_or (drop from input) k 0) → (i : ℕ) × ShowsTraceFault (bytes ++ input) BadCount i
-bad_count bytes input text side from k front inside bad =
-    let rest : List ℕ = drop from input in (
-      length (text ++ take k rest) + 2,
-      at_count side (text ++ take k rest) (get_or rest k 0) (drop (suc k) rest)
-          (split_at bytes input (marker side ∷ text) from front
-          ∙ ap (λ xs. (marker side ∷ text) ++ xs) (sym (take-append-drop k rest) ∙ ap (λ xs. take k rest ++ xs) (drop-cons rest k 0 inside))
-          ∙ sym (append_assoc (marker side ∷ text) (take k rest) (get_or rest k 0 ∷ drop (suc k) rest)))
-          bad.begun bad.no_end bad.no_count refl,
+bad_count bytes input text side from k front_is inside bad =
+    let rest : List ℕ = drop from input in
+    let front : List ℕ = (marker side ∷ (text ++ take k rest)) ++ get_or rest k 0 ∷ [] in (
+      length front,
+      record {
+        front = front;
+        more = drop (suc k) rest;
+        bytes_are = split_at bytes input (marker side ∷ text) from front_is
+            ∙ ap (λ xs. (marker side ∷ text) ++ xs) (sym (take-append-drop k rest) ∙ ap (λ xs. take k rest ++ xs) (drop-cons rest k 0 inside))
+            ∙ sym (append_assoc (marker side ∷ text) (take k rest) (get_or rest k 0 ∷ drop (suc k) rest))
+            ∙ sym (append_assoc (marker side ∷ (text ++ take k rest)) (get_or rest k 0 ∷ []) (drop (suc k) rest));
+        ends = in_second (marker side ∷ []) ((text ++ take k rest) ++ get_or rest k 0 ∷ []) side refl (a_marker BadMarker side)
+            (in_first BadCount (text ++ take k rest, get_or rest k 0, refl, bad.begun, (bad, refl)) refl);
+        place = refl;
+      },
     )
 
 pub bad_piece_marker : (bytes input : List ℕ) → bytes ≡ [] → 0 < length input → IsNoMarker (get_or input 0 0) → ShowsTraceFault (bytes ++ input) BadMarker 1
-bad_piece_marker bytes input none some other = at_marker (get_or input 0 0) (drop 1 input) (ap (λ xs. xs ++ input) none ∙ first_is input some) other
+bad_piece_marker bytes input none some other = record {
+  front = get_or input 0 0 ∷ [];
+  more = drop 1 input;
+  bytes_are = ap (λ xs. xs ++ input) none ∙ first_is input some;
+  ends = in_first BadMarker ([], get_or input 0 0, refl, refl, (other, refl)) refl;
+  place = refl;
+}
 
 pub at_trace_state : (reader : TraceReading) (piece : ℕ) (bytes raw : List ℕ) (state : TraceState) → reader.state ≡ state → StandsForPiece reader piece bytes raw → IsKeptOfPiece state bytes raw
 at_trace_state reader piece bytes raw state e stands = subst (λ s. IsKeptOfPiece s bytes raw) e stands.kept
@@ -121,9 +137,9 @@ begun count (x ∷ xs) is = inr (record {
     plain false e = ⊎_elim (λ (none : x ∷ xs ≡ []). absurd (let len = ap length none in omega arith)) (λ apart. inr apart) (is.other e)
 
 piece_kept_open : (state : TraceState) (bytes raw : List ℕ) → IsKeptOfPiece state bytes raw → IsOpenPiece bytes
-piece_kept_open states.Marker bytes raw h = before_marker h.0
-piece_kept_open (states.Count side count) bytes raw h = in_count side h.0 h.1 (begun count h.0 h.2)
-piece_kept_open (states.Raw side left) bytes raw h = in_raw side h.0 raw h.1 h.2 (let short : length raw < number_of h.0 = omega (arith, h.3, h.4) in short)
+piece_kept_open states.Marker bytes raw h = first_open h.0
+piece_kept_open (states.Count side count) bytes raw h = open_in_count bytes h.0 side h.1 (begun count h.0 h.2)
+piece_kept_open (states.Raw side left) bytes raw h = open_in_raw bytes h.0 raw side h.1 h.2 (let short : length raw < number_of h.0 = omega (arith, h.3, h.4) in short)
 piece_kept_open (states.Failed cause) bytes raw h = absurd h
 
 pub stands_open_piece : (reader : TraceReading) (piece : ℕ) (bytes raw : List ℕ) → StandsForPiece reader piece bytes raw → IsOpenPiece bytes

@@ -8,7 +8,7 @@ use Rattle.dap_recording.specs.declared.count.CountStep.{CountStep}
 use Rattle.dap_recording.specs.declared.count.CountStep.TheVariants as step
 use Rattle.dap_recording.specs.declared.count.CountEnd.{CountEnd}
 use Rattle.dap_recording.specs.declared.count.CountEnd.TheVariants as end
-use Rattle.dap_recording.specs.Trace.{IsCount}
+use Rattle.dap_recording.specs.Trace.{IsCount, IsBadAt}
 
 -- What is kept is that of these digits, which are a count or none.
 pub record IsCountOf (count : Count) (text : List ℕ) : Type 0 where
@@ -19,12 +19,6 @@ pub record IsCountOf (count : Count) (text : List ℕ) : Type 0 where
   pub each : list_all is_ascii_digit text ≡ true
   pub zero : count.is_zero ≡ true → text ≡ 48 ∷ []
   pub other : count.is_zero ≡ false → (text ≡ []) ⊎ (slice_index text 0 ≢ 48)
-
--- The byte behind these digits is neither the next digit of a count nor its LF.
-pub record IsBadAt (text : List ℕ) (byte : ℕ) : Type 0 where
-  pub begun : (text ≡ []) ⊎ IsCount text
-  pub no_end : byte ≡ 10 → text ≡ []
-  pub no_count : IsCount (text ++ byte ∷ []) → ⊥
 
 -- what a byte behind these digits makes of them
 abbrev pub Steps : List ℕ → ℕ → CountStep → Type 0

@@ -1,7 +1,8 @@
 -- Calls of the readers and the recorder over a whole input, one after another. Each call gets what is
 -- left of the present piece, a piece that is used up leads to the next, and a call that answered
 -- Memory may be made again.
-use Rattle.std.specs.Prelude.{◌≡◌, ℕ, List, [], ◌∷◌, ◌++◌, drop, Option, Some, None, Result, Ok, Err}
+use Rattle.std.specs.Prelude.{◌≡◌, ℕ, List, [], ◌∷◌, drop, Option, Some, None, Result, Ok, Err}
+use Rattle.dap_items.specs.Feeding.{Calls, Feeds}
 use Rattle.dap_tree.specs.declared.side.Side.{Side}
 use Rattle.dap_recording.specs.declared.record.Record.{Record}
 use Rattle.dap_recording.specs.declared.record_fault.RecordCause.TheVariants as cause
@@ -27,18 +28,19 @@ abbrev pub message_in : Option Record → List (Side × List ℕ)
 message_in None = []
 message_in (Some whole) = (whole.side, whole.content) ∷ []
 
--- Calls of `RecordReader::feed`, from the first reader on and over these pieces in order, have given
--- these messages so far; these pieces are left, and the reader is now this one.
-pub data FeedsRecords (first : RecordReading) (pieces : List (List ℕ)) : List (Side × List ℕ) → List (List ℕ) → RecordReading → Type 0 where
-  begun : FeedsRecords first pieces [] pieces first
-  next_piece : {messages : List (Side × List ℕ)} {left : List (List ℕ)} {reader : RecordReading}
-      → FeedsRecords first pieces messages ([] ∷ left) reader → FeedsRecords first pieces messages left reader
-  fed_on : {messages : List (Side × List ℕ)} {left : List (List ℕ)} {reader new : RecordReading} (piece : List ℕ) (fed : FedRecord)
-      → FeedsRecords first pieces messages (piece ∷ left) reader → IsRecordCall reader piece (Ok fed) new
-      → FeedsRecords first pieces (messages ++ message_in fed.whole) (drop fed.used piece ∷ left) new
-  refused : {messages : List (Side × List ℕ)} {left : List (List ℕ)} {reader new : RecordReading} (piece : List ℕ) (fault : RecordFault)
-      → FeedsRecords first pieces messages (piece ∷ left) reader → IsRecordCall reader piece (Err fault) new
-      → fault.cause ≡ cause.Memory → FeedsRecords first pieces messages (piece ∷ left) new
+-- what `RecordReader::feed` gives
+abbrev pub record_calls : Calls RecordReading FedRecord (Side × List ℕ)
+record_calls = record {
+  used = λ fed. fed.used;
+  given = λ fed. message_in fed.whole;
+  Took = λ old piece fed new. IsRecordCall old piece (Ok fed) new;
+  Refused = λ old piece new. (fault : RecordFault) × IsRecordCall old piece (Err fault) new × (fault.cause ≡ cause.Memory);
+}
+
+-- Calls of `RecordReader::feed`, from the first reader on and over these pieces, have given these
+-- messages so far.
+abbrev pub FeedsRecords : RecordReading → List (List ℕ) → List (Side × List ℕ) → List (List ℕ) → RecordReading → Type 0
+FeedsRecords = Feeds record_calls
 
 -- What the contract of one call of `TraceReader::feed` says of the reader before it and after it.
 pub record IsTraceCall (old : TraceReading) (input : List ℕ) (result : Result FedTrace TraceFault) (new : TraceReading) : Type 0 where
@@ -56,15 +58,19 @@ abbrev pub run_in : Option TracePart → List Run
 run_in None = []
 run_in (Some part) = record { piece = part.piece; side = part.side; bytes = part.bytes.now } ∷ []
 
--- Calls of `TraceReader::feed`, from the first reader on and over these inputs in order, have given
--- these runs so far; these inputs are left, and the reader is now this one.
-pub data FeedsTrace (first : TraceReading) (inputs : List (List ℕ)) : List Run → List (List ℕ) → TraceReading → Type 0 where
-  begun : FeedsTrace first inputs [] inputs first
-  next_input : {runs : List Run} {left : List (List ℕ)} {reader : TraceReading}
-      → FeedsTrace first inputs runs ([] ∷ left) reader → FeedsTrace first inputs runs left reader
-  fed_on : {runs : List Run} {left : List (List ℕ)} {reader new : TraceReading} (input : List ℕ) (fed : FedTrace)
-      → FeedsTrace first inputs runs (input ∷ left) reader → IsTraceCall reader input (Ok fed) new
-      → FeedsTrace first inputs (runs ++ run_in fed.part) (drop fed.used input ∷ left) new
+-- what `TraceReader::feed` gives; it asks for no memory
+abbrev pub trace_calls : Calls TraceReading FedTrace Run
+trace_calls = record {
+  used = λ fed. fed.used;
+  given = λ fed. run_in fed.part;
+  Took = λ old input fed new. IsTraceCall old input (Ok fed) new;
+  Refused = λ old input new. ⊥;
+}
+
+-- Calls of `TraceReader::feed`, from the first reader on and over these inputs, have given these runs
+-- so far.
+abbrev pub FeedsTrace : TraceReading → List (List ℕ) → List Run → List (List ℕ) → TraceReading → Type 0
+FeedsTrace = Feeds trace_calls
 
 -- What the contract of one call of `Recorder::piece` says of the recorder before it and after it.
 pub record IsPieceCall (old : RecorderReading) (side : Side) (piece : List ℕ) (result : Result ℕ RecorderFault) (new : RecorderReading) : Type 0 where

@@ -11,13 +11,14 @@ use Rattle.dap_recording.specs.declared.record_fault.RecordCause.{RecordCause}
 use Rattle.dap_recording.specs.declared.record_fault.RecordCause.TheVariants.{Frame, Memory}
 use Rattle.dap_recording.specs.declared.record_fault.RecordFault.{RecordFault}
 use Rattle.dap_recording.specs.declared.trace_fault.TraceCause.{TraceCause}
+use Rattle.dap_recording.specs.declared.trace_fault.TraceFault.{TraceFault}
 use Rattle.dap_recording.specs.Recording.{IsRecord, HasRecord, IsRecording, RecordStream, ShowsFault, IsOpenRecord, record_text, recording_text}
 use Rattle.dap_recording.specs.RecordReading.{RecordReading, StandsFor, HasFailedAt, number_behind, record_limits}
-use Rattle.dap_recording.specs.Trace.{IsPiece, HasPiece, ShowsTraceFault, IsOpenPiece}
-use Rattle.dap_recording.specs.TraceReading.{TraceReading, StandsForPiece}
+use Rattle.dap_recording.specs.Trace.{IsPiece, HasPiece, PieceStream, ShowsTraceFault, IsOpenPiece}
+use Rattle.dap_recording.specs.TraceReading.{TraceReading, StandsForPiece, HasFailedAtPiece}
 use Rattle.dap_recording.specs.RecorderReading.{RecorderReading, StandsForRests}
-use Rattle.dap_recording.specs.Recorded.{AreRecorded, RecordedSoFar}
-use Rattle.dap_recording.specs.Feeding.{IsRecordCall, FeedsRecords, Records, Run, FeedsTrace}
+use Rattle.dap_recording.specs.RecordedTraces.{AreRecorded, RecordedSoFar}
+use Rattle.dap_recording.specs.Feeding.{IsRecordCall, FeedsRecords, Records, Run, IsTraceCall, FeedsTrace}
 use Rattle.dap_recording.specs.Runs.{ReadSoFar}
 
 -- Bytes begin with at most one record.
@@ -206,6 +207,23 @@ AnyTracePieces = (first last : RecorderReading) (pieces left : List (Side × Lis
 abbrev pub AnyTraceInputs : Type 0
 AnyTraceInputs = (first last : TraceReading) (inputs left : List (List ℕ)) (runs : List Run)
     → StandsForPiece first 1 [] [] → FeedsTrace first inputs runs left last → ReadSoFar last inputs left runs
+
+-- Whatever the inputs: where a call tells a fault, the joined inputs are some pieces and a rest that
+-- shows the fault, and it has the number of the next piece.
+abbrev pub FaultInAnyTraceInputs : Type 0
+FaultInAnyTraceInputs = (first last new : TraceReading) (input : List ℕ) (inputs left : List (List ℕ)) (runs : List Run) (fault : TraceFault)
+    → StandsForPiece first 1 [] [] → FeedsTrace first inputs runs (input ∷ left) last → IsTraceCall last input (Err fault) new
+    → (pieces : List (Side × List ℕ)) × (rest : List ℕ) × (i : ℕ) × PieceStream (concat inputs) pieces rest
+    × ShowsTraceFault rest fault.cause i × (fault.piece ≡ number_behind pieces) × HasFailedAtPiece new fault
+
+-- All bytes are some pieces, and a rest with no piece at its front.
+abbrev pub SomePieceStream : Type 0
+SomePieceStream = (bytes : List ℕ) → (pieces : List (Side × List ℕ)) × (rest : List ℕ) × PieceStream bytes pieces rest
+
+-- They are so in one way.
+abbrev pub OnePieceStream : Type 0
+OnePieceStream = (bytes : List ℕ) (ps qs : List (Side × List ℕ)) (r s : List ℕ)
+    → PieceStream bytes ps r → PieceStream bytes qs s → (ps ≡ qs) × (r ≡ s)
 
 -- The bytes of a trace are recorded in at most one way.
 abbrev pub OneRecorded : Type 0

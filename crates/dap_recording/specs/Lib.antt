@@ -7,7 +7,7 @@ pub mod TraceReading
 pub mod OneSide
 pub mod RecorderReading
 pub mod Recorder
-pub mod Recorded
+pub mod RecordedTraces
 pub mod Feeding
 pub mod Runs
 pub mod Laws

@@ -1,5 +1,7 @@
 -- The bytes that stand for the two sides. A byte is its number: 62 is `>`, 60 is `<`.
-use Rattle.std.specs.Prelude.{◌≢◌, ℕ}
+use Rattle.std.specs.Prelude.{◌≡◌, ◌≢◌, ℕ, Result, Ok, Err}
+use Rattle.dap_items.specs.Items.{Items}
+use Rattle.dap_items.specs.Then.{a_byte}
 use Rattle.dap_tree.specs.declared.side.Side.{Side}
 use Rattle.dap_tree.specs.declared.side.Side.TheVariants.{Client, Adapter}
 
@@ -11,3 +13,12 @@ marker Adapter = 60
 -- The byte is the marker of no side.
 abbrev pub IsNoMarker : ℕ → Type 0
 IsNoMarker byte = (byte ≢ 62) × (byte ≢ 60)
+
+-- what a byte says of a side: it is its marker, or shows this fault
+abbrev pub SaysSide : {F : Type 0} → F → ℕ → Result Side F → Type 0
+SaysSide bad byte (Ok side) = byte ≡ marker side
+SaysSide bad byte (Err fault) = IsNoMarker byte × (fault ≡ bad)
+
+-- markers as items
+abbrev pub markers : {F : Type 0} → F → Items Side F
+markers bad = a_byte (SaysSide bad)

@@ -1,12 +1,14 @@
 -- Traces, and what the bytes of one hold. The format is this project's own.
-use Rattle.std.specs.Prelude.{◌≡◌, ◌≢◌, ℕ, ◌+◌, ◌<◌, ◌≤◌, ◌⊎◌, true, List, [], ◌∷◌, ◌++◌, length, slice_index}
+use Rattle.std.specs.Prelude.{◌≡◌, ◌≢◌, ℕ, ◌<◌, ◌≤◌, ◌⊎◌, true, List, [], ◌∷◌, ◌++◌, length, slice_index, Result, Ok, Err}
 use Rattle.std.specs.List.{list_all}
 use Rattle.std.specs.Char.{is_ascii_digit}
+use Rattle.dap_items.specs.Items.{Items, IsItem, AreItems, HasItem, IsStream, Shows}
+use Rattle.dap_items.specs.Then.{and_then, until, so_many}
 use Rattle.dap_frame.specs.Lines.{number_of}
 use Rattle.dap_tree.specs.declared.side.Side.{Side}
 use Rattle.dap_recording.specs.declared.trace_fault.TraceCause.{TraceCause}
 use Rattle.dap_recording.specs.declared.trace_fault.TraceCause.TheVariants.{BadMarker, BadCount}
-use Rattle.dap_recording.specs.Marker.{marker, IsNoMarker}
+use Rattle.dap_recording.specs.Marker.{markers}
 
 -- The text is a count (own): 1 to 10 decimal digits, without leading zeros but for a lone 0.
 pub record IsCount (text : List ℕ) : Type 0 where
@@ -15,48 +17,51 @@ pub record IsCount (text : List ℕ) : Type 0 where
   pub digits : list_all is_ascii_digit text ≡ true
   pub plain : (length text ≡ 1) ⊎ (slice_index text 0 ≢ 48)
 
--- The bytes are one piece of this side with these raw bytes (own): the marker, how many the raw bytes
--- are, LF, the raw bytes.
-pub record IsPiece (bytes : List ℕ) (side : Side) (raw : List ℕ) : Type 0 where
-  pub count : List ℕ
-  pub is_count : IsCount count
-  pub says : number_of count ≡ length raw
-  pub bytes_are : bytes ≡ (marker side ∷ count) ++ 10 ∷ raw
+-- The text is a front of a count.
+abbrev pub IsCountFront : List ℕ → Type 0
+IsCountFront text = (text ≡ []) ⊎ IsCount text
 
--- The bytes are these pieces, in order (own).
-abbrev pub IsTrace : List ℕ → List (Side × List ℕ) → Type 0
-IsTrace bytes [] = bytes ≡ []
-IsTrace bytes (piece ∷ pieces) =
-    (first : List ℕ) × (more : List ℕ) × IsPiece first piece.0 piece.1 × (bytes ≡ first ++ more) × IsTrace more pieces
+-- The byte behind these digits is neither the next digit of a count nor its LF (own).
+pub record IsBadAt (text : List ℕ) (byte : ℕ) : Type 0 where
+  pub begun : IsCountFront text
+  pub no_end : byte ≡ 10 → text ≡ []
+  pub no_count : IsCount (text ++ byte ∷ []) → ⊥
 
--- Some front of the bytes is a piece.
-pub record HasPiece (bytes : List ℕ) : Type 0 where
-  pub front : List ℕ
-  pub more : List ℕ
-  pub side : Side
-  pub raw : List ℕ
-  pub bytes_are : bytes ≡ front ++ more
-  pub is_piece : IsPiece front side raw
+-- what the byte behind the digits of a count says (own): it is LF, and they are this number, or it shows a fault
+abbrev pub EndsCount : List ℕ → ℕ → Result ℕ TraceCause → Type 0
+EndsCount text byte (Ok number) = (byte ≡ 10) × IsCount text × (number ≡ number_of text)
+EndsCount text byte (Err cause) = IsBadAt text byte × (cause ≡ BadCount)
 
--- The bytes are these pieces, in order, and then the rest, no front of which is a piece (own).
-pub record PieceStream (bytes : List ℕ) (pieces : List (Side × List ℕ)) (rest : List ℕ) : Type 0 where
-  pub front : List ℕ
-  pub trace : IsTrace front pieces
-  pub whole : bytes ≡ front ++ rest
-  pub no_piece : HasPiece rest → ⊥
+-- the lines of counts as items
+abbrev pub counts : Items ℕ TraceCause
+counts = until IsCountFront EndsCount
 
--- The bytes behind whole pieces show a fault at their byte i (own): the first is no marker; or a byte
--- behind the marker is neither the next digit of a count nor its LF.
-pub data ShowsTraceFault (bytes : List ℕ) : TraceCause → ℕ → Type 0 where
-  at_marker : (byte : ℕ) (more : List ℕ) → bytes ≡ byte ∷ more → IsNoMarker byte → ShowsTraceFault bytes BadMarker 1
-  at_count : (side : Side) (text : List ℕ) (byte : ℕ) (more : List ℕ) {i : ℕ} → bytes ≡ (marker side ∷ text) ++ byte ∷ more
-      → (text ≡ []) ⊎ IsCount text → (byte ≡ 10 → text ≡ []) → (IsCount (text ++ byte ∷ []) → ⊥)
-      → i ≡ length text + 2 → ShowsTraceFault bytes BadCount i
+-- a count's line and so many raw bytes of this side
+abbrev pub counted : Side → Items (Side × List ℕ) TraceCause
+counted side = and_then counts (so_many (λ raw. (side, raw))) (λ cause. cause)
+
+-- pieces as the items of a trace (own): a marker, how many the raw bytes are, LF, the raw bytes
+abbrev pub pieces_of : Items (Side × List ℕ) TraceCause
+pieces_of = and_then (markers BadMarker) counted (λ cause. cause)
+
+-- The bytes are one piece of this side with these raw bytes.
+abbrev pub IsPiece : List ℕ → Side → List ℕ → Type 0
+IsPiece bytes side raw = IsItem pieces_of bytes (side, raw)
 
 -- The bytes behind whole pieces may still become a piece (own): none has come, or a front of its
 -- count, or less than its raw bytes.
-pub data IsOpenPiece (bytes : List ℕ) : Type 0 where
-  before_marker : bytes ≡ [] → IsOpenPiece bytes
-  in_count : (side : Side) (text : List ℕ) → bytes ≡ marker side ∷ text → (text ≡ []) ⊎ IsCount text → IsOpenPiece bytes
-  in_raw : (side : Side) (text raw : List ℕ) → bytes ≡ (marker side ∷ text) ++ 10 ∷ raw → IsCount text
-      → length raw < number_of text → IsOpenPiece bytes
+abbrev pub IsOpenPiece : List ℕ → Type 0
+IsOpenPiece = pieces_of.IsOpen
+
+-- the words of items, of pieces
+abbrev pub IsTrace : List ℕ → List (Side × List ℕ) → Type 0
+IsTrace = AreItems pieces_of
+
+abbrev pub HasPiece : List ℕ → Type 0
+HasPiece = HasItem pieces_of
+
+abbrev pub PieceStream : List ℕ → List (Side × List ℕ) → List ℕ → Type 0
+PieceStream = IsStream pieces_of
+
+abbrev pub ShowsTraceFault : List ℕ → TraceCause → ℕ → Type 0
+ShowsTraceFault = Shows pieces_of

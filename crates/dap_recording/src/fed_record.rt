@@ -1,3 +1,4 @@
+//! What a reader of records takes of a piece.
 use crate::record::Record;
 
 /// What a call of `RecordReader::feed` took of its piece.

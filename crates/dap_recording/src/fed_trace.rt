@@ -1,3 +1,4 @@
+//! What a reader of traces takes of an input.
 use dap_tree::Side;
 
 /// A run of the raw bytes of one piece, as they lie in the input.

@@ -1,7 +1,7 @@
 //! Theorems on recordings and traces, which hold of all bytes, and on the readers and the recorder,
 //! which hold of all pieces. Each function does nothing: a call of it gives its clauses to a proof.
 
-ghost use Rattle.dap_recording.specs.Laws.{OneRecord, NoEmptyRecord, OneCause, ShownWithin, ShownOfFormat, ShownMore, ShownFront, ShownLater, RecordNotFaulty, RecordNotOpen, OpenNotFaulty, SomeOutcome, OpenNone, WrittenIsRecord, WrittenIsRecording, EmptyRecording, OneRecording, SomeRecordStream, OneRecordStream, StandsOpen, AnyRecordPieces, FaultInAnyRecordPieces, OnePiece, NoEmptyPiece, OneTraceCause, TraceShownWithin, TraceShownMore, TraceShownFront, TraceShownLater, PieceNotFaulty, PieceNotOpen, OpenPieceNotFaulty, SomeTraceOutcome, StandsOpenPiece, OneRecorded, AnyTracePieces, AnyTraceInputs};
+ghost use Rattle.dap_recording.specs.Laws.{OneRecord, NoEmptyRecord, OneCause, ShownWithin, ShownOfFormat, ShownMore, ShownFront, ShownLater, RecordNotFaulty, RecordNotOpen, OpenNotFaulty, SomeOutcome, OpenNone, WrittenIsRecord, WrittenIsRecording, EmptyRecording, OneRecording, SomeRecordStream, OneRecordStream, StandsOpen, AnyRecordPieces, FaultInAnyRecordPieces, OnePiece, NoEmptyPiece, OneTraceCause, TraceShownWithin, TraceShownMore, TraceShownFront, TraceShownLater, PieceNotFaulty, PieceNotOpen, OpenPieceNotFaulty, SomeTraceOutcome, StandsOpenPiece, OneRecorded, AnyTracePieces, AnyTraceInputs, FaultInAnyTraceInputs, SomePieceStream, OnePieceStream};
 
 /// Bytes begin with at most one record, and no record is empty.
 pub fn one_record()
@@ -95,7 +95,14 @@ pub fn any_trace_pieces()
 {}
 
 /// Whatever the inputs, the runs that calls of `TraceReader::feed` give, joined piece by piece, are
-/// the pieces of the joined inputs.
+/// the pieces of the joined inputs, up to their end or to their fault.
 pub fn any_trace_inputs()
-    ensures { AnyTraceInputs }
+    ensures runs { AnyTraceInputs }
+    ensures fault { FaultInAnyTraceInputs }
+{}
+
+/// Bytes are just one list of pieces, and just one rest no front of which is a piece.
+pub fn one_piece_stream()
+    ensures some { SomePieceStream }
+    ensures one { OnePieceStream }
 {}

@@ -8,7 +8,7 @@
 //!
 //! A trace is what went over the wire, cut anywhere: a list of pieces, each the marker of its side,
 //! the number of its bytes, LF, and the bytes. A [`TraceReader`] reads it (`specs/Trace.antt`), and
-//! a [`Recorder`] makes a recording of the frames in its pieces (`specs/Recorded.antt`).
+//! a [`Recorder`] makes a recording of the frames in its pieces (`specs/RecordedTraces.antt`).
 //!
 //! [`laws`] has the theorems on these definitions.
 #![tactic(auto)]
@@ -25,8 +25,6 @@ mod record_reader;
 mod record_state;
 mod recorder;
 mod recorder_fault;
-#[cfg(test)]
-mod tests;
 mod trace_fault;
 mod trace_reader;
 mod trace_state;

@@ -1,3 +1,4 @@
+//! The bytes `>` and `<` that stand for the two sides.
 ghost use Rattle.std.specs.Prelude.{◌≡◌, MatchOption};
 ghost use Rattle.dap_recording.specs.Marker.{marker, IsNoMarker};
 

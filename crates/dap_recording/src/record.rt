@@ -1,3 +1,4 @@
+//! Records: a side and a content.
 use dap_frame::Content;
 use dap_tree::Side;
 

@@ -1,3 +1,4 @@
+//! Why a record is not read.
 use dap_frame::FrameFault;
 use thiserror::Error;
 

@@ -1,3 +1,4 @@
+//! Records read from the pieces of a recording.
 ghost use Rattle.std.specs.Prelude.{◌≡◌, ◌≢◌, ℕ, ◌<◌, ◌≤◌, ◌↔◌, List, [], ◌∷◌, ◌++◌, length, take, Err, IfErr, IfOk, IsOk};
 ghost use Rattle.dap_frame.specs.Limits.{IsSound};
 ghost use Rattle.dap_frame.specs.Frame.{IsFrame};

@@ -1,3 +1,4 @@
+//! What a reader of records is at.
 use crate::record::Record;
 use crate::record_fault::RecordCause;
 use dap_tree::Side;

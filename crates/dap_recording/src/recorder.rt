@@ -1,3 +1,4 @@
+//! A recording made of the pieces of a trace.
 ghost use Rattle.std.specs.Prelude.{◌≡◌, ◌≢◌, ℕ, ◌<◌, ◌≤◌, ◌↔◌, List, [], length, Err, IfOk, IsOk, IsErrOf, OnErr};
 ghost use Rattle.dap_frame.specs.Limits.{IsSound};
 ghost use Rattle.dap_recording.specs.RecorderReading.{StandsForRests, HasFailedWith, GivesPiece, text_of, recorder_limits};

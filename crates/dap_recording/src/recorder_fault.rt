@@ -1,3 +1,4 @@
+//! Why a recorder goes no further.
 use dap_frame::FrameFault;
 use dap_tree::Side;
 use thiserror::Error;

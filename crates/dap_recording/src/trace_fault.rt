@@ -1,3 +1,4 @@
+//! Why a piece of a trace is not read.
 use thiserror::Error;
 
 /// Why a piece of a trace is not read.

@@ -1,3 +1,4 @@
+//! Pieces read from a trace.
 ghost use Rattle.std.specs.Prelude.{◌≡◌, ◌≢◌, ℕ, ◌+◌, ◌<◌, ◌≤◌, ◌↔◌, List, [], ◌∷◌, ◌++◌, length, take, Err, IfErr, IfOk, IsOk};
 ghost use Rattle.dap_frame.specs.Lines.{number_of};
 ghost use Rattle.dap_recording.specs.Marker.{marker};

@@ -1,3 +1,4 @@
+//! What a reader of traces is at.
 use crate::count::Count;
 use crate::trace_fault::TraceCause;
 use dap_tree::Side;

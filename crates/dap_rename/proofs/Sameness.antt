@@ -14,11 +14,11 @@ use Rattle.dap_rename.specs.Renamings.{IsIn, IsRenaming, AreRelated, pairs}
 use Rattle.dap_rename.specs.Messages.{Class, IsProperId, class_after, occurrence, occurrences, message_skeleton, same_class, sort_number, AreSame, IsNormal, Carries, in_whole, whole_classes}
 use Rattle.dap_rename.specs.Laws.{SameAsItself, SameBothWays, SameAlong, SameIsProper, SameFronts, FreshIsUnique, NormalIsUnique, NormalIsComplete, NamedIsNormal, NormalIsItsOwn, EqualPlacesRename, EqualPlacesCarry}
 use Rattle.dap_rename.proofs.Additions.{by_bool}
-use Rattle.dap_rename.proofs.Naming.{IsCounted, named-fresh, fresh_named}
+use Rattle.dap_rename.proofs.FreshLists.{IsCounted, named-fresh, fresh_named}
 use Rattle.dap_rename.proofs.Lists.{front_told, each-append, each-more}
-use Rattle.dap_rename.proofs.Related.{Tied, named-related, Distinct}
-use Rattle.dap_rename.proofs.Pairing.{pairs_renaming, related_by_pairs}
-use Rattle.dap_rename.proofs.Occurring.{class_decides, occurrences_alike, occurrences-append, messages_told, seconds, seconds-occurrences, proper_occurrences, proper_messages}
+use Rattle.dap_rename.proofs.RelatedLists.{Tied, named-related, Distinct}
+use Rattle.dap_rename.proofs.RenamingBetween.{pairs_renaming, related_by_pairs}
+use Rattle.dap_rename.proofs.Occurrences.{class_decides, occurrences_alike, occurrences-append, messages_told, seconds, seconds-occurrences, proper_occurrences, proper_messages}
 
 -- ---- the classes of a list
 

@@ -1,3 +1,4 @@
+//! A table of names with an index by hash.
 ghost use Rattle.std.specs.Prelude.{◌≡◌, suc, ◌<◌, ◌≤◌, ◌^◌, pos, true, false, [], length, MatchOption};
 ghost use Rattle.dap_rename.specs.Table.{has, place, AllDiffer};
 

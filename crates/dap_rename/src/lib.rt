@@ -7,8 +7,6 @@
 
 mod carries;
 mod index_names;
-#[cfg(test)]
-mod index_names_tests;
 pub mod laws;
 mod name_table;
 mod names;
@@ -16,8 +14,6 @@ mod pair;
 mod plain_names;
 mod renaming;
 mod tables;
-#[cfg(test)]
-mod tests;
 
 pub use index_names::IndexNames;
 pub use name_table::{NameFault, NameTable};

@@ -1,3 +1,4 @@
+//! What a table of names is.
 ghost use Rattle.std.specs.Prelude.{◌≡◌, ℕ, suc, ◌<◌, ◌≤◌, ◌^◌, ℤ, pos, ◌≤ℤ◌, ◌↔◌, true, false, List, length, take, slice_index_or, MatchOption, IfOk, OnErr, OnOk, IsOk};
 ghost use Rattle.dap_rename.specs.Numbering.{add};
 ghost use Rattle.dap_rename.specs.Table.{has, place, AllDiffer};

@@ -1,3 +1,4 @@
+//! The names of the ids of messages, in the order in which they come.
 ghost use Rattle.std.specs.Prelude.{◌≡◌, List, [], ◌∷◌, ◌++◌, length, Err, IfOk, OnOk, OnErr};
 ghost use Rattle.dap_message.specs.Message.{Sent, sent};
 ghost use Rattle.dap_rename.specs.Messages.{HasFewIds, HasTooManyIds, IsRenamed, in_whole};

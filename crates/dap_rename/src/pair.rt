@@ -1,3 +1,4 @@
+//! The pairs of a renaming, and why pairs are none.
 use dap_tree::Sort;
 use thiserror::Error;
 

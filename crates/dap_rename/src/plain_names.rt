@@ -1,3 +1,4 @@
+//! A table of names as a list.
 ghost use Rattle.std.specs.Prelude.{◌≡◌, suc, ◌<◌, ◌≤◌, ◌^◌, pos, true, false, [], length, MatchOption};
 ghost use Rattle.std.specs.List.{position};
 ghost use Rattle.std.specs.Ordering.{int_eq};

@@ -1,3 +1,4 @@
+//! Renamings: made of pairs or between two tables, and asked whether they carry messages.
 ghost use Rattle.std.specs.Prelude.{◌≡◌, ◌++◌, ◌↔◌, List, length, map, IsTrue, MatchOption, IfOk, IfErr, OnOk};
 ghost use Rattle.dap_message.specs.Message.{Sent, sent};
 ghost use Rattle.dap_rename.specs.Messages.{IsProperId, Carries, equal_places, in_whole};

@@ -7,7 +7,7 @@ use Rattle.std.specs.Prelude.{◌≡◌, ◌⊎◌, ◌↔◌, ℤ, List, [], �
 use Rattle.std.specs.Bool.{Decides}
 use Rattle.dap_message.specs.Message.{Sent, IsTyped}
 use Rattle.dap_session.specs.Positions.{BreaksAt, BreaksNone, BreaksFirst}
-use Rattle.dap_session.specs.Renamed.{IsNumbered, AreRenamed, IsOneToOne}
+use Rattle.dap_session.specs.RenamedLists.{IsNumbered, AreRenamed, IsOneToOne}
 use Rattle.dap_session.specs.Rules.{is_broken, first_broken, KeepsRules, open_requests}
 use Rattle.dap_session.specs.declared.rule.Rule.{Rule}
 

@@ -1,11 +1,11 @@
 pub mod Messages
 pub mod Rules
 pub mod Positions
-pub mod Renamed
+pub mod RenamedLists
 pub mod Laws
 pub mod Kept
-pub mod Judged
+pub mod KeptRules
 pub mod Standing
 pub mod View
-pub mod Noting
+pub mod RequestSteps
 pub mod SessionView

@@ -11,10 +11,6 @@ mod phase;
 mod requests;
 mod rule;
 mod session;
-#[cfg(test)]
-mod test_lines;
-#[cfg(test)]
-mod tests;
 
 pub use rule::{Rule, SessionFault};
 pub use session::Session;

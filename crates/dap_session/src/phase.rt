@@ -1,6 +1,7 @@
+//! How far the client's `initialize` request has come.
 ghost use Rattle.std.specs.Prelude.{◌≡◌};
 ghost use Rattle.dap_message.specs.Message.{sent};
-ghost use Rattle.dap_session.specs.Judged as tells;
+ghost use Rattle.dap_session.specs.KeptRules as tells;
 ghost use Rattle.dap_session.specs.Kept as kept;
 
 use crate::message::{is_client_initialize, is_from, is_response, request_seq_of, seq_of};

@@ -2,7 +2,7 @@
 ghost use Rattle.std.specs.Prelude.{◌≡◌, ℤ, [], OnOk, OnErr, option_map, false, true, None, Some, IfOk, IsOk, ◌&&◌};
 ghost use Rattle.dap_message.specs.Message.{sent};
 ghost use Rattle.dap_session.specs.Kept.{found, unanswered, with_request, with_answer, requests_after};
-ghost use Rattle.dap_session.specs.Noting.{MayFollow, adds_to};
+ghost use Rattle.dap_session.specs.RequestSteps.{MayFollow, adds_to};
 
 use crate::message::{is_from, is_request, is_response, name_of, request_seq_of, seq_of};
 use dap_message::{Message, Side};

@@ -1,3 +1,4 @@
+//! The rules of a session.
 use thiserror::Error;
 
 /// What a message may break, in the order in which it is told: of several the first is named.

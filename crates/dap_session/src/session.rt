@@ -1,9 +1,10 @@
+//! A session as its messages come: each is taken or breaks a rule.
 ghost use Rattle.std.specs.Prelude.{◌≡◌, ℕ, [], List, Some, None, option_map, OnOk, OnErr, true, false, IsErrOf};
 ghost use Rattle.dap_message.specs.Message.{Sent, sent};
 ghost use Rattle.dap_session.specs.Messages.{is_request};
 ghost use Rattle.dap_session.specs.Rules.{open_requests};
 ghost use Rattle.dap_session.specs.Kept.{requests_of, kept_after};
-ghost use Rattle.dap_session.specs.Judged.{judged, tells, asked_for};
+ghost use Rattle.dap_session.specs.KeptRules.{judged, tells, asked_for};
 ghost use Rattle.dap_session.specs.Standing.{Stands, Says};
 
 use crate::message::{
@@ -106,7 +107,7 @@ impl Session {
         }
     }
 
-    #[tactic(auto, unfolding(crate::specs::Judged::tells))]
+    #[tactic(auto, unfolding(crate::specs::KeptRules::tells))]
     fn breaks(&self, rule: Rule, message: &Message) -> bool
         ensures { result ≡ tells rule self.now (sent message.now) }
     {
@@ -144,7 +145,7 @@ impl Session {
     }
 
     /// The first rule that the message breaks.
-    #[tactic(auto, unfolding(crate::specs::Judged::judged))]
+    #[tactic(auto, unfolding(crate::specs::KeptRules::judged))]
     fn broken_by(&self, message: &Message) -> Option<Rule>
         ensures { result ≡ judged self.now (sent message.now) }
     {

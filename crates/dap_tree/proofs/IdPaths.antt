@@ -14,7 +14,7 @@ use Rattle.dap_tree.specs.Doc.{Doc, null, boolean, whole, text, list, object, id
 use Rattle.dap_tree.specs.Ids.{ids, items_ids, members_ids}
 use Rattle.dap_tree.specs.Path.{Step, name, place, step, get_item, at, StandsBefore, IsBefore, AreIdPaths}
 use Rattle.dap_tree.proofs.Booleans.{and_left, and_right}
-use Rattle.dap_tree.proofs.Orderings.{less}
+use Rattle.dap_tree.proofs.Comparisons.{less}
 use Rattle.dap_tree.proofs.Paths.{skips}
 
 abbrev Path : Type 0

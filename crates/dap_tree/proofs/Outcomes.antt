@@ -19,7 +19,7 @@ use Rattle.dap_tree.specs.declared.fault.TreeFault.TheVariants.{Json, Fraction, 
 use Rattle.dap_tree.proofs.Booleans.{and_left, and_right, and_both, or_left, or_right, or_both}
 use Rattle.dap_tree.proofs.Depths.{depth_data}
 use Rattle.dap_tree.proofs.Numbers.{is_kept, all_kept, items_kept, members_kept, kept_read}
-use Rattle.dap_tree.proofs.Without.{without_no_id}
+use Rattle.dap_tree.proofs.WithoutIds.{without_no_id}
 use Rattle.dap_tree.proofs.Writing.{no_float}
 
 -- ---- the document of a value that has no float

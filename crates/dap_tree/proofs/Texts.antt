@@ -24,10 +24,10 @@ use Rattle.serde_json.proofs.Texts.{print-outline}
 use Rattle.dap_tree.specs.Doc.{Doc, null, boolean, whole, text, list, object, id, Items, no_items, item, Members, no_members, member, in_range, all_in_range, items_in_range, members_in_range, is_sound, depth, is_below_all, is_ordered, items_ordered, members_ordered, all_utf8, items_utf8, members_utf8}
 use Rattle.dap_tree.specs.Ids.{without_ids, ids_in_range, items_ids_in_range, members_ids_in_range}
 use Rattle.dap_tree.specs.Json.{data_of, items_data, members_data, text_of, IsRead}
-use Rattle.dap_tree.specs.Written.{json_of, items_json, members_json, WritesDoc}
+use Rattle.dap_tree.specs.WrittenTokens.{json_of, items_json, members_json, WritesDoc}
 use Rattle.dap_tree.proofs.Booleans.{and_left, and_right}
-use Rattle.dap_tree.proofs.Orderings.{less}
-use Rattle.dap_tree.proofs.Without.{data-without, no_id_without}
+use Rattle.dap_tree.proofs.Comparisons.{less}
+use Rattle.dap_tree.proofs.WithoutIds.{data-without, no_id_without}
 use Rattle.dap_tree.proofs.Writing.{depth_from_sound, tokens_read_back}
 
 -- ---- numbers

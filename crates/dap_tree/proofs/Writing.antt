@@ -11,7 +11,7 @@ use Rattle.json.specs.Json as grammar
 use Rattle.json.specs.Lex.{tokens}
 use Rattle.json.specs.Print.{print}
 use Rattle.json.specs.Tree as tree
-use Rattle.json.specs.Tree.{json_tokens, members_tokens}
+use Rattle.json.specs.Tree.{json_tokens}
 use Rattle.json.proofs.Printed.Trees.{value-json_tokens}
 use Rattle.serde_json.specs.Data as json
 use Rattle.serde_json.specs.Find.{of_integer, is_float}
@@ -22,9 +22,9 @@ use Rattle.serde_json.proofs.Texts.{print-outline}
 use Rattle.dap_tree.specs.Doc.{Doc, null, boolean, whole, text, list, object, id, Items, no_items, item, Members, no_members, member, depth, items_depth, members_depth, in_range, all_in_range, is_sound}
 use Rattle.dap_tree.specs.Json.{data_of, items_data, members_data}
 use Rattle.dap_tree.specs.View.{view, members_view}
-use Rattle.dap_tree.specs.Written.{json_of, items_json, members_json, WritesDoc}
+use Rattle.dap_tree.specs.WrittenTokens.{json_of, items_json, members_json, WritesDoc}
 use Rattle.dap_tree.proofs.Booleans.{and_left}
-use Rattle.dap_tree.proofs.Reading.{members_data-put}
+use Rattle.dap_tree.proofs.ReadTrees.{members_data-put}
 use Rattle.dap_tree.proofs.Views.{Entry, put_last}
 
 -- ---- what a document has

@@ -5,6 +5,6 @@ pub mod Ids
 pub mod Path
 pub mod Json
 pub mod Laws
-pub mod Lent
-pub mod Written
+pub mod LentChildren
+pub mod WrittenTokens
 pub mod Rows

@@ -1,3 +1,4 @@
+//! Copies of trees, with memory of their own.
 ghost use Rattle.std.specs.Prelude.{◌≡◌, IfOk, IfErr};
 ghost use Rattle.dap_tree.specs.View.{view, items_view, members_view};
 ghost use Rattle.dap_tree.specs.declared.fault.TreeFault.{TreeFault};

@@ -1,3 +1,4 @@
+//! Why a tree is not read or written.
 ghost use Rattle.std.specs.Prelude.{◌≡◌};
 
 use std::alloc::{AllocError, AllocFailed};

@@ -11,8 +11,6 @@ mod read;
 mod side;
 mod sort;
 mod sound;
-#[cfg(test)]
-mod tests;
 mod tree;
 mod write;
 

@@ -1,3 +1,4 @@
+//! A tree read from the JSON of a content.
 ghost use Rattle.std.specs.Prelude.{◌≡◌, true, IfOk, IfErr, MatchResult};
 ghost use Rattle.serde_json.specs.Data.{number as json_number};
 ghost use Rattle.serde_json.specs.View.{number_view, view as value_view, items_view as values_view, members_view as pairs_view};

@@ -1,3 +1,4 @@
+//! The two sides of a session.
 use std::fmt;
 
 /// The two sides of a session: each sends messages to the other.

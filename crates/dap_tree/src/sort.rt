@@ -1,3 +1,4 @@
+//! The sorts of ids.
 /// What a number stands for that one side hands out and messages name again.
 ///
 /// Ids of different sorts have nothing to do with each other, even where their numbers are equal.

@@ -1,3 +1,4 @@
+//! JSON values with whole numbers and marked ids.
 use crate::Sort;
 use std::collections::BTreeMap;
 

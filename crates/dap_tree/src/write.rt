@@ -1,8 +1,9 @@
+//! A tree written as compact JSON.
 ghost use Rattle.std.specs.Prelude.{◌≡◌, true, IfOk, IfErr, OnOk, string_bytes};
 ghost use Rattle.dap_tree.specs.Doc.{whole, in_range, all_in_range, items_in_range, members_in_range, is_sound};
 ghost use Rattle.dap_tree.specs.Ids.{without_ids};
 ghost use Rattle.dap_tree.specs.Json.{text_of, IsRead};
-ghost use Rattle.dap_tree.specs.Written.{WritesDoc, WritesItems, WritesMembers};
+ghost use Rattle.dap_tree.specs.WrittenTokens.{WritesDoc, WritesItems, WritesMembers};
 ghost use Rattle.dap_tree.specs.View.{view, items_view, members_view};
 ghost use Rattle.dap_tree.specs.declared.fault.TreeFault.{TreeFault};
 

@@ -13,7 +13,7 @@ use Rattle.clap.specs.declared.builder.value_parser.Reading.{Reading}
 use Rattle.clap.specs.declared.parser.matches.ValueSource.{ValueSource}
 use Rattle.clap.specs.declared.parser.matches.ValueSource.TheVariants.{CommandLine, DefaultValue}
 use Rattle.clap.proofs.WalkLemmas.{both}
-use Rattle.dapnorm.specs.CommandLine.{Told, comparer, file, is_set, job_named, job_of, names_job, program, two_files}
+use Rattle.dapnorm.specs.CommandLine.{Told, comparer, file, is_set, job_named, names_job, program, two_files}
 use Rattle.dapnorm.specs.CommandLine as line
 use Rattle.dapnorm.proofs.CommandWalk.{finished_keeps}
 

@@ -6,14 +6,14 @@ use Rattle.dap_tree.specs.declared.sort.Sort.{Sort}
 use Rattle.dap_tree.specs.declared.sort.Sort.TheVariants.{ClientSeq, AdapterSeq, Frame, Reference}
 use Rattle.dap_rename.specs.declared.pair.Pair.{Pair}
 use Rattle.dap_rename.specs.Renaming.{pairs_of}
-use Rattle.dapnorm.specs.declared.limits.Limits.{Limits}
-use Rattle.dapnorm.specs.declared.verdict.CompareRefused.{CompareRefused}
-use Rattle.dapnorm.specs.declared.verdict.CompareRefused.TheVariants.{Input, Memory}
-use Rattle.dapnorm.specs.declared.verdict.Verdict.{Verdict}
-use Rattle.dapnorm.specs.declared.verdict.Verdict.TheVariants.{Same, Differ}
+use Rattle.dap_input.specs.declared.limits.Limits.{Limits}
+use Rattle.dap_compare.specs.declared.verdict.CompareRefused.{CompareRefused}
+use Rattle.dap_compare.specs.declared.verdict.CompareRefused.TheVariants.{Input, Memory}
+use Rattle.dap_compare.specs.declared.verdict.Verdict.{Verdict}
+use Rattle.dap_compare.specs.declared.verdict.Verdict.TheVariants.{Same, Differ}
 use Rattle.dap_device.specs.Device.{AllWritten, FrontWritten}
 use Rattle.dapnorm.specs.Run.{status_of}
-use Rattle.dapnorm.specs.Verdicts.{Compares}
+use Rattle.dap_compare.specs.Verdicts.{Compares}
 
 -- how a sort is written
 abbrev pub sort_word : Sort → List ℕ

@@ -1,15 +1,16 @@
 -- What the program tells of a job. Source: own.
-use Rattle.std.specs.Prelude.{◌≡◌, ◌⊎◌, ℕ, Bool, List, Option, Result, Ok, Err, string_bytes}
-use Rattle.dapnorm.specs.declared.checked.Checked.{Checked}
+use Rattle.std.specs.Prelude.{◌≡◌, ◌⊎◌, ℕ, ◌++◌, Bool, List, Option, Result, Ok, Err, codes, decimal, string_bytes}
+use Rattle.dap_normal.specs.declared.checked.Checked.{Checked}
 use Rattle.dapnorm.specs.declared.jobs.UsageFault.{UsageFault}
 use Rattle.dapnorm.specs.declared.jobs.UsageFault.TheVariants as usage
-use Rattle.dapnorm.specs.declared.limits.Limits.{Limits}
-use Rattle.dapnorm.specs.declared.refused.Refused.{Refused}
-use Rattle.dapnorm.specs.declared.refused.Refused.TheVariants.{ReadFault, WriteFault, Memory}
-use Rattle.dapnorm.specs.Checking.{Checks, accepted_line}
+use Rattle.dap_input.specs.declared.limits.Limits.{Limits}
+use Rattle.dap_input.specs.declared.refused.Refused.{Refused}
+use Rattle.dap_input.specs.declared.refused.Refused.TheVariants.{ReadFault, WriteFault, Memory}
+use Rattle.dap_normal.specs.Checking.{Checks}
 use Rattle.dap_device.specs.Device.{AllWritten, FrontWritten}
-use Rattle.dapnorm.specs.Engine.{Answers}
-use Rattle.dapnorm.specs.Streaming.{Streams}
+use Rattle.dap_input.specs.Engine.{Answers}
+use Rattle.dap_normal.specs.Streaming.{Streams}
+use Rattle.dap_trace.specs.TracingRun.{RecordsTrace}
 
 -- the status of the program for an engine's answer: done, refused, a device that failed, want of memory
 abbrev pub status_of : {U : Type 0} → Result U Refused → ℕ
@@ -26,6 +27,18 @@ module _ {R W : Type 0} (left : R → Option (List ℕ)) (read_failures : R → 
     pub answer : Result (Unit {0}) Refused
     pub answers : Answers left read_failures out write_failures input Gives IsRefused old new before after answer
     pub status_is : status ≡ status_of answer
+
+-- The devices are as `record` leaves them with its answer, and the status is that of this answer.
+pub record TraceIsTold {R W : Type 0} (left : R → Option (List ℕ)) (read_failures : R → ℕ) (out : W → Option (List ℕ)) (write_failures : W → ℕ) (limits : Limits)
+    (old new : R) (before after : W) (status : ℕ) : Type 0 where
+  pub answer : Result (Unit {0}) Refused
+  pub records : RecordsTrace left read_failures out write_failures limits old new before after answer
+  pub status_is : status ≡ status_of answer
+
+-- the line that tells the numbers of an accepted recording
+abbrev pub accepted_line : Checked → List ℕ
+accepted_line checked =
+    codes "accepted records=" ++ decimal checked.records ++ codes " open=" ++ decimal checked.client_open ++ codes "," ++ decimal checked.adapter_open ++ codes "\n"
 
 -- An answer of `check` is printed: the line of an accepted recording goes out, or a front of it and the writer failed; of a
 -- refusal nothing goes out.

@@ -3,17 +3,15 @@ ghost use Rattle.std.specs.Prelude.{◌≡◌, ◌+◌, ◌<◌, ◌≤◌, ◌^
 ghost use Rattle.std.specs.List.{flat_map};
 ghost use Rattle.dapnorm.specs.ComparingRun.{CompareIsTold, first_line, pair_line, pairs_in, refusal_status, sort_word, verdict_status, verdict_text};
 ghost use Rattle.dap_device.specs.Device.{HasWrittenAll};
-ghost use Rattle.dapnorm.specs.Limits.{AreSound};
-ghost use Rattle.dapnorm.specs.NameTables.{AreReady};
+ghost use Rattle.dap_input.specs.Limits.{AreSound};
+ghost use Rattle.dap_normal.specs.NameTables.{AreReady};
 
-use crate::comparing::compare_with;
-use crate::index_tables::index_tables;
-use crate::limits::Limits;
-use crate::refused::Refused;
 use crate::status::{DIFFERENT, DONE, FAULT, MEMORY, REFUSED};
-use crate::verdict::{CompareRefused, Verdict};
 use arrayvec::ArrayString;
+use dap_compare::{CompareRefused, Verdict, compare_with};
 use dap_device::{DeviceFault, Sink, Source, write_all, write_and_flush};
+use dap_input::{Limits, Refused};
+use dap_normal::index_tables;
 use dap_rename::{NameTable, Pair, Tables};
 use dap_tree::Sort;
 use itoa::Buffer;

@@ -2,7 +2,7 @@ use Rattle.std.proofs.Common.{◌≡◌, ◌≤◌, ◌+◌, ◌++◌, length, t
 use Rattle.std.proofs.lemmas.List.{length-append, length-take-le}
 use Rattle.std.specs.Io.KnownBytes.{Consumes}
 use Rattle.std.proofs.KnownBytes.{Consumes-trans}
-use Rattle.dap_device.proofs.Filled.{filled, front_kept}
+use Rattle.dap_device.proofs.FilledVectors.{filled, front_kept}
 use Rattle.dap_device.proofs.reading.read_all.Goals as goal
 
 pub loop-bytes-preserved : goal.loop-bytes-preserved

@@ -1,5 +1,9 @@
-use Rattle.dap_frame.proofs.Streams.{some_stream, one_stream}
+use Rattle.dap_items.proofs.Streams as items
+use Rattle.dap_frame.proofs.Frames.{frame_grammar, no_empty_frame}
 use Rattle.dap_frame.proofs.laws.one_stream.Goals as goal
 
 pub returns : goal.returns
-returns c = record { some = some_stream; one = one_stream }
+returns c = record {
+  some = λ limits. items.some_stream (frame_grammar limits) (no_empty_frame limits);
+  one = λ limits. items.one_stream (frame_grammar limits);
+}

@@ -1,4 +1,4 @@
-use Rattle.dap_frame.proofs.Written.{written_is_frame}
+use Rattle.dap_frame.proofs.WrittenFrames.{written_is_frame}
 use Rattle.dap_frame.proofs.laws.written_is_frame.Goals as goal
 
 pub returns : goal.returns

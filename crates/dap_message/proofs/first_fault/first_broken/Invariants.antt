@@ -1,6 +1,6 @@
 use Rattle.dap_tree.specs.View.{view}
 use Rattle.std.proofs.Common.{◌≡◌, drop}
-use Rattle.dap_message.specs.Asked.{rows_in, first_by}
+use Rattle.dap_message.specs.AskedRows.{rows_in, first_by}
 use Rattle.dap_message.proofs.first_fault.first_broken.Given as goal
 
 abbrev pub invariant-loop-rows : goal.invariant-loop-rows

@@ -1,6 +1,6 @@
 use Rattle.dap_tree.specs.View.{view}
 use Rattle.std.proofs.Common.{◌≡◌, drop, map}
-use Rattle.dap_message.specs.Asked.{first_by}
+use Rattle.dap_message.specs.AskedRows.{first_by}
 use Rattle.dap_message.specs.Rows.{row_of}
 use Rattle.dap_message.proofs.first_fault.first_of.Given as goal
 

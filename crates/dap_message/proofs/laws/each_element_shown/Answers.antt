@@ -1,4 +1,4 @@
-use Rattle.dap_message.proofs.Listed.{content_shows, shows_all-alike, each_shown}
+use Rattle.dap_message.proofs.ListedElements.{content_shows, shows_all-alike, each_shown}
 use Rattle.dap_message.proofs.laws.each_element_shown.Goals as goal
 
 pub returns-clause-content : goal.returns-clause-content

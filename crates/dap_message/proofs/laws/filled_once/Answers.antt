@@ -1,4 +1,4 @@
-use Rattle.dap_message.proofs.Refilled.{filled-again}
+use Rattle.dap_message.proofs.FilledOnce.{filled-again}
 use Rattle.dap_message.proofs.FilledFits.{fault-filled}
 use Rattle.dap_message.proofs.laws.filled_once.Goals as goal
 

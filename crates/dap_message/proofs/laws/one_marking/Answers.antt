@@ -1,5 +1,5 @@
-use Rattle.dap_message.proofs.Marking.{mark_is_marked}
-use Rattle.dap_message.proofs.Unique.{one_marked}
+use Rattle.dap_message.proofs.RowMarks.{mark_is_marked}
+use Rattle.dap_message.proofs.OneMarking.{one_marked}
 use Rattle.dap_message.proofs.laws.one_marking.Goals as goal
 
 pub returns-clause-marked : goal.returns-clause-marked

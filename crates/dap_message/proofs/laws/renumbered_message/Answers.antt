@@ -1,5 +1,5 @@
 use Rattle.dap_message.proofs.Contents.{skeleton_tells}
-use Rattle.dap_message.proofs.Renumbered.{ids-with}
+use Rattle.dap_message.proofs.RenumberedMessages.{ids-with}
 use Rattle.dap_message.proofs.laws.renumbered_message.Goals as goal
 
 pub returns-clause-skeleton_tells : goal.returns-clause-skeleton_tells

@@ -1,7 +1,7 @@
 use Rattle.dap_tree.specs.View.{view}
 use Rattle.std.proofs.Common.{◌≡◌, drop, map}
 use Rattle.dap_message.specs.Rows.{row_of}
-use Rattle.dap_message.specs.Asked.{marks_by}
+use Rattle.dap_message.specs.AskedRows.{marks_by}
 use Rattle.dap_message.proofs.marks.mark_rows.Given as goal
 
 -- the rows that are left make of the tree what all make of the first one

@@ -1,16 +1,16 @@
 use Rattle.dap_tree.specs.View.{view}
 use Rattle.std.proofs.Common.{rules, ◌∙◌, ap, refl, sym, subst}
-use Rattle.dap_message.specs.Asked.{asked_rows}
+use Rattle.dap_message.specs.AskedRows.{asked_rows}
 use Rattle.dap_message.specs.Capabilities.{filled}
 use Rattle.dap_message.specs.Faults.{Fits}
 use Rattle.dap_message.specs.Marks.{mark, IsMarked}
 use Rattle.dap_message.specs.Message.{message_of}
 use Rattle.dap_message.specs.Profile.{profile}
 use Rattle.dap_message.proofs.AskedRows.{asked-filled}
-use Rattle.dap_message.proofs.Keeps.{sound-message, proper-message}
+use Rattle.dap_message.proofs.KeptByTyping.{sound-message, proper-message}
 use Rattle.dap_message.proofs.Envelopes.{enveloped-message}
-use Rattle.dap_message.proofs.Listed.{shows_all-typed}
-use Rattle.dap_message.proofs.Marking.{mark_is_marked}
+use Rattle.dap_message.proofs.ListedElements.{shows_all-typed}
+use Rattle.dap_message.proofs.RowMarks.{mark_is_marked}
 use Rattle.dap_message.proofs.typing.typed.Goals as goal
 
 pub new-requires-clause-sound : goal.new-requires-clause-sound

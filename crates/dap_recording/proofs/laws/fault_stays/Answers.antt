@@ -1,5 +1,10 @@
-use Rattle.dap_recording.proofs.RecordFaults.{fault_stays, fault_early, shown_later}
+use Rattle.dap_items.proofs.Ends as items
+use Rattle.dap_recording.proofs.Records.{record_grammar}
 use Rattle.dap_recording.proofs.laws.fault_stays.Goals as goal
 
 pub returns : goal.returns
-returns c = record { more = fault_stays; front = fault_early; later = shown_later }
+returns c = record {
+  more = λ limits. items.fault_stays;
+  front = λ limits. items.fault_early;
+  later = λ limits. items.shown_later (record_grammar limits);
+}

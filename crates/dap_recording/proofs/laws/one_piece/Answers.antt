@@ -1,5 +1,9 @@
-use Rattle.dap_recording.proofs.TraceUnique.{one_piece, no_empty_piece}
+use Rattle.dap_items.proofs.Ends as items
+use Rattle.dap_recording.proofs.TracePieces.{one_piece, readable}
 use Rattle.dap_recording.proofs.laws.one_piece.Goals as goal
 
 pub returns : goal.returns
-returns c = record { one = one_piece; no_empty = no_empty_piece }
+returns c = record {
+  one = one_piece;
+  no_empty = λ side raw. items.not_empty readable (side, raw);
+}

@@ -1,5 +1,13 @@
-use Rattle.dap_recording.proofs.RecordStreams.{empty_recording, one_recording, some_stream, one_stream}
+use Rattle.std.proofs.Common.{refl}
+use Rattle.dap_items.proofs.Ends.{not_empty}
+use Rattle.dap_items.proofs.Streams as items
+use Rattle.dap_recording.proofs.Records.{record_grammar, readable}
 use Rattle.dap_recording.proofs.laws.one_recording.Goals as goal
 
 pub returns : goal.returns
-returns c = record { empty = empty_recording; one = one_recording; some_stream = some_stream; one_stream = one_stream }
+returns c = record {
+  empty = λ limits. refl;
+  one = λ limits. items.one_list (record_grammar limits) (not_empty (readable limits));
+  some_stream = λ limits. items.some_stream (record_grammar limits) (not_empty (readable limits));
+  one_stream = λ limits. items.one_stream (record_grammar limits);
+}

@@ -1,6 +1,12 @@
-use Rattle.dap_recording.proofs.TraceUnique.{one_cause}
-use Rattle.dap_recording.proofs.TraceOutcomes.{shown_within, fault_stays, fault_early, shown_later}
+use Rattle.dap_items.proofs.Ends as items
+use Rattle.dap_recording.proofs.TracePieces.{piece_grammar, readable}
 use Rattle.dap_recording.proofs.laws.one_trace_cause.Goals as goal
 
 pub returns : goal.returns
-returns c = record { one = one_cause; within = shown_within; more = fault_stays; front = fault_early; later = shown_later }
+returns c = record {
+  one = items.one_fault piece_grammar;
+  within = items.shown_inside readable;
+  more = items.fault_stays;
+  front = items.fault_early;
+  later = items.shown_later piece_grammar;
+}

@@ -1,7 +1,13 @@
-use Rattle.dap_recording.proofs.TraceUnique.{piece_not_faulty, piece_not_open, open_not_faulty}
-use Rattle.dap_recording.proofs.TraceOutcomes.{some_outcome}
+use Rattle.dap_items.proofs.Ends as items
+use Rattle.dap_recording.proofs.TracePieces.{piece_grammar}
 use Rattle.dap_recording.proofs.TraceSteps.{stands_open_piece}
 use Rattle.dap_recording.proofs.laws.one_trace_outcome.Goals as goal
 
 pub returns : goal.returns
-returns c = record { some = some_outcome; piece_not_faulty = piece_not_faulty; piece_not_open = piece_not_open; open_not_faulty = open_not_faulty; stands_open = stands_open_piece }
+returns c = record {
+  some = items.some_outcome piece_grammar;
+  piece_not_faulty = λ front more side raw. items.item_not_faulty piece_grammar front more (side, raw);
+  piece_not_open = λ front more side raw. items.item_not_open piece_grammar front more (side, raw);
+  open_not_faulty = items.open_not_faulty piece_grammar;
+  stands_open = stands_open_piece;
+}

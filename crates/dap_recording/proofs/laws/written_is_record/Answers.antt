@@ -1,4 +1,4 @@
-use Rattle.dap_recording.proofs.RecordOutcomes.{written_is_record, written_is_recording}
+use Rattle.dap_recording.proofs.RecordsWritten.{written_is_record, written_is_recording}
 use Rattle.dap_recording.proofs.laws.written_is_record.Goals as goal
 
 pub returns : goal.returns

@@ -4,8 +4,9 @@ use Rattle.dap_frame.specs.Frame.{IsFrame}
 use Rattle.dap_frame.specs.Reading.{limits_of}
 use Rattle.dap_recording.specs.Recording.{record_text}
 use Rattle.dap_frame.specs.declared.limits.FrameLimits.{FrameLimits}
+use Rattle.dap_frame.proofs.Frames.{content_small}
 use Rattle.dap_recording.proofs.FramerSteps.{fed_frame}
-use Rattle.dap_recording.proofs.RecorderSteps.{from_ok, not_both, frame_small, frame_short, takes_all, takes_fault}
+use Rattle.dap_recording.proofs.RecorderSteps.{from_ok, not_both, frame_short, takes_all, takes_fault}
 use Rattle.dap_recording.proofs.one_side.record_frame.Goals as goal
 
 pub returns-in-Err-clause-takes : goal.returns-in-Err-clause-takes
@@ -21,7 +22,7 @@ pub returns-then-is_err-2-clause-takes : goal.returns-then-is_err-2-clause-takes
 returns-then-is_err-2-clause-takes c = λ rest stands.
     let gives = c.in-Ok.ensures.gives rest stands in
     let got = fed_frame (limits_of c.args.framer.now) rest c.args.piece.now c.in-Ok.fed c.feed.new.self gives c.in-Some.content c.in-Some.is in
-    let small = frame_small (limits_of c.args.framer.now) _ c.in-Some.content got.0 in
+    let small = (content_small (limits_of c.args.framer.now) _ c.in-Some.content got.0).0 in
     let short = frame_short (limits_of c.args.framer.now) rest c.args.piece.now c.in-Some.content c.in-Ok.fed.used gives.0 got.0 in
     let held = c.held.ensures.rest rest stands in
     let same : c.as_slice.result.now ≡ c.in-Some.content = c.as_slice.ensures ∙ c.in-Some.content-is in

@@ -1,5 +1,5 @@
 use Rattle.std.proofs.Common.{rules, ◌≤◌, length}
-use Rattle.dap_rename.proofs.Carried.{items_at_end}
+use Rattle.dap_rename.proofs.CarriesTest.{items_at_end}
 use Rattle.dap_rename.proofs.carries.+carries_tree.Goals as goal
 
 pub carries_items-returns : goal.carries_items-returns

@@ -1,5 +1,5 @@
 use Rattle.std.proofs.Common.{rules, ◌≤◌, length}
-use Rattle.dap_rename.proofs.Carried.{list_at_end}
+use Rattle.dap_rename.proofs.CarriesTest.{list_at_end}
 use Rattle.dap_rename.proofs.carries.carries_list.Goals as goal
 
 pub returns : goal.returns

@@ -1,4 +1,4 @@
-use Rattle.dap_rename.proofs.Normals.{names_are_counted, names_are_small}
+use Rattle.dap_rename.proofs.NormalForms.{names_are_counted, names_are_small}
 use Rattle.dap_rename.proofs.laws.names_are_small.Goals as goal
 
 pub returns : goal.returns

@@ -1,4 +1,4 @@
-use Rattle.dap_rename.proofs.Normals.{same_counts, front_has_few_ids}
+use Rattle.dap_rename.proofs.NormalForms.{same_counts, front_has_few_ids}
 use Rattle.dap_rename.proofs.Sameness.{same_fronts}
 use Rattle.dap_rename.proofs.laws.same_share.Goals as goal
 

@@ -1,4 +1,4 @@
-use Rattle.dap_rename.proofs.Normals.{some_normal, whole_is_told}
+use Rattle.dap_rename.proofs.NormalForms.{some_normal, whole_is_told}
 use Rattle.dap_rename.proofs.Sameness.{named_is_normal}
 use Rattle.dap_rename.proofs.laws.some_normal_form.Goals as goal
 

@@ -1,7 +1,7 @@
 use Rattle.std.proofs.Common.{rules, arith, ◌≡◌, ◌<◌, ◌++◌, ◌∷◌, [], pos, suc, length, ◌+ℤ◌, to_z, of_z, w64}
 use Rattle.std.proofs.lemmas.Int.{ints}
 use Rattle.dap_rename.specs.Pairs.{entries}
-use Rattle.dap_rename.proofs.Paired.{add_step}
+use Rattle.dap_rename.proofs.PairFaults.{add_step}
 use Rattle.dap_rename.proofs.renaming.add_pairs.Goals as goal
 
 pub loop-index-preserved : goal.loop-index-preserved

@@ -1,5 +1,5 @@
 use Rattle.std.proofs.Common.{◌∙◌, sym}
-use Rattle.dap_rename.proofs.Paired.{first_found, none_found}
+use Rattle.dap_rename.proofs.PairFaults.{first_found, none_found}
 use Rattle.dap_rename.proofs.renaming.first_fault.Goals as goal
 
 pub returns-then-is_some : goal.returns-then-is_some

@@ -1,5 +1,5 @@
-use Rattle.dap_session.proofs.Alike.{renamed_numbered}
-use Rattle.dap_session.proofs.Numbered.{typed_numbered}
+use Rattle.dap_session.proofs.RenamedMessages.{renamed_numbered}
+use Rattle.dap_session.proofs.SequenceNumbers.{typed_numbered}
 use Rattle.dap_session.proofs.laws.numbers_of_sides.Goals as goal
 
 pub returns-clause-typed : goal.returns-clause-typed

@@ -1,5 +1,5 @@
 use Rattle.dap_session.specs.Laws.{Renames}
-use Rattle.dap_session.proofs.Renaming.{first_renamed, open_renamed, keeps_renamed}
+use Rattle.dap_session.proofs.RenamingKeepsRules.{first_renamed, open_renamed, keeps_renamed}
 use Rattle.dap_session.proofs.laws.renaming_keeps_rules.Goals as goal
 
 pub returns-clause-first : goal.returns-clause-first

@@ -1,6 +1,6 @@
 use Rattle.std.proofs.Common.{ap}
 use Rattle.serde_json.specs.Written.{compact_text}
-use Rattle.dap_tree.proofs.Without.{sound_without, without_no_id, data-without}
+use Rattle.dap_tree.proofs.WithoutIds.{sound_without, without_no_id, data-without}
 use Rattle.dap_tree.proofs.Texts.{text_is_read}
 use Rattle.dap_tree.proofs.laws.ids_are_written_as_numbers.Goals as goal
 

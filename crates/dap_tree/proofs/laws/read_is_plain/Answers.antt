@@ -1,5 +1,5 @@
 use Rattle.dap_tree.proofs.Outcomes.{read_is_plain}
-use Rattle.dap_tree.proofs.Ordered.{read_is_ordered}
+use Rattle.dap_tree.proofs.MemberOrder.{read_is_ordered}
 use Rattle.dap_tree.proofs.Utf8.{read_is_utf8}
 use Rattle.dap_tree.proofs.laws.read_is_plain.Goals as goal
 

@@ -6,7 +6,7 @@ use Rattle.std.specs.Vec.Iter.{into_iter_items}
 use Rattle.std.specs.List.Sorted.{IsStrictlySortedBy}
 use Rattle.serde_json.specs.View.{view as value_view}
 use Rattle.serde_json.specs.Written.{has_float}
-use Rattle.dap_tree.proofs.Reading.{explains_more, nil_from, float_among_items, float_among_members, stand_push, stand_insert}
+use Rattle.dap_tree.proofs.ReadTrees.{explains_more, nil_from, float_among_items, float_among_members, stand_push, stand_insert}
 use Rattle.dap_tree.proofs.read.+tree_of.Goals as goal
 
 pub items_of-returns-in_err-item-clause-err : goal.items_of-returns-in_err-item-clause-err

@@ -6,7 +6,7 @@ use Rattle.json.specs.Tree.{members_tokens}
 use Rattle.dap_tree.specs.Doc.{all_in_range, members_in_range}
 use Rattle.dap_tree.specs.Json.{members_data}
 use Rattle.dap_tree.specs.View.{view, members_view}
-use Rattle.dap_tree.specs.Written.{members_json}
+use Rattle.dap_tree.specs.WrittenTokens.{members_json}
 use Rattle.serde_json.specs.Read.{of_members}
 use Rattle.dap_tree.proofs.Booleans.{and_right}
 use Rattle.dap_tree.proofs.Views.{Entry}

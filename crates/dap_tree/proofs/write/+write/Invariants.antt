@@ -5,7 +5,7 @@ use Rattle.serde_json.specs.Read.{of_items, of_members}
 use Rattle.dap_tree.specs.Doc.{items_in_range, members_in_range}
 use Rattle.dap_tree.specs.Json.{items_data, members_data}
 use Rattle.dap_tree.specs.View.{items_view, members_view}
-use Rattle.dap_tree.specs.Written.{items_json, members_json}
+use Rattle.dap_tree.specs.WrittenTokens.{items_json, members_json}
 use Rattle.dap_tree.proofs.Views.{Entry}
 use Rattle.dap_tree.proofs.write.+write.Given as goal
 

@@ -2,7 +2,7 @@ use Rattle.std.proofs.Common.{◌∙◌, ap, sym, Some}
 use Rattle.std.proofs.lemmas.Str.{IsUtf8-string_bytes}
 use Rattle.std.specs.Prelude.{string_bytes}
 use Rattle.dap_tree.specs.View.{view}
-use Rattle.dap_tree.proofs.Without.{data-without, no_id_without}
+use Rattle.dap_tree.proofs.WithoutIds.{data-without, no_id_without}
 use Rattle.dap_tree.proofs.Writing.{depth_from_sound, text_of_tokens, tokens_read_back}
 use Rattle.dap_tree.proofs.write.write_tree.Goals as goal
 

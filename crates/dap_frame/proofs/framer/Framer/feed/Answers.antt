@@ -3,7 +3,8 @@ use Rattle.std.proofs.lemmas.List.{take_rest}
 use Rattle.dap_frame.specs.Frame.{IsFrame, HasContentByte}
 use Rattle.dap_frame.specs.Reading.{Reading}
 use Rattle.dap_frame.specs.Framer.{IsKeptIn}
-use Rattle.dap_frame.proofs.FedSteps.{kept_of, fed_open, fed_frame, open_at_first, content_byte}
+use Rattle.dap_frame.proofs.FedSteps.{kept_of, fed_open, fed_frame, content_byte}
+use Rattle.dap_frame.proofs.Frames.{open_at_first}
 use Rattle.dap_frame.proofs.framer.Framer.feed.Goals as goal
 
 pub invariant_of-self-then-len-content_len : goal.invariant_of-self-then-len-content_len

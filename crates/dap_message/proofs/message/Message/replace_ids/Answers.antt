@@ -1,9 +1,9 @@
 use Rattle.dap_tree.specs.Ids.{ids, skeleton}
 use Rattle.dap_tree.specs.View.{view}
-use Rattle.dap_tree.proofs.Numbered.{count_ids, skeleton-with, sound_with}
+use Rattle.dap_tree.proofs.IdNumbers.{count_ids, skeleton-with, sound_with}
 use Rattle.std.proofs.Common.{◌∙◌, ap}
-use Rattle.dap_message.proofs.Listed.{shows_all-with}
-use Rattle.dap_message.proofs.Renumbered.{ids-with, proper-with, envelope-with}
+use Rattle.dap_message.proofs.ListedElements.{shows_all-with}
+use Rattle.dap_message.proofs.RenumberedMessages.{ids-with, proper-with, envelope-with}
 use Rattle.dap_message.proofs.message.Message.replace_ids.Goals as goal
 
 pub new-requires-clause-sound : goal.new-requires-clause-sound

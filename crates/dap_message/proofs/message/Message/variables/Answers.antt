@@ -1,7 +1,7 @@
 use Rattle.std.proofs.Common.{Some, map, filter_map, ◌∙◌, ap}
 use Rattle.dap_tree.specs.View.{view}
 use Rattle.dap_message.specs.Views.{variable_of}
-use Rattle.dap_message.proofs.Listed.{each_shown}
+use Rattle.dap_message.proofs.ListedElements.{each_shown}
 use Rattle.dap_message.proofs.message.Message.variables.Goals as goal
 
 pub returns-clause-every : goal.returns-clause-every

@@ -1,9 +1,26 @@
-use Rattle.std.proofs.Common.{◌≡◌, ◌+◌, ◌<◌, [], length, min, refl, sym, ap, ◌∙◌, subst, arith}
-use Rattle.dap_frame.specs.Reading.{Stands}
+use Rattle.std.proofs.Common.{◌≡◌, ◌+◌, ◌<◌, [], ◌∷◌, ◌++◌, length, min, refl, sym, ap, ◌∙◌, subst, arith}
+use Rattle.std.proofs.lemmas.List.{take_all}
+use Rattle.dap_frame.specs.Frame.{IsFrame}
+use Rattle.dap_frame.specs.Reading.{Stands, limits_of}
+use Rattle.dap_recording.specs.Marker.{marker}
 use Rattle.dap_recording.specs.RecordReading.{RecordReading}
 use Rattle.dap_recording.specs.RecordReading.{record_limits}
 use Rattle.dap_recording.proofs.RecordSteps.{bad_line_end, good_line_end, line_end_no_memory}
 use Rattle.dap_recording.proofs.record_reader.RecordReader.read_line_end.Goals as goal
+
+pub returns-then-from-piece-clause-gives : goal.returns-then-from-piece-clause-gives
+returns-then-from-piece-clause-gives c = λ number bytes frame num stands front is.
+    let same : c.args.self.now.framer ≡ c.self.inside.framer = ap (λ (reader : RecordReading). reader.framer) (sym c.self.view_is) in
+    let all : bytes ++ c.args.piece.now ≡ marker c.args.whole.side ∷ frame = ap (λ xs. bytes ++ xs) (sym (take_all c.args.from c.args.piece.now (omega arith))) ∙ front in (
+      omega arith,
+      (
+        omega arith,
+        record {
+          number_is = ap (λ (reader : RecordReading). reader.number) c.self.view_is ∙ num;
+          kept = (frame, all, subst (λ framer. IsFrame (limits_of framer) frame c.args.whole.content) same is, subst (λ framer. Stands framer []) same stands);
+        },
+      ),
+    )
 
 pub returns-then-piece-from-ne10-clause-gives : goal.returns-then-piece-from-ne10-clause-gives
 returns-then-piece-from-ne10-clause-gives c = λ number bytes frame num stands front is.

@@ -5,7 +5,7 @@ use Rattle.dap_message.specs.Message.{sent, doc_of}
 use Rattle.dap_message.specs.Numbers.{are_proper, renumbered}
 use Rattle.dap_rename.specs.Tables.{lists, added_all, names_from, limits, AllFit, SomeIsOver}
 use Rattle.dap_rename.specs.declared.name_table.NameFault.TheVariants.{Full}
-use Rattle.dap_rename.proofs.Standing.{count_names, names_proper, renamed, stand_lists, stand_next, few_next, many_next}
+use Rattle.dap_rename.proofs.TableContents.{count_names, names_proper, renamed, stand_lists, stand_next, few_next, many_next}
 use Rattle.dap_rename.proofs.names.Names.rename.Goals as goal
 
 pub replace_ids-requires-clause-count : goal.replace_ids-requires-clause-count

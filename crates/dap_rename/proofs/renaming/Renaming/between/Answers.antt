@@ -1,7 +1,7 @@
 use Rattle.std.proofs.Common.{◌≡◌, ◌∙◌}
 use Rattle.dap_rename.specs.Names.{numbers_in}
 use Rattle.dap_rename.specs.Pairs.{entries, equal_names}
-use Rattle.dap_rename.proofs.Paired.{joined, places_equal}
+use Rattle.dap_rename.proofs.PairFaults.{joined, places_equal}
 use Rattle.dap_rename.proofs.renaming.Renaming.between.Goals as goal
 
 pub add_pairs-requires : goal.add_pairs-requires

@@ -1,7 +1,7 @@
 use Rattle.std.proofs.Common.{◌≡◌, ◌∙◌, ap, sym, map}
 use Rattle.dap_message.specs.Message.{sent}
 use Rattle.dap_rename.specs.Carrying.{carries_list}
-use Rattle.dap_rename.proofs.Carried.{list_carried, carried_list}
+use Rattle.dap_rename.proofs.CarriesTest.{list_carried, carried_list}
 use Rattle.dap_rename.proofs.renaming.Renaming.carries.Goals as goal
 
 pub returns : goal.returns

@@ -1,6 +1,6 @@
 use Rattle.std.proofs.Common.{arith}
 use Rattle.dap_rename.specs.Tables.{AllBegin}
-use Rattle.dap_rename.proofs.Grown.{fit_tables, cut_back, lists_equal}
+use Rattle.dap_rename.proofs.ListGrowth.{fit_tables, cut_back, lists_equal}
 use Rattle.dap_rename.proofs.tables.Tables.name_ids.Goals as goal
 
 pub cut-requires-clause-client_seq : goal.cut-requires-clause-client_seq

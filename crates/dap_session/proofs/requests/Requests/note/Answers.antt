@@ -5,7 +5,7 @@ use Rattle.dap_message.specs.Message.{sent}
 use Rattle.dap_session.specs.Messages.{name_of, is_response, is_from, other}
 use Rattle.dap_session.specs.Kept.{Requests, with_answer, answered_in}
 use Rattle.dap_session.proofs.Sides.{from_other, no_request}
-use Rattle.dap_session.proofs.Noted.{after_response}
+use Rattle.dap_session.proofs.RequestsAfter.{after_response}
 use Rattle.dap_session.proofs.requests.Requests.note.Goals as goal
 
 pub ask-requires : goal.ask-requires

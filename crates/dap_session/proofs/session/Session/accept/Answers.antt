@@ -2,7 +2,7 @@ use Rattle.std.proofs.Common.{◌++◌, [], ◌∷◌, sym, ◌∙◌, refl, sub
 use Rattle.dap_message.specs.Message.{sent}
 use Rattle.dap_session.specs.Kept.{Kept}
 use Rattle.dap_session.specs.Standing.{Stands}
-use Rattle.dap_session.proofs.Standing.{judged_is, stands_push}
+use Rattle.dap_session.proofs.SessionSteps.{judged_is, stands_push}
 use Rattle.dap_session.proofs.session.Session.accept.Goals as goal
 
 pub returns-in-Some-clause-says : goal.returns-in-Some-clause-says

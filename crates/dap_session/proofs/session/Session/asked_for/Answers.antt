@@ -3,7 +3,7 @@ use Rattle.std.proofs.lemmas.Int.{to_z-of_z}
 use Rattle.dap_tree.specs.declared.side.Side.TheVariants.{Client, Adapter}
 use Rattle.dap_message.specs.Message.{sent}
 use Rattle.dap_session.specs.Kept.{Kept, found}
-use Rattle.dap_session.proofs.Asked.{asked_is}
+use Rattle.dap_session.proofs.AnsweredRequest.{asked_is}
 use Rattle.dap_session.proofs.session.Session.asked_for.Goals as goal
 
 pub returns-in-Client : goal.returns-in-Client

@@ -1,6 +1,6 @@
 use Rattle.std.proofs.Common.{◌≡◌, w64, to_z, of_z, arith}
 use Rattle.std.proofs.lemmas.Int.{to_z-of_z}
-use Rattle.dap_session.specs.Judged.{tells}
+use Rattle.dap_session.specs.KeptRules.{tells}
 use Rattle.dap_session.proofs.session.Session.breaks.Goals as goal
 
 pub returns-then-is_request-2 : goal.returns-then-is_request-2

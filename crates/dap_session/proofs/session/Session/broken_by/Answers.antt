@@ -1,9 +1,9 @@
 use Rattle.std.proofs.Common.{◌∙◌, sym, arith}
 use Rattle.dap_message.specs.Message.{sent}
 use Rattle.dap_session.specs.Rules.{rules}
-use Rattle.dap_session.specs.Judged.{tells}
-use Rattle.dap_session.proofs.Firsts.{first_more}
-use Rattle.dap_session.proofs.Judging.{judged_hit}
+use Rattle.dap_session.specs.KeptRules.{tells}
+use Rattle.dap_session.proofs.FirstBroken.{first_more}
+use Rattle.dap_session.proofs.RuleTests.{judged_hit}
 use Rattle.dap_session.proofs.session.Session.broken_by.Goals as goal
 
 pub loop-rule-preserved : goal.loop-rule-preserved

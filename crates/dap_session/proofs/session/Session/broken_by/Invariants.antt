@@ -1,7 +1,7 @@
 use Rattle.std.proofs.Common.{◌≡◌, drop}
 use Rattle.dap_message.specs.Message.{sent}
 use Rattle.dap_session.specs.Rules.{rules, first_of}
-use Rattle.dap_session.specs.Judged.{tells}
+use Rattle.dap_session.specs.KeptRules.{tells}
 use Rattle.dap_session.proofs.session.Session.broken_by.Given as goal
 
 abbrev pub invariant-loop-rule : goal.invariant-loop-rule

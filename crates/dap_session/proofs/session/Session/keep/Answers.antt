@@ -2,8 +2,8 @@ use Rattle.std.proofs.Common.{ap, sym, subst}
 use Rattle.dap_tree.specs.declared.side.Side.TheVariants.{Client, Adapter}
 use Rattle.dap_message.specs.Message.{sent}
 use Rattle.dap_session.specs.Kept.{Kept, Requests}
-use Rattle.dap_session.specs.Noting.{MayFollow}
-use Rattle.dap_session.proofs.Judging.{may_follow}
+use Rattle.dap_session.specs.RequestSteps.{MayFollow}
+use Rattle.dap_session.proofs.RuleTests.{may_follow}
 use Rattle.dap_session.proofs.session.Session.keep.Goals as goal
 
 pub note-requires : goal.note-requires

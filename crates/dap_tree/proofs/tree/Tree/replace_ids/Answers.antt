@@ -2,7 +2,7 @@ use Rattle.std.proofs.Common.{◌∙◌, ap}
 use Rattle.dap_tree.specs.Doc.{is_sound}
 use Rattle.dap_tree.specs.Ids.{ids, numbers_of, skeleton}
 use Rattle.dap_tree.specs.View.{view}
-use Rattle.dap_tree.proofs.Numbered.{numbers-with, skeleton-with, sound_with}
+use Rattle.dap_tree.proofs.IdNumbers.{numbers-with, skeleton-with, sound_with}
 use Rattle.dap_tree.proofs.tree.Tree.replace_ids.Goals as goal
 
 pub returns-clause-numbers : goal.returns-clause-numbers

@@ -1,0 +1,180 @@
+//! The calls of `dapnorm` behind functions that promise nothing, so that the tests are cheap to prove.
+ghost use Rattle.std.specs.Prelude.{◌≡◌, ◌<◌, ◌≤◌, ◌^◌, IsTrue};
+ghost use Rattle.dapnorm.specs.Limits.{AreSound};
+
+use dapnorm::{
+    Checked, CompareRefused, Job, Limits, Normalised, Refused, Sink, Source, Verdict, check,
+    compact, compare, normalise, normalise_bytes, record, run_compare, run_stream, show,
+};
+use std::alloc::Global;
+
+/// Whether calls take these limits.
+pub fn are_sound(limits: Limits) -> bool
+    ensures { IsTrue result → AreSound limits }
+{
+    limits.frame.sound() && limits.ids <= 2_147_483_647 && limits.input <= 1 << 62
+}
+
+/// A call that reads an input and writes a text.
+#[derive(Clone, Copy, Debug)]
+pub enum Engine {
+    Compact,
+    Record,
+    Normalise,
+    Show,
+}
+
+/// What the engine answers.
+pub fn answer<R: Source, W: Sink>(
+    engine: Engine,
+    alloc: Global,
+    reader: &mut R,
+    writer: &mut W,
+    limits: Limits,
+) -> Result<(), Refused>
+    requires limits { AreSound limits }
+    requires given { R.given reader.old < 2 ^ 62 }
+    requires read_failures { R.failures reader.old < 2 ^ 62 }
+    requires write_failures { W.failures writer.old < 2 ^ 62 }
+{
+    match engine {
+        Engine::Compact => compacted(alloc, reader, writer, limits),
+        Engine::Record => recorded(alloc, reader, writer, limits),
+        Engine::Normalise => normalised(alloc, reader, writer, limits),
+        Engine::Show => shown(alloc, reader, writer, limits),
+    }
+}
+
+fn compacted<R: Source, W: Sink>(
+    alloc: Global,
+    reader: &mut R,
+    writer: &mut W,
+    limits: Limits,
+) -> Result<(), Refused>
+    requires limits { AreSound limits }
+    requires given { R.given reader.old < 2 ^ 62 }
+    requires read_failures { R.failures reader.old < 2 ^ 62 }
+    requires write_failures { W.failures writer.old < 2 ^ 62 }
+{
+    compact(alloc, reader, writer, limits)
+}
+
+fn recorded<R: Source, W: Sink>(
+    alloc: Global,
+    reader: &mut R,
+    writer: &mut W,
+    limits: Limits,
+) -> Result<(), Refused>
+    requires limits { AreSound limits }
+    requires given { R.given reader.old < 2 ^ 62 }
+    requires read_failures { R.failures reader.old < 2 ^ 62 }
+    requires write_failures { W.failures writer.old < 2 ^ 62 }
+{
+    record(alloc, reader, writer, limits)
+}
+
+fn normalised<R: Source, W: Sink>(
+    alloc: Global,
+    reader: &mut R,
+    writer: &mut W,
+    limits: Limits,
+) -> Result<(), Refused>
+    requires limits { AreSound limits }
+    requires given { R.given reader.old < 2 ^ 62 }
+    requires read_failures { R.failures reader.old < 2 ^ 62 }
+    requires write_failures { W.failures writer.old < 2 ^ 62 }
+{
+    normalise(alloc, reader, writer, limits)
+}
+
+fn shown<R: Source, W: Sink>(
+    alloc: Global,
+    reader: &mut R,
+    writer: &mut W,
+    limits: Limits,
+) -> Result<(), Refused>
+    requires limits { AreSound limits }
+    requires given { R.given reader.old < 2 ^ 62 }
+    requires read_failures { R.failures reader.old < 2 ^ 62 }
+    requires write_failures { W.failures writer.old < 2 ^ 62 }
+{
+    show(alloc, reader, writer, limits)
+}
+
+/// What `normalise_bytes` answers.
+pub fn normal_text(alloc: Global, bytes: &[u8], limits: Limits) -> Result<Normalised, Refused>
+    requires { AreSound limits }
+{
+    normalise_bytes(alloc, bytes, limits)
+}
+
+/// What `check` answers.
+pub fn checked<R: Source>(
+    alloc: Global,
+    reader: &mut R,
+    limits: Limits,
+    complete: bool,
+) -> Result<Checked, Refused>
+    requires limits { AreSound limits }
+    requires given { R.given reader.old < 2 ^ 62 }
+    requires failures { R.failures reader.old < 2 ^ 62 }
+{
+    check(alloc, reader, limits, complete)
+}
+
+/// What `compare` answers.
+pub fn verdict<A: Source, B: Source>(
+    alloc: Global,
+    a: &mut A,
+    b: &mut B,
+    limits: Limits,
+) -> Result<Verdict, CompareRefused>
+    requires limits { AreSound limits }
+    requires given_a { A.given a.old < 2 ^ 62 }
+    requires given_b { B.given b.old < 2 ^ 62 }
+    requires failures_a { A.failures a.old < 2 ^ 62 }
+    requires failures_b { B.failures b.old < 2 ^ 62 }
+{
+    compare(alloc, a, b, limits)
+}
+
+/// The status of the program for a job, which is none that compares.
+pub fn status<R: Source, W: Sink, E: Sink>(
+    alloc: Global,
+    job: &Job,
+    reader: &mut R,
+    writer: &mut W,
+    errors: &mut E,
+    limits: Limits,
+) -> Option<u8>
+    requires limits { AreSound limits }
+    requires given { R.given reader.old < 2 ^ 62 }
+    requires read_failures { R.failures reader.old < 2 ^ 62 }
+    requires write_failures { W.failures writer.old < 2 ^ 62 }
+    requires error_failures { E.failures errors.old < 2 ^ 62 }
+{
+    if matches!(job, Job::Compare { .. }) {
+        return None;
+    }
+    Some(run_stream(alloc, job, reader, writer, errors, limits))
+}
+
+/// The status of the program for two inputs that are compared.
+pub fn compare_status<A: Source, B: Source, W: Sink, E: Sink>(
+    alloc: Global,
+    a: &mut A,
+    b: &mut B,
+    writer: &mut W,
+    errors: &mut E,
+    limits: Limits,
+) -> u8
+    requires limits { AreSound limits }
+    requires given_a { A.given a.old < 2 ^ 62 }
+    requires given_b { B.given b.old < 2 ^ 62 }
+    requires failures_a { A.failures a.old < 2 ^ 62 }
+    requires failures_b { B.failures b.old < 2 ^ 62 }
+    requires write_failures { W.failures writer.old < 2 ^ 62 }
+    requires error_failures { E.failures errors.old < 2 ^ 62 }
+{
+    run_compare(alloc, a, b, writer, errors, limits)
+}

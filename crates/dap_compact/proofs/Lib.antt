@@ -1,0 +1,2 @@
+pub mod CompactingFacts
+pub mod CompactingLoop

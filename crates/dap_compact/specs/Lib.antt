@@ -1,0 +1,2 @@
+pub mod Compacting
+pub mod CompactingSteps

@@ -1,0 +1,5 @@
+pub mod ComparingLoop
+pub mod OneVerdict
+pub mod SomeVerdict
+pub mod StreamComparing
+pub mod Verdicts

@@ -1,0 +1,9 @@
+//! Two recordings compared record by record.
+#![tactic(auto)]
+
+mod comparing;
+pub mod laws;
+mod verdict;
+
+pub use comparing::{compare, compare_with};
+pub use verdict::{CompareRefused, Verdict, Which};

@@ -1,0 +1,64 @@
+-- What an engine that reads its whole input before it writes answers, and what its devices then hold. Source: own.
+-- `Gives` says what an input gives, and `IsRefused` what an input is refused for; one of the two alone can hold.
+use Rattle.std.specs.Prelude.{◌≡◌, ◌⊎◌, ℕ, ◌+◌, ◌≤◌, List, length, take, Option, Result, Ok, Err}
+use Rattle.std.specs.Io.KnownBytes.{Appends}
+use Rattle.dap_recording.specs.declared.record_fault.RecordCause.TheVariants.{Cut}
+use Rattle.dap_device.specs.declared.reading.Stop.{Stop}
+use Rattle.dap_device.specs.declared.reading.Stop.TheVariants.{End, Failed}
+use Rattle.dap_input.specs.declared.refused.Refused.{Refused}
+use Rattle.dap_input.specs.declared.refused.Refused.TheVariants.{Record, ReadFault, WriteFault, Memory}
+use Rattle.dap_device.specs.Reading.{HasCome}
+
+-- An engine over a reader, by what this tells of its bytes and its failures.
+module _ {R : Type 0} (left : R → Option (List ℕ)) (failures : R → ℕ) (input : ℕ) where
+  -- These bytes came from the reader, and no more for this reason.
+  abbrev pub Came : R → R → List ℕ → Stop → Type 0
+  Came old new bytes stop = HasCome left failures old new input bytes stop
+
+  module _ {T : Type 0} (Gives : List ℕ → T → Type 0) where
+    -- The reader came to its end, and what it gave gives this.
+    pub record Accepts (old new : R) (given : T) : Type 0 where
+      pub whole : List ℕ
+      pub came : Came old new whole End
+      pub gives : Gives whole given
+
+    -- The reader failed, and what it gave before is refused for nothing but where it ends.
+    pub record FailsToRead (IsRefused : List ℕ → Refused → Type 0) (old new : R) : Type 0 where
+      pub bytes : List ℕ
+      pub came : Came old new bytes Failed
+      pub not_refused : ((given : T) × Gives bytes given) ⊎ ((n : ℕ) × IsRefused bytes (Record n Cut))
+
+  -- What the reader gave is refused. That it ends too early is told only where the reader came to its end.
+  pub record RefusesInput (IsRefused : List ℕ → Refused → Type 0) (old new : R) (refused : Refused) : Type 0 where
+    pub bytes : List ℕ
+    pub stop : Stop
+    pub came : Came old new bytes stop
+    pub is_refused : IsRefused bytes refused
+    pub cut : (n : ℕ) → refused ≡ Record n Cut → stop ≡ End
+
+-- An engine over a reader and a writer, which writes the text that its input gives.
+module _ {R W : Type 0} (left : R → Option (List ℕ)) (read_failures : R → ℕ) (out : W → Option (List ℕ)) (write_failures : W → ℕ)
+    (input : ℕ) (Gives : List ℕ → List ℕ → Type 0) (IsRefused : List ℕ → Refused → Type 0) where
+  -- All of the text went out, and neither device failed.
+  pub record HasFinished (old new : R) (before after : W) : Type 0 where
+    pub text : List ℕ
+    pub accepts : Accepts left read_failures input Gives old new text
+    pub written : Appends (out before) (out after) text
+    pub no_failure : write_failures after ≡ write_failures before
+
+  -- The writer failed, and a front of the text, perhaps all of it, went out.
+  pub record HasNotWritten (old new : R) (before after : W) : Type 0 where
+    pub text : List ℕ
+    pub accepts : Accepts left read_failures input Gives old new text
+    pub count : ℕ
+    pub within : count ≤ length text
+    pub written : Appends (out before) (out after) (take count text)
+    pub failure : write_failures after ≡ write_failures before + 1
+
+  -- On every other answer nothing was written.
+  abbrev pub Answers : {U : Type 0} → R → R → W → W → Result U Refused → Type 0
+  Answers old new before after (Ok done) = HasFinished old new before after
+  Answers old new before after (Err ReadFault) = FailsToRead left read_failures input Gives IsRefused old new × (after ≡ before)
+  Answers old new before after (Err WriteFault) = HasNotWritten old new before after
+  Answers old new before after (Err Memory) = after ≡ before
+  Answers old new before after (Err refused) = RefusesInput left read_failures input IsRefused old new refused × (after ≡ before)

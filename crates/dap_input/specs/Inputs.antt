@@ -1,0 +1,39 @@
+-- An input as it came, whatever its records are: where it is refused, and what stands before a record. Source: own.
+use Rattle.std.specs.Prelude.{◌≡◌, ◌≢◌, ◌⊎◌, ℕ, ◌+◌, Bool, true, false, List, ◌++◌, length}
+use Rattle.dap_input.specs.Judging.{Judging, Reason, cut, IsFirstRefusal}
+
+-- An input as it came: its bytes, and whether its reader failed behind them.
+pub record Input : Type 0 where
+  pub bytes : List ℕ
+  pub failed : Bool
+
+module _ (j : Judging) where
+  -- why an input is refused at a record: for what stands there, or because its reader failed
+  pub data Fault : Type 0 where
+    refused : Reason j → Fault
+    read_fault : Fault
+
+  -- The bytes end before this record or inside it, and nothing is wrong with those before.
+  abbrev pub EndsAt : List ℕ → ℕ → Type 0
+  EndsAt bytes number = IsFirstRefusal j bytes number cut ⊎ ((values : List j.Value) × j.IsAccepted bytes values × (number ≡ length values + 1))
+
+  -- The input is refused at this record: the first refusal of its bytes is there; but where the reader failed, that they only end there is its fault.
+  abbrev pub IsRefusedAt : Input → ℕ → Fault → Type 0
+  IsRefusedAt input number (refused why) = IsFirstRefusal j input.bytes number why × (input.failed ≡ true → why ≢ cut)
+  IsRefusedAt input number read_fault = (input.failed ≡ true) × EndsAt input.bytes number
+
+  abbrev pub IsNotRefusedAt : Input → ℕ → Type 0
+  IsNotRefusedAt input number = (fault : Fault) → IsRefusedAt input number fault → ⊥
+
+  -- The input is accepted as these values, and its reader did not fail.
+  abbrev pub IsTaken : Input → List j.Value → Type 0
+  IsTaken input values = j.IsAccepted input.bytes values × (input.failed ≡ false)
+
+  -- The records before this one are accepted.
+  pub record AcceptedBefore (input : Input) (number : ℕ) : Type 0 where
+    pub values : List j.Value
+    pub front : List ℕ
+    pub rest : List ℕ
+    pub split : input.bytes ≡ front ++ rest
+    pub accepted : j.IsAccepted front values
+    pub is_number : number ≡ length values + 1

@@ -1,0 +1,5 @@
+pub mod Engine
+pub mod Inputs
+pub mod Judging
+pub mod Limits
+pub mod ReadTo

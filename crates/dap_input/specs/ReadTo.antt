@@ -1,0 +1,31 @@
+-- How far an input has been read that is judged record by record, as its bytes come. Source: own.
+use Rattle.std.specs.Prelude.{◌≡◌, ◌⊎◌, ℕ, ◌+◌, ◌≤◌, Bool, true, false, List, [], ◌++◌, length, Option, Some, None}
+use Rattle.dap_device.specs.declared.reading.Stop.{Stop}
+use Rattle.dap_device.specs.declared.reading.Stop.TheVariants.{Failed}
+use Rattle.dap_items.specs.Items.{IsItem, Shows}
+use Rattle.dap_input.specs.Inputs.{AcceptedBefore, EndsAt, Input}
+use Rattle.dap_input.specs.Judging.{Judging}
+
+-- No more was read than this record asked for: without the last 65,536 bytes, at most, what came ends before it or inside it, and nothing is wrong with it.
+pub record IsReadTo (j : Judging) (bytes : List ℕ) (number : ℕ) : Type 0 where
+  pub before : List ℕ
+  pub last : List ℕ
+  pub split : bytes ≡ before ++ last
+  pub few : length last ≤ 65536
+  pub ends : (before ≡ []) ⊎ ((earlier : ℕ) × (earlier ≤ number) × EndsAt j before earlier)
+
+-- the reader has failed
+abbrev pub has_failed : Option Stop → Bool
+has_failed (Some Failed) = true
+has_failed stop = false
+
+-- The input of which so much has come.
+abbrev pub so_far : List ℕ → Option Stop → Input
+so_far bytes stop = record { bytes = bytes; failed = has_failed stop }
+
+-- At most 65,536 bytes were read past this record, if it is whole, and past the byte that shows a fault of it. The records before it are accepted.
+pub record IsBounded (j : Judging) (bytes : List ℕ) (number : ℕ) : Type 0 where
+  pub past_record : (before : AcceptedBefore j (so_far bytes None) number) (whole more : List ℕ) (held : j.Held) → before.rest ≡ whole ++ more → IsItem j.records whole held
+      → length bytes ≤ length before.front + length whole + 65536
+  pub past_fault : (before : AcceptedBefore j (so_far bytes None) number) (cause : j.Cause) (place : ℕ) → Shows j.records before.rest cause place
+      → length bytes ≤ length before.front + place + 65536

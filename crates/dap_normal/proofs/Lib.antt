@@ -1,0 +1,11 @@
+pub mod AcceptingFacts
+pub mod HeldMessages
+pub mod JudgedRecords
+pub mod NormalRecordSteps
+pub mod NormalTexts
+pub mod RecordLoop
+pub mod NormalFormLaws
+pub mod StreamAnswers
+pub mod StreamLoop
+pub mod StreamWriting
+pub mod WholeInput

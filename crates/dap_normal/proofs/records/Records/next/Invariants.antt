@@ -1,0 +1,18 @@
+use Rattle.std.proofs.Common.{◌+◌, ◌-◌, length}
+use Rattle.dap_frame.specs.declared.limits.FrameLimits.{FrameLimits}
+use Rattle.dap_normal.specs.RecordSteps.{StandsBetween}
+use Rattle.dap_normal.proofs.RecordLoop.{AreCounted, Looking}
+use Rattle.dap_normal.proofs.records.Records.next.Given as goal
+
+abbrev pub invariant-loop-stop : goal.invariant-loop-stop
+invariant-loop-stop g l =
+    let left = g.R.Source.left in
+    let given = g.R.Source.given in
+    let failures = g.R.Source.failures in
+    record {
+      counted : AreCounted given failures l.fn.self l.self l.fn.reader l.reader;
+      looking : (limits : FrameLimits) → StandsBetween limits l.fn.self → Looking left given failures limits l.fn.self l.self l.fn.reader l.reader;
+    }
+
+abbrev pub decreases-loop-stop : goal.decreases-loop-stop
+decreases-loop-stop g l = (l.self.pieces.limit - l.self.pieces.taken) + length l.self.pieces.unread

@@ -1,0 +1,11 @@
+pub mod Accepting
+pub mod Checking
+pub mod HeldMessages
+pub mod JudgingSteps
+pub mod NameTables
+pub mod NormalSteps
+pub mod Normalised
+pub mod Normalising
+pub mod RecordSteps
+pub mod Refusals
+pub mod Streaming

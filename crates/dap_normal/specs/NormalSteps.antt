@@ -1,0 +1,78 @@
+-- What the next record of an input makes of the records before it.
+use Rattle.std.specs.Prelude.{◌≡◌, ℕ, ◌+◌, ◌-◌, ◌<◌, ◌≤◌, ℤ, Bool, true, false, List, [], ◌∷◌, ◌++◌, length, Option, Some, None, Result, Ok, Err}
+use Rattle.dap_device.specs.Pieces.{HasComeSoFar}
+use Rattle.dap_device.specs.declared.reading.Stop.{Stop}
+use Rattle.dap_device.specs.declared.reading.Stop.TheVariants.{End}
+use Rattle.dap_message.specs.Message.{Sent}
+use Rattle.dap_recording.specs.declared.record_fault.RecordCause.TheVariants.{Cut}
+use Rattle.dap_input.specs.declared.limits.Limits.{Limits}
+use Rattle.dap_normal.specs.declared.normal_records.NormalRecords.{NormalRecords}
+use Rattle.dap_input.specs.declared.refused.Refused.{Refused}
+use Rattle.dap_input.specs.declared.refused.Refused.TheVariants.{Record, Memory}
+use Rattle.dap_normal.specs.Accepting.{IsAccepted, accepting}
+use Rattle.dap_normal.specs.JudgingSteps.{StandsFor, judge_limits, record_of}
+use Rattle.dap_normal.specs.RecordSteps.{StandsBetween}
+use Rattle.dap_input.specs.ReadTo.{IsReadTo, so_far}
+use Rattle.dap_normal.specs.Refusals.{RefusesAt}
+
+-- Of these bytes, which have come, what is unread begins behind records that are accepted as these messages, for which the judge stands, with this normal form.
+pub record StandsBefore {T : Type 0} (numbers : T → List ℤ) (table_limit : T → ℕ) (limits : Limits) (bytes : List ℕ) (records : NormalRecords T) (messages normal : List Sent) : Type 0 where
+  pub front : List ℕ
+  pub accepted : IsAccepted limits front messages
+  pub came : bytes ≡ front ++ records.records.pieces.unread
+  pub taken : records.records.pieces.taken ≡ length bytes
+  pub limit_is : records.records.pieces.limit ≡ limits.input
+  pub between : StandsBetween limits.frame records.records
+  pub number_is : records.records.number ≡ length messages + 1
+  -- no more records than bytes, so that a number that counts bytes can count records
+  pub few : records.records.number ≤ length front + 1
+  pub read_to : IsReadTo (accepting limits) bytes (length messages)
+  pub stands : StandsFor numbers table_limit records.judge messages normal
+  pub judge_limits_are : judge_limits records.judge ≡ limits
+
+-- how many bytes are left at most behind what is accepted
+abbrev pub remaining : {T : Type 0} → NormalRecords T → ℕ
+remaining records = (records.records.pieces.limit - records.records.pieces.taken) + length records.records.pieces.unread
+
+module _ {T R : Type 0} (numbers : T → List ℤ) (table_limit : T → ℕ) (left : R → Option (List ℕ)) (given failures : R → ℕ) (limits : Limits) (bytes : List ℕ) (messages normal : List Sent)
+    (old new : NormalRecords T) (before after : R) where
+  -- One more record is accepted, and the record of its normal form is appended.
+  pub record HasGone (text longer : List ℕ) : Type 0 where
+    pub more : List ℕ
+    pub came : HasComeSoFar left given failures before after more None
+    pub message : Sent
+    pub named : Sent
+    pub stands : StandsBefore numbers table_limit limits (bytes ++ more) new (messages ++ message ∷ []) (normal ++ named ∷ [])
+    pub read_to : IsReadTo (accepting limits) (bytes ++ more) old.records.number
+    pub shorter : remaining new < remaining old
+    pub appended : longer ≡ text ++ record_of named
+
+  -- The input has ended, and is accepted as a whole.
+  pub record HasEnded (text longer : List ℕ) : Type 0 where
+    pub more : List ℕ
+    pub came : HasComeSoFar left given failures before after more (Some End)
+    pub accepted : IsAccepted limits (bytes ++ more) messages
+    pub read_to : IsReadTo (accepting limits) (bytes ++ more) old.records.number
+    pub judge_is : new.judge ≡ old.judge
+    pub number_is : new.records.number ≡ old.records.number
+    pub kept : longer ≡ text
+
+  -- what a refusal says of the bytes that have come; that memory was refused says nothing of them
+  abbrev pub SaysOf : List ℕ → Option Stop → Refused → Type 0
+  SaysOf came stop Memory = Unit {0}
+  SaysOf came stop refused = RefusesAt limits (so_far came stop) old.records.number refused
+
+  -- This record is refused, or cannot be read.
+  pub record HasStoppedAt (refused : Refused) : Type 0 where
+    pub more : List ℕ
+    pub stop : Option Stop
+    pub came : HasComeSoFar left given failures before after more stop
+    pub within : length (bytes ++ more) ≤ limits.input + 1
+    pub read_to : IsReadTo (accepting limits) (bytes ++ more) old.records.number
+    pub says : SaysOf (bytes ++ more) stop refused
+    pub cut : (n : ℕ) → refused ≡ Record n Cut → stop ≡ Some End
+
+  abbrev pub HasNext : List ℕ → List ℕ → Result Bool Refused → Type 0
+  HasNext text longer (Ok true) = HasGone text longer
+  HasNext text longer (Ok false) = HasEnded text longer
+  HasNext text longer (Err refused) = HasStoppedAt refused

@@ -1,0 +1,26 @@
+//! The tables of names that an engine takes where it is handed none.
+ghost use Rattle.dap_rename.specs.IndexNames.{index_limit, index_numbers};
+ghost use Rattle.dap_input.specs.Limits.{AreSound};
+ghost use Rattle.dap_normal.specs.NameTables.{AreReady};
+
+use dap_input::Limits;
+use dap_rename::{IndexNames, Tables};
+use std::alloc::Global;
+use std::hash::{BuildHasherDefault, FoldHasher};
+
+/// The default hasher of an index set. It is fixed.
+type DefaultHasher = BuildHasherDefault<FoldHasher>;
+
+/// Empty tables, each with the limit of ids. They take no memory yet.
+pub fn index_tables(alloc: Global, limits: Limits) -> Tables<IndexNames<DefaultHasher>>
+    requires { AreSound limits }
+    ensures { AreReady index_numbers index_limit limits result }
+{
+    let hasher = BuildHasherDefault::new();
+    Tables {
+        client_seq: IndexNames::new(alloc, limits.ids, hasher),
+        adapter_seq: IndexNames::new(alloc, limits.ids, hasher),
+        frame: IndexNames::new(alloc, limits.ids, hasher),
+        reference: IndexNames::new(alloc, limits.ids, hasher),
+    }
+}

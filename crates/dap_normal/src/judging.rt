@@ -1,0 +1,85 @@
+//! Judges the records of a recording, each behind those before it. `check` and `normalise` both judge so.
+ghost use Rattle.std.specs.Prelude.{◌≡◌, ◌<◌, ◌≤◌, ◌^◌, List, []};
+ghost use Rattle.dap_message.specs.Message.{Sent};
+ghost use Rattle.dap_session.specs.Rules.{open_requests};
+ghost use Rattle.dap_input.specs.Limits.{AreSound};
+ghost use Rattle.dap_normal.specs.NameTables.{AreReady};
+
+use crate::messages::{append_record, read_message};
+use dap_input::{Limits, Refused};
+use dap_message::Side;
+use dap_recording::Record;
+use dap_rename::{NameFault, NameTable, Names, Tables};
+use dap_session::{Session, SessionFault};
+use std::alloc::Global;
+
+/// What the records so far leave behind for the judging of the next one.
+#[derive(Drop)]
+pub struct Judge<T> {
+    session: Session,
+    names: Names<T>,
+    /// How many bytes the text of the normal form has so far.
+    written: u64,
+    limits: Limits,
+    ghost sound: { AreSound limits },
+    ghost short: { written ≤ limits.input },
+}
+
+impl<T: NameTable + Drop> Judge<T> {
+    ghost use Rattle.dap_normal.specs.JudgingSteps.{JudgesRecord, StandsFor, held_of, judge_limits};
+
+    /// A judge before the first record.
+    pub fn new(alloc: Global, limits: Limits, tables: Tables<T>) -> Judge<T>
+        requires limits { AreSound limits }
+        requires tables { AreReady T.numbers T.limit limits tables }
+        ensures stands { StandsFor T.numbers T.limit result [] [] }
+        ensures limits { judge_limits result ≡ limits }
+    {
+        Judge {
+            session: Session::new(alloc),
+            names: Names::new(alloc, tables),
+            written: 0,
+            limits,
+        }
+    }
+
+    /// Judges the record of that number, and appends the record of its normal form to `out`.
+    pub fn judge(
+        &mut self,
+        alloc: Global,
+        number: u64,
+        whole: &Record,
+        out: &mut Vec<u8>,
+    ) -> Result<(), Refused>
+        ensures judges { (messages normal : List Sent) → StandsFor T.numbers T.limit self.old messages normal → JudgesRecord T.numbers T.limit messages normal (held_of whole.now) number self.old self.new out.old.items out.new.items result }
+        ensures limits { judge_limits self.new ≡ judge_limits self.old }
+    {
+        let message = read_message(alloc, number, whole.side, whole.content.as_slice())?;
+        match self.session.accept(&message) {
+            Ok(()) => {}
+            Err(SessionFault::Broken(rule)) => return Err(Refused::Rule(number, rule)),
+            Err(SessionFault::Memory) => return Err(Refused::Memory),
+        }
+        let renamed = match self.names.rename(message) {
+            Ok(renamed) => renamed,
+            Err(NameFault::Full) => return Err(Refused::TooManyIds(number)),
+            Err(NameFault::Memory) => return Err(Refused::Memory),
+        };
+        self.written = append_record(alloc, number, &renamed, self.written, self.limits, out)?;
+        Ok(())
+    }
+
+    /// The names of the messages so far.
+    pub fn names(&self) -> &Names<T>
+        ensures { result.now ≡ self.now.names }
+    {
+        &self.names
+    }
+
+    /// How many requests of that side have no response.
+    pub fn open(&self, side: Side) -> usize
+        ensures { (messages normal : List Sent) → StandsFor T.numbers T.limit self.now messages normal → result ≡ open_requests side messages }
+    {
+        self.session.open(side)
+    }
+}

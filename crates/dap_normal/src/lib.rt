@@ -1,0 +1,22 @@
+//! Recordings judged and normalised record by record.
+#![tactic(auto)]
+
+mod checked;
+mod checking;
+mod default_tables;
+mod judging;
+pub mod laws;
+mod messages;
+mod normal_records;
+mod normalised;
+mod normalising;
+mod records;
+mod same_recordings;
+
+pub use checked::Checked;
+pub use checking::{check, check_with};
+pub use default_tables::index_tables;
+pub use messages::read_message;
+pub use normal_records::NormalRecords;
+pub use normalised::Normalised;
+pub use normalising::{normalise, normalise_bytes, normalise_with};

@@ -1,0 +1,67 @@
+//! Reads the message of a record, and writes the record of a message.
+ghost use Rattle.std.specs.Prelude.{◌≤◌, List, IfOk, IfErr};
+ghost use Rattle.dap_message.specs.Message.{Sent, sent};
+ghost use Rattle.dap_normal.specs.Accepting.{IsMessage};
+ghost use Rattle.dap_normal.specs.JudgingSteps.{RefusesRecord, Writes};
+ghost use Rattle.dap_input.specs.Limits.{AreSound};
+ghost use Rattle.dap_normal.specs.Refusals.{RefusesHeld};
+
+use dap_frame::FrameFault;
+use dap_input::{Limits, Refused};
+use dap_message::{Message, MessageFault, Side, typed};
+use dap_recording::write_record;
+use dap_tree::{TreeFault, read_tree};
+use std::alloc::Global;
+
+/// The message that the record of that number holds.
+pub fn read_message(
+    alloc: Global,
+    number: u64,
+    side: Side,
+    content: &[u8],
+) -> Result<Message, Refused>
+    ensures ok { IfOk result (λ message. IsMessage (side, content.now) (sent message)) }
+    ensures err { IfErr result (λ because. (limits : Limits) (messages : List Sent) → RefusesRecord limits messages (side, content.now) number because) }
+    ensures only { IfErr result (λ because. RefusesHeld (side, content.now) number because) }
+{
+    let tree = match read_tree(alloc, content) {
+        Ok(tree) => tree,
+        Err(TreeFault::Json) => return Err(Refused::Json(number)),
+        Err(TreeFault::Fraction) => return Err(Refused::Fraction(number)),
+        Err(TreeFault::Memory) => return Err(Refused::Memory),
+    };
+    match typed(alloc, side, tree) {
+        Ok(message) => Ok(message),
+        Err(MessageFault::Memory) => Err(Refused::Memory),
+        Err(fault) => Err(Refused::Message(number, fault)),
+    }
+}
+
+/// Appends the record of a message behind a text that has so many bytes, and answers how many it then has.
+pub fn append_record(
+    alloc: Global,
+    number: u64,
+    message: &Message,
+    written: u64,
+    limits: Limits,
+    out: &mut Vec<u8>,
+) -> Result<u64, Refused>
+    requires sound { AreSound limits }
+    requires short { written ≤ limits.input }
+    ensures { Writes limits (sent message.now) number written out.old.items out.new.items result }
+{
+    let Ok(content) = message.content(alloc) else {
+        return Err(Refused::Memory);
+    };
+    let before = out.len();
+    match write_record(out, message.side(), content.as_bytes(), limits.frame) {
+        Ok(()) => {}
+        Err(FrameFault::ContentTooLong) => return Err(Refused::Grew(number)),
+        Err(_) => return Err(Refused::Memory),
+    }
+    let after = written + (out.len() - before) as u64;
+    if limits.input < after {
+        return Err(Refused::Grew(number));
+    }
+    Ok(after)
+}

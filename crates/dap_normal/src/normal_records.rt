@@ -1,0 +1,98 @@
+//! The records of an input one by one, each as the record of its normal form.
+ghost use Rattle.std.specs.Prelude.{◌≡◌, ◌+◌, ◌-◌, ◌<◌, ◌^◌, ℕ, List, [], IfOk};
+ghost use Rattle.dap_message.specs.Message.{Sent};
+ghost use Rattle.dap_rename.specs.Messages.{equal_places};
+ghost use Rattle.dap_rename.specs.Names.{HaveEqualCounts, StandFor};
+ghost use Rattle.dap_rename.specs.Pairs.{entries};
+ghost use Rattle.dap_rename.specs.Renaming.{pairs_of};
+ghost use Rattle.dap_session.specs.Rules.{open_requests};
+ghost use Rattle.dap_input.specs.Limits.{AreSound};
+ghost use Rattle.dap_normal.specs.NameTables.{AreReady};
+
+use crate::judging::Judge;
+use crate::records::Records;
+use dap_device::Source;
+use dap_input::{Limits, Refused};
+use dap_message::Side;
+use dap_rename::{NameFault, NameTable, Renaming, Tables};
+use std::alloc::{AllocError, Global};
+
+/// The records of an input, of which those before the next one are accepted. One record is held at a time.
+#[derive(Drop)]
+pub struct NormalRecords<T> {
+    records: Records,
+    judge: Judge<T>,
+}
+
+impl<T: NameTable + Drop> NormalRecords<T> {
+    ghost use Rattle.dap_normal.specs.JudgingSteps.{StandsFor as JudgeStandsFor};
+    ghost use Rattle.dap_normal.specs.NormalSteps.{HasNext, StandsBefore};
+
+    /// The records of an input, before the first.
+    pub fn new(
+        alloc: Global,
+        limits: Limits,
+        tables: Tables<T>,
+    ) -> Result<NormalRecords<T>, AllocError>
+        requires limits { AreSound limits }
+        requires tables { AreReady T.numbers T.limit limits tables }
+        ensures stands { IfOk result (λ records. StandsBefore T.numbers T.limit limits [] records [] []) }
+    {
+        Ok(NormalRecords {
+            records: Records::new(alloc, limits)?,
+            judge: Judge::new(alloc, limits, tables),
+        })
+    }
+
+    /// The number of the next record, counted from 1.
+    pub fn number(&self) -> u64
+        ensures { result ≡ self.now.records.number }
+    {
+        self.records.number()
+    }
+
+    /// How many requests of that side have no response.
+    pub fn open(&self, side: Side) -> usize
+        ensures { (messages normal : List Sent) → JudgeStandsFor T.numbers T.limit self.now.judge messages normal → result ≡ open_requests side messages }
+    {
+        self.judge.open(side)
+    }
+
+    /// Reads and judges the next record, and appends the record of its normal form to `text`. None is left where the input
+    /// has ended and all of it is accepted.
+    pub fn next<R: Source>(
+        &mut self,
+        alloc: Global,
+        reader: &mut R,
+        text: &mut Vec<u8>,
+    ) -> Result<bool, Refused>
+        requires number { self.old.records.number < 2 ^ 63 }
+        requires given { R.given reader.old + (self.old.records.pieces.limit - self.old.records.pieces.taken) < 2 ^ 63 }
+        requires failures { R.failures reader.old < 2 ^ 63 }
+        ensures { (limits : Limits) (bytes : List ℕ) (messages normal : List Sent) → StandsBefore T.numbers T.limit limits bytes self.old messages normal
+            → HasNext T.numbers T.limit R.left R.given R.failures limits bytes messages normal self.old self.new reader.old reader.new text.old.items text.new.items result }
+    {
+        let number = self.records.number();
+        let Some(whole) = self.records.next(reader)? else {
+            return Ok(false);
+        };
+        self.judge.judge(alloc, number, &whole, text)?;
+        Ok(true)
+    }
+
+    /// The renaming that puts the numbers of `other` in the place of those with the same names here.
+    ///
+    /// The only fault is `Memory`.
+    pub fn renaming_to(
+        &self,
+        alloc: Global,
+        other: &NormalRecords<T>,
+    ) -> Result<Renaming, NameFault>
+        requires { HaveEqualCounts T.numbers self.now.judge.names other.now.judge.names }
+        ensures { IfOk result (λ renaming. (messages others : List Sent)
+            → StandFor T.numbers self.now.judge.names messages → StandFor T.numbers other.now.judge.names others
+            → entries (pairs_of renaming) ≡ equal_places messages others) }
+    {
+        Renaming::between(alloc, self.judge.names(), other.judge.names())
+    }
+}

@@ -1,0 +1,124 @@
+//! Normalises recordings.
+ghost use Rattle.std.specs.Prelude.{◌≡◌, ◌+◌, ◌<◌, ◌≤◌, ◌^◌, IfErr, IfOk};
+ghost use Rattle.dap_input.specs.Limits.{AreSound};
+ghost use Rattle.dap_normal.specs.NameTables.{AreReady};
+ghost use Rattle.dap_normal.specs.Normalising.{IsCanonical, RefusesBytes};
+ghost use Rattle.dap_normal.specs.Streaming.{Flushes, Streams};
+
+use crate::default_tables::index_tables;
+use crate::normal_records::NormalRecords;
+use crate::normalised::Normalised;
+use dap_device::{MemorySource, Sink, Source, write_all};
+use dap_input::{Limits, Refused};
+use dap_rename::{NameTable, Tables};
+use std::alloc::Global;
+
+/// The normal text of a recording: its messages in order, each as its canonical content, in which ids count from 1.
+///
+/// Each sort of ids counts by first appearance over the whole recording: the sequence numbers of each side, frame ids, and
+/// variables references, of which a 0 stays. Capabilities that an `initialize` response leaves out are false in it.
+///
+/// # Errors
+///
+/// The first refusal of the recording, or `Memory`.
+pub fn normalise_bytes(alloc: Global, bytes: &[u8], limits: Limits) -> Result<Normalised, Refused>
+    requires limits { AreSound limits }
+
+    // The text is answered exactly where the recording is accepted, and its first refusal exactly where it is not.
+    ensures ok { IfOk result (λ text. IsCanonical limits bytes.now text) }
+    ensures err { IfErr result (λ refused. RefusesBytes limits bytes.now refused) }
+{
+    let tables = index_tables(alloc, limits);
+    let Ok(mut records) = NormalRecords::new(alloc, limits, tables) else {
+        return Err(Refused::Memory);
+    };
+    let mut reader = MemorySource::new(bytes);
+    let mut text = Vec::new(alloc);
+    while records.next(alloc, &mut reader, &mut text)? {}
+    Ok(Normalised::new(text))
+}
+
+/// Gives the answer once all that was written is flushed.
+fn flushed<W: Sink>(writer: &mut W, answer: Result<(), Refused>) -> Result<(), Refused>
+    requires { W.failures writer.old < 2 ^ 63 }
+    ensures { Flushes W.out W.failures writer.old writer.new answer result }
+{
+    match writer.flush() {
+        Ok(()) => answer,
+        Err(_) => Err(Refused::WriteFault),
+    }
+}
+
+/// Reads a recording and writes its normal text, as [`normalise_bytes`] answers it, record by record.
+///
+/// One record is read, judged and written before the next one: at most 65,536 bytes are read past it, and at most one byte
+/// past `limits.input`. Where a record is refused, the normal text of those before it has been written. What was written is
+/// flushed at the end, also before a refusal is answered. Records are counted from 1 in the order of the input.
+///
+/// # Errors
+///
+/// The first refusal of the input; `ReadFault` where the reader failed and what came before is not refused; `WriteFault`
+/// where the writer failed, also in place of a refusal where the flush before it failed; `Memory`, which nothing is flushed
+/// before.
+pub fn normalise<R: Source, W: Sink>(
+    alloc: Global,
+    reader: &mut R,
+    writer: &mut W,
+    limits: Limits,
+) -> Result<(), Refused>
+    requires limits { AreSound limits }
+    requires given { R.given reader.old < 2 ^ 62 }
+    requires read_failures { R.failures reader.old < 2 ^ 62 }
+    requires write_failures { W.failures writer.old < 2 ^ 62 }
+
+    // The normal text of the input goes out. Where a record is refused, the text of those before it does; where the writer
+    // fails, a front of the text does. A fault of a device is answered exactly where that device failed.
+    ensures answer { Streams R.left R.given R.failures W.out W.failures limits reader.old reader.new writer.old writer.new result }
+
+    // It takes at most one byte past the limit.
+    ensures taken { R.given reader.new ≤ R.given reader.old + limits.input + 1 }
+{
+    normalise_with(alloc, reader, writer, limits, index_tables(alloc, limits))
+}
+
+/// Does what [`normalise`] does, with these tables for the names of ids. They have to be empty, each with the limit
+/// `limits.ids`.
+///
+/// # Errors
+///
+/// Those of [`normalise`].
+pub fn normalise_with<R: Source, W: Sink, T: NameTable + Drop>(
+    alloc: Global,
+    reader: &mut R,
+    writer: &mut W,
+    limits: Limits,
+    tables: Tables<T>,
+) -> Result<(), Refused>
+    requires limits { AreSound limits }
+    requires tables { AreReady T.numbers T.limit limits tables }
+    requires given { R.given reader.old < 2 ^ 62 }
+    requires read_failures { R.failures reader.old < 2 ^ 62 }
+    requires write_failures { W.failures writer.old < 2 ^ 62 }
+
+    // What `normalise` promises, whatever the tables are.
+    ensures answer { Streams R.left R.given R.failures W.out W.failures limits reader.old reader.new writer.old writer.new result }
+    ensures taken { R.given reader.new ≤ R.given reader.old + limits.input + 1 }
+{
+    let Ok(mut records) = NormalRecords::new(alloc, limits, tables) else {
+        return Err(Refused::Memory);
+    };
+    let mut text = Vec::new(alloc);
+    loop {
+        text.clear();
+        match records.next(alloc, reader, &mut text) {
+            Ok(true) => {
+                if write_all(writer, text.as_slice()).is_err() {
+                    return Err(Refused::WriteFault);
+                }
+            }
+            Ok(false) => return flushed(writer, Ok(())),
+            Err(Refused::Memory) => return Err(Refused::Memory),
+            Err(refused) => return flushed(writer, Err(refused)),
+        }
+    }
+}

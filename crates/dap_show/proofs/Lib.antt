@@ -1,0 +1,3 @@
+pub mod AppendedLines
+pub mod ShowingFacts
+pub mod ShowingLoop

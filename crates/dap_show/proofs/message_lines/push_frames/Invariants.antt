@@ -1,0 +1,9 @@
+use Rattle.std.proofs.Common.{◌≡◌, ◌++◌, string_bytes}
+use Rattle.std.specs.List.{flat_map}
+use Rattle.dap_message.specs.ViewItems.{frames_left}
+use Rattle.dap_show.specs.Showing.{frame_line}
+use Rattle.dap_show.proofs.message_lines.push_frames.Given as goal
+
+-- the lines so far, and those of what is left, are those of all
+abbrev pub invariant-loop-frame : goal.invariant-loop-frame
+invariant-loop-frame l = string_bytes l.out ++ flat_map frame_line (frames_left l.frame-iterator) ≡ string_bytes l.fn.out ++ flat_map frame_line (frames_left l.fn.frames)

@@ -1,0 +1,9 @@
+use Rattle.std.proofs.Common.{◌≡◌, ◌++◌, string_bytes}
+use Rattle.std.specs.List.{flat_map}
+use Rattle.dap_message.specs.ViewItems.{variables_left}
+use Rattle.dap_show.specs.Showing.{variable_line}
+use Rattle.dap_show.proofs.message_lines.push_variables.Given as goal
+
+-- the lines so far, and those of what is left, are those of all
+abbrev pub invariant-loop-variable : goal.invariant-loop-variable
+invariant-loop-variable l = string_bytes l.out ++ flat_map variable_line (variables_left l.variable-iterator) ≡ string_bytes l.fn.out ++ flat_map variable_line (variables_left l.fn.variables)

@@ -1,0 +1,4 @@
+pub mod TraceOutcomes
+pub mod TracePieces
+pub mod TraceSteps
+pub mod TracingLoop

@@ -1,8 +1,0 @@
-use Rattle.dapnorm.proofs.TraceOutcomes.{traces_have_one_outcome, refusal_stays as trace_refusal_stays}
-use Rattle.dapnorm.proofs.laws.trace_has_one_outcome.Goals as goal
-
-pub returns : goal.returns
-returns c = record {
-  outcome = traces_have_one_outcome;
-  refusal_stays = trace_refusal_stays;
-}

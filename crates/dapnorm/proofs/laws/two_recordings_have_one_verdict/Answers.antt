@@ -1,9 +1,0 @@
-use Rattle.dapnorm.proofs.Verdicts.{recordings_have_one_verdict, same_is_told_exactly, same_is_carried}
-use Rattle.dapnorm.proofs.laws.two_recordings_have_one_verdict.Goals as goal
-
-pub returns : goal.returns
-returns c = record {
-  one = recordings_have_one_verdict;
-  same = same_is_told_exactly;
-  carried = same_is_carried;
-}

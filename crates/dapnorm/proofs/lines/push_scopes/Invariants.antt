@@ -1,9 +1,0 @@
-use Rattle.std.proofs.Common.{◌≡◌, ◌++◌, string_bytes}
-use Rattle.std.specs.List.{flat_map}
-use Rattle.dap_message.specs.Shown.{scopes_left}
-use Rattle.dapnorm.specs.Showing.{scope_line}
-use Rattle.dapnorm.proofs.lines.push_scopes.Given as goal
-
--- the lines so far, and those of what is left, are those of all
-abbrev pub invariant-loop-scope : goal.invariant-loop-scope
-invariant-loop-scope l = string_bytes l.out ++ flat_map scope_line (scopes_left l.scope-iterator) ≡ string_bytes l.fn.out ++ flat_map scope_line (scopes_left l.fn.scopes)

@@ -1,5 +1,0 @@
-use Rattle.dapnorm.proofs.NormalRecordSteps.{none_read}
-use Rattle.dapnorm.proofs.normal_records.NormalRecords.new.Goals as goal
-
-pub returns : goal.returns
-returns g c = record { stands = none_read c.args.limits _ c.in_ok-new.ensures.between c.in_ok-new.ensures.pieces c.in_ok-new.ensures.number c.new-2.ensures.stands c.new-2.ensures.limits }

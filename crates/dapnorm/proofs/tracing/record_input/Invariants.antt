@@ -1,9 +1,0 @@
-use Rattle.std.proofs.Common.{length}
-use Rattle.dapnorm.proofs.TracingLoop.{Tracing}
-use Rattle.dapnorm.proofs.tracing.record_input.Given as goal
-
-abbrev pub invariant-loop-rest : goal.invariant-loop-rest
-invariant-loop-rest l = Tracing l.fn.limits l.initial.rest l.rest l.reader l.recorder l.last
-
-abbrev pub decreases-loop-rest : goal.decreases-loop-rest
-decreases-loop-rest l = length l.rest

@@ -1,0 +1,193 @@
+//! Does a job, and tells of it what the program tells: lines and a status.
+ghost use Rattle.std.specs.Prelude.{◌≡◌, ◌+◌, ◌<◌, ◌≤◌, ◌^◌, Bool};
+ghost use Rattle.dap_compact.specs.Compacting.{Compacts, IsRefused};
+ghost use Rattle.dap_input.specs.Limits.{AreSound};
+ghost use Rattle.dap_normal.specs.NameTables.{AreReady};
+ghost use Rattle.dapnorm.specs.Run.{Answered, CheckIsTold, TraceIsTold, accepted_line, HasPrinted, NormaliseIsTold, TellsUsage, status_of};
+ghost use Rattle.dap_show.specs.Showing.{IsShownBy, IsRefused as IsShowRefused};
+
+use crate::jobs::{Job, UsageFault};
+use crate::status::{DONE, FAULT, MEMORY, REFUSED, USAGE};
+use arrayvec::ArrayString;
+use dap_compact::compact;
+use dap_device::{Sink, Source, write_and_flush};
+use dap_input::{Limits, Refused};
+use dap_normal::{Checked, check_with, index_tables, normalise_with};
+use dap_rename::{NameTable, Tables};
+use dap_show::show;
+use dap_trace::record;
+use itoa::Buffer;
+use std::alloc::Global;
+use std::fmt::Write;
+
+/// How long a line may be. The longest of a fault has 79 bytes, and that of an accepted recording 85.
+const LINE: usize = 128;
+
+/// The status of the program for an engine's answer.
+fn status(answer: Result<(), Refused>) -> u8
+    ensures { result ≡ status_of answer }
+{
+    match answer {
+        Ok(()) => DONE,
+        Err(Refused::ReadFault | Refused::WriteFault) => FAULT,
+        Err(Refused::Memory) => MEMORY,
+        Err(_) => REFUSED,
+    }
+}
+
+/// Tells a fault in one line, without memory. A failure to write the line is not told.
+fn tell<E: Sink>(errors: &mut E, refused: Refused)
+    requires { E.failures errors.old < 2 ^ 63 }
+{
+    let mut line = ArrayString::<LINE>::new();
+    let _ = writeln!(line, "dapnorm: {refused}");
+    let _ = write_and_flush(errors, line.as_bytes());
+}
+
+/// The line of an accepted recording, with its LF. It takes no memory.
+fn accepted_line(checked: &Checked) -> ArrayString<LINE>
+    ensures { result.bytes ≡ accepted_line checked.now }
+{
+    let mut number = Buffer::new();
+    let mut line = ArrayString::new();
+    line.push_str("accepted records=");
+    line.push_str(number.format(checked.records));
+    line.push_str(" open=");
+    line.push_str(number.format(checked.client_open));
+    line.push_str(",");
+    line.push_str(number.format(checked.adapter_open));
+    line.push_str("\n");
+    line
+}
+
+/// Prints the line of an accepted recording.
+fn print<W: Sink>(writer: &mut W, answer: Result<Checked, Refused>) -> Result<(), Refused>
+    requires { W.failures writer.old < 2 ^ 62 }
+    ensures { HasPrinted W.out W.failures answer writer.old writer.new result }
+{
+    let line = accepted_line(&answer?);
+    match write_and_flush(writer, line.as_bytes()) {
+        Ok(()) => Ok(()),
+        Err(_) => Err(Refused::WriteFault),
+    }
+}
+
+/// Does a job over a reader and a writer, which a comparison is not, and answers the program's status. A refusal is told on `errors`, in one line.
+///
+/// Of a recording that `check` accepts the numbers go to `writer`: `accepted records=R open=C,A` and LF, with the open
+/// requests of the client and of the adapter.
+///
+/// The status is 0 where the job was done, 2 where the input is refused, 4 where a device failed and 5 for want of
+/// memory.
+pub fn run_stream<R: Source, W: Sink, E: Sink>(
+    alloc: Global,
+    job: &Job,
+    reader: &mut R,
+    writer: &mut W,
+    errors: &mut E,
+    limits: Limits,
+) -> u8
+    requires stream { (a b : _) → job.now ≡ Job.Compare a b → ⊥ }
+    requires limits { AreSound limits }
+    requires given { R.given reader.old < 2 ^ 62 }
+    requires read_failures { R.failures reader.old < 2 ^ 62 }
+    requires write_failures { W.failures writer.old < 2 ^ 62 }
+    requires error_failures { E.failures errors.old < 2 ^ 62 }
+
+    // The output is what the engine writes, and the status that of its answer.
+    ensures compact { job.now ≡ Job.Compact → Answered R.left R.failures W.out W.failures limits.input (Compacts limits) (IsRefused limits) reader.old reader.new writer.old writer.new result }
+
+    // The output is the records that `record` writes, and the status that of its answer.
+    ensures record_trace { job.now ≡ Job.Record → TraceIsTold R.left R.failures W.out W.failures limits reader.old reader.new writer.old writer.new result }
+
+    // The output is the normal text that `normalise` writes, and the status that of its answer.
+    ensures normalise { job.now ≡ Job.Normalise → NormaliseIsTold R.left R.given R.failures W.out W.failures limits reader.old reader.new writer.old writer.new result }
+
+    // The output is the line of what `check` accepts, and the status that of its answer or of a writer that failed.
+    ensures check { (complete : Bool) → job.now ≡ Job.Check complete → CheckIsTold R.left R.given R.failures W.out W.failures limits complete reader.old reader.new writer.old writer.new result }
+
+    // The output is the lines that `show` writes, and the status that of its answer.
+    ensures show { job.now ≡ Job.Show → Answered R.left R.failures W.out W.failures limits.input (IsShownBy limits) (IsShowRefused limits) reader.old reader.new writer.old writer.new result }
+
+    // It takes at most one byte past the limit.
+    ensures taken { R.given reader.new ≤ R.given reader.old + limits.input + 1 }
+{
+    run_stream_with(
+        alloc,
+        job,
+        reader,
+        writer,
+        errors,
+        limits,
+        index_tables(alloc, limits),
+    )
+}
+
+/// Does what [`run_stream`] does, with these tables for the names of ids. They have to be empty, each with the limit
+/// `limits.ids`.
+pub fn run_stream_with<R: Source, W: Sink, E: Sink, T: NameTable + Drop>(
+    alloc: Global,
+    job: &Job,
+    reader: &mut R,
+    writer: &mut W,
+    errors: &mut E,
+    limits: Limits,
+    tables: Tables<T>,
+) -> u8
+    requires stream { (a b : _) → job.now ≡ Job.Compare a b → ⊥ }
+    requires limits { AreSound limits }
+    requires tables { AreReady T.numbers T.limit limits tables }
+    requires given { R.given reader.old < 2 ^ 62 }
+    requires read_failures { R.failures reader.old < 2 ^ 62 }
+    requires write_failures { W.failures writer.old < 2 ^ 62 }
+    requires error_failures { E.failures errors.old < 2 ^ 62 }
+
+    // What `run_stream` promises, whatever the tables are.
+    ensures compact { job.now ≡ Job.Compact → Answered R.left R.failures W.out W.failures limits.input (Compacts limits) (IsRefused limits) reader.old reader.new writer.old writer.new result }
+    ensures record_trace { job.now ≡ Job.Record → TraceIsTold R.left R.failures W.out W.failures limits reader.old reader.new writer.old writer.new result }
+    ensures normalise { job.now ≡ Job.Normalise → NormaliseIsTold R.left R.given R.failures W.out W.failures limits reader.old reader.new writer.old writer.new result }
+    ensures check { (complete : Bool) → job.now ≡ Job.Check complete → CheckIsTold R.left R.given R.failures W.out W.failures limits complete reader.old reader.new writer.old writer.new result }
+    ensures show { job.now ≡ Job.Show → Answered R.left R.failures W.out W.failures limits.input (IsShownBy limits) (IsShowRefused limits) reader.old reader.new writer.old writer.new result }
+    ensures taken { R.given reader.new ≤ R.given reader.old + limits.input + 1 }
+{
+    let answer = match *job {
+        Job::Compact => compact(alloc, reader, writer, limits),
+        Job::Record => record(alloc, reader, writer, limits),
+        Job::Normalise => normalise_with(alloc, reader, writer, limits, tables),
+        Job::Check { complete } => print(
+            writer,
+            check_with(alloc, reader, limits, complete, tables),
+        ),
+        Job::Show => show(alloc, reader, writer, limits),
+        Job::Compare { .. } => unreachable!(),
+    };
+    if let Err(refused) = answer {
+        tell(errors, refused);
+    }
+    status(answer)
+}
+
+/// Tells the user why the words were no job, and answers the program's status.
+///
+/// Help that was asked for goes to `writer`: the status is 0, or 4 where the writer fails. What is wrong with the words
+/// goes to `errors`, with status 3, and want of memory, with status 5. A failure of `errors` is not told.
+pub fn run_usage<W: Sink, E: Sink>(fault: &UsageFault, writer: &mut W, errors: &mut E) -> u8
+    requires write_failures { W.failures writer.old < 2 ^ 62 }
+    requires error_failures { E.failures errors.old < 2 ^ 62 }
+    ensures { TellsUsage W.out W.failures E.out E.failures fault.now writer.old writer.new errors.old errors.new result }
+{
+    match fault {
+        UsageFault::Help(text) => match write_and_flush(writer, text.as_bytes()) {
+            Ok(()) => DONE,
+            Err(_) => FAULT,
+        },
+        UsageFault::Usage(text) => {
+            let _ = write_and_flush(errors, text.as_bytes());
+            USAGE
+        }
+        UsageFault::Memory => {
+            tell(errors, Refused::Memory);
+            MEMORY
+        }
+    }
+}

@@ -1,0 +1,288 @@
+//! Frames read and written.
+use crate::texts::is_printed;
+use dap_frame::{Content, FrameFault, FrameLimits, Framer, write_frame};
+use std::alloc::Global;
+use std::process::Abort;
+
+/// The limits of the program.
+const LIMITS: FrameLimits = FrameLimits {
+    header: 4096,
+    content: 16_777_216,
+};
+
+/// Bytes, and the fault that a new framer tells of them.
+type Told = (&'static [u8], Option<FrameFault>);
+
+/// Asks for the fault that a new framer tells of these bytes.
+fn tells(rt: &impl Abort, alloc: Global, (bytes, fault): Told) {
+    let told = Framer::new(alloc, LIMITS).feed(bytes).err();
+    assert_eq!(rt; told, fault);
+}
+
+const HEADER_FAULTS: [Told; 6] = [
+    (b"Content-Length 5\r\n\r\n", Some(FrameFault::HeaderLine)),
+    (b"\r\n\r\n", Some(FrameFault::HeaderLine)),
+    (b"X: 1\r\n\r\n", Some(FrameFault::NoLength)),
+    (
+        b"Content-Length: 2\r\nContent-Length: 2\r\n\r\n",
+        Some(FrameFault::TwoLengths),
+    ),
+    (b"Content-Length: +5\r\n\r\n", Some(FrameFault::BadLength)),
+    (
+        b"Content-Length: 12345678901\r\n\r\n",
+        Some(FrameFault::BadLength),
+    ),
+];
+
+#[test]
+fn header_faults(rt: HostRuntime) {
+    for told in HEADER_FAULTS {
+        tells(&rt, rt.alloc(), told);
+    }
+}
+
+const SEVERAL_FAULTS: [Told; 2] = [
+    (
+        b"Content-Length: +5\r\nContent-Length 5\r\n\r\n",
+        Some(FrameFault::HeaderLine),
+    ),
+    (
+        b"Content-Length: 16777217\r\nContent-Length: 2\r\n\r\n",
+        Some(FrameFault::TwoLengths),
+    ),
+];
+
+#[test]
+fn first_fault_of_the_whole_header_part(rt: HostRuntime) {
+    for told in SEVERAL_FAULTS {
+        tells(&rt, rt.alloc(), told);
+    }
+}
+
+const LONG_CONTENTS: [Told; 3] = [
+    (b"Content-Length: 16777217\r\n\r", None),
+    (
+        b"Content-Length: 16777217\r\n\r\n",
+        Some(FrameFault::ContentTooLong),
+    ),
+    (b"Content-Length: 16777216\r\n\r\n", None),
+];
+
+#[test]
+fn content_too_long_is_told_before_any_content(rt: HostRuntime) {
+    for told in LONG_CONTENTS {
+        tells(&rt, rt.alloc(), told);
+    }
+}
+
+/// A call on a framer, and its answer.
+#[derive(Clone, Copy)]
+enum Step {
+    /// It takes the whole piece and gives no content.
+    Takes(&'static [u8]),
+    /// The same piece, so many times.
+    TakesAll(&'static [u8], usize),
+    /// It takes these bytes, one at a time, and gives no content.
+    TakesEach(&'static [u8]),
+    /// It takes so many bytes of the piece and gives this content.
+    Gives(&'static [u8], usize, &'static [u8]),
+    /// It refuses the piece.
+    Refuses(&'static [u8], FrameFault),
+    /// It holds so many bytes.
+    Holds(usize),
+    /// The end of the input comes here.
+    Ends(Result<(), FrameFault>),
+}
+
+fn is_content(content: &Option<Content>, wanted: &[u8]) -> bool {
+    matches!(content, Some(content) if content.as_slice() == wanted)
+}
+
+fn gives(framer: &mut Framer, piece: &[u8], used: usize, wanted: &[u8]) -> bool {
+    matches!(framer.feed(piece), Ok(fed) if fed.used == used && is_content(&fed.content, wanted))
+}
+
+fn takes(framer: &mut Framer, piece: &[u8]) -> bool {
+    matches!(framer.feed(piece), Ok(fed) if fed.used == piece.len() && fed.content.is_none())
+}
+
+fn takes_all(framer: &mut Framer, piece: &[u8], times: usize) -> bool {
+    for _ in 0..times {
+        if !takes(framer, piece) {
+            return false;
+        }
+    }
+    true
+}
+
+fn takes_each(framer: &mut Framer, bytes: &[u8]) -> bool {
+    for byte in bytes {
+        if !takes(framer, &[*byte]) {
+            return false;
+        }
+    }
+    true
+}
+
+fn refuses(framer: &mut Framer, piece: &[u8], wanted: FrameFault) -> bool {
+    framer.feed(piece).err() == Some(wanted)
+}
+
+fn answers(framer: &mut Framer, step: Step) -> bool {
+    match step {
+        Step::Takes(piece) => takes(framer, piece),
+        Step::TakesAll(piece, times) => takes_all(framer, piece, times),
+        Step::TakesEach(bytes) => takes_each(framer, bytes),
+        Step::Gives(piece, used, content) => gives(framer, piece, used, content),
+        Step::Refuses(piece, fault) => refuses(framer, piece, fault),
+        Step::Holds(count) => framer.held() == count,
+        Step::Ends(answer) => framer.finish() == answer,
+    }
+}
+
+/// Asks that a new framer answers these calls so.
+fn answers_all(rt: &impl Abort, alloc: Global, steps: &[Step]) {
+    let mut framer = Framer::new(alloc, LIMITS);
+    for (number, step) in steps.iter().enumerate() {
+        assert!(rt; answers(&mut framer, *step), "step {number}");
+    }
+}
+
+/// As many bytes as a header part may have, and no line's end.
+const LETTERS: [u8; 4096] = [b'a'; 4096];
+
+#[test]
+fn header_too_long(rt: HostRuntime) {
+    let steps = [
+        Step::TakesAll(b"a", 4095),
+        Step::Holds(4095),
+        Step::Ends(Err(FrameFault::Cut)),
+        Step::Refuses(b"a", FrameFault::HeaderTooLong),
+    ];
+    answers_all(&rt, rt.alloc(), &steps);
+    tells(&rt, rt.alloc(), (&LETTERS, Some(FrameFault::HeaderTooLong)));
+}
+
+const CUT: [Step; 4] = [
+    Step::Ends(Ok(())),
+    Step::Takes(b"Content-Length: 2\r\n\r\n{"),
+    Step::Holds(22),
+    Step::Ends(Err(FrameFault::Cut)),
+];
+
+#[test]
+fn cut_in_a_content(rt: HostRuntime) {
+    answers_all(&rt, rt.alloc(), &CUT);
+}
+
+const EMPTY_CONTENT: [Step; 2] = [
+    Step::Gives(b"Content-Length: 0\r\n\r\nContent-Length", 21, b""),
+    Step::Ends(Ok(())),
+];
+
+#[test]
+fn empty_content(rt: HostRuntime) {
+    answers_all(&rt, rt.alloc(), &EMPTY_CONTENT);
+}
+
+const FIELDS_AND_CASE: [Step; 5] = [
+    Step::TakesEach(
+        b"Content-Type: application/json\r\ncontent-length:0015\r\n\r\n{ \"b\":1,\"a\":2 ",
+    ),
+    Step::Gives(b"}", 1, b"{ \"b\":1,\"a\":2 }"),
+    Step::Holds(0),
+    Step::Ends(Ok(())),
+    Step::Gives(b"CONTENT-LENGTH: \t3 \t\r\nX:\r\n\r\nabcd", 31, b"abc"),
+];
+
+#[test]
+fn header_fields_and_case(rt: HostRuntime) {
+    answers_all(&rt, rt.alloc(), &FIELDS_AND_CASE);
+}
+
+const AFTER_A_FAULT: [Step; 5] = [
+    Step::Refuses(b"X: 1\r\n\r\n", FrameFault::NoLength),
+    Step::Holds(0),
+    Step::Refuses(b"Content-Length: 0\r\n\r\n", FrameFault::NoLength),
+    Step::Ends(Err(FrameFault::NoLength)),
+    Step::Holds(0),
+];
+
+#[test]
+fn after_a_fault(rt: HostRuntime) {
+    answers_all(&rt, rt.alloc(), &AFTER_A_FAULT);
+}
+
+/// Whether `write_frame` answers so at the least limit of a header and this one of a content, and leaves this behind a text.
+fn writes(
+    alloc: Global,
+    (before, content, most): (&[u8], &[u8], usize),
+    answer: Result<(), FrameFault>,
+    after: &[u8],
+) -> bool {
+    let limits = FrameLimits {
+        header: 32,
+        content: most,
+    };
+    let Ok(mut out) = Vec::from_slice(alloc, before) else {
+        return false;
+    };
+    limits.sound() && write_frame(&mut out, content, limits) == answer && out.as_slice() == after
+}
+
+#[test]
+fn written_frames(rt: HostRuntime) {
+    for (before, content, after) in [
+        (
+            b"".as_slice(),
+            b"{}".as_slice(),
+            b"Content-Length: 2\r\n\r\n{}".as_slice(),
+        ),
+        (
+            b"Content-Length: 2\r\n\r\n{}",
+            b"hello, world",
+            b"Content-Length: 2\r\n\r\n{}Content-Length: 12\r\n\r\nhello, world",
+        ),
+    ] {
+        assert!(rt; writes(rt.alloc(), (before, content, 12), Ok(()), after));
+    }
+}
+
+#[test]
+fn written_content_too_long(rt: HostRuntime) {
+    let answer = Err(FrameFault::ContentTooLong);
+    assert!(rt; writes(rt.alloc(), (b"before", b"abc", 2), answer, b"before"));
+}
+
+const LIMITS_AND_WHETHER_SOUND: [(usize, usize, bool); 5] = [
+    (32, 0, true),
+    (31, 0, false),
+    (65_536, 2_147_483_647, true),
+    (65_537, 2_147_483_647, false),
+    (65_536, 2_147_483_648, false),
+];
+
+#[test]
+fn sound_limits(rt: HostRuntime) {
+    for (header, content, sound) in LIMITS_AND_WHETHER_SOUND {
+        assert!(rt; FrameLimits { header, content }.sound() == sound);
+    }
+}
+
+const TEXTS: [(FrameFault, &str); 8] = [
+    (FrameFault::HeaderLine, "HeaderLine"),
+    (FrameFault::NoLength, "NoLength"),
+    (FrameFault::TwoLengths, "TwoLengths"),
+    (FrameFault::BadLength, "BadLength"),
+    (FrameFault::HeaderTooLong, "HeaderTooLong"),
+    (FrameFault::ContentTooLong, "ContentTooLong"),
+    (FrameFault::Cut, "Cut"),
+    (FrameFault::Memory, "Memory"),
+];
+
+#[test]
+fn texts_of_faults(rt: HostRuntime) {
+    for (fault, text) in TEXTS {
+        assert!(rt; is_printed(rt.alloc(), &fault, text));
+    }
+}

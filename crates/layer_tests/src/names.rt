@@ -1,0 +1,247 @@
+//! Names for the ids of messages.
+use crate::lines::{INITIALIZE, INITIALIZE_RESPONSE, Line, THREADS, message};
+use crate::texts::is_printed;
+use dap_message::Message;
+use dap_rename::{NameFault, Names, PairFault, PlainNames, Tables, laws};
+use dap_tree::Side::{Adapter, Client};
+use dap_tree::Sort;
+use std::alloc::Global;
+use std::process::Abort;
+
+/// Names in plain tables of that limit.
+pub fn plain_names(alloc: Global, limit: u8) -> Names<PlainNames> {
+    let tables = Tables {
+        client_seq: PlainNames::new(alloc, limit as usize),
+        adapter_seq: PlainNames::new(alloc, limit as usize),
+        frame: PlainNames::new(alloc, limit as usize),
+        reference: PlainNames::new(alloc, limit as usize),
+    };
+    Names::new(alloc, tables)
+}
+
+/// The renamed message of a line.
+pub fn renamed(
+    alloc: Global,
+    names: &mut Names<PlainNames>,
+    line: Line,
+) -> Result<Message, NameFault> {
+    match message(alloc, line) {
+        Ok(message) => names.rename(message),
+        Err(_) => Err(NameFault::Memory),
+    }
+}
+
+/// A line that is renamed, and what it becomes.
+#[derive(Clone, Copy, Debug)]
+enum Step {
+    /// This content.
+    Text(Line, &'static str),
+    /// A message with these ids.
+    Ids(Line, &'static [(Sort, i64)]),
+    /// It is refused: there are too many names.
+    Full(Line),
+    /// No line: there are so many names of a sort.
+    Count(Sort, usize),
+}
+
+fn becomes(alloc: Global, names: &mut Names<PlainNames>, line: Line, text: &str) -> bool {
+    match renamed(alloc, names, line) {
+        Ok(message) => matches!(message.content(alloc), Ok(content) if content.as_str() == text),
+        Err(_) => false,
+    }
+}
+
+fn gets_ids(alloc: Global, names: &mut Names<PlainNames>, line: Line, ids: &[(Sort, i64)]) -> bool {
+    match renamed(alloc, names, line) {
+        Ok(message) => matches!(message.ids(alloc), Ok(found) if found.as_slice() == ids),
+        Err(_) => false,
+    }
+}
+
+fn is_full(alloc: Global, names: &mut Names<PlainNames>, line: Line) -> bool {
+    renamed(alloc, names, line).err() == Some(NameFault::Full)
+}
+
+fn answers(alloc: Global, names: &mut Names<PlainNames>, step: Step) -> bool {
+    match step {
+        Step::Text(line, text) => becomes(alloc, names, line, text),
+        Step::Ids(line, ids) => gets_ids(alloc, names, line, ids),
+        Step::Full(line) => is_full(alloc, names, line),
+        Step::Count(sort, count) => names.len(sort) == count,
+    }
+}
+
+/// Asks that new names of that limit answer so.
+fn answers_all(rt: &impl Abort, alloc: Global, limit: u8, steps: &[Step]) {
+    let mut names = plain_names(alloc, limit);
+    for step in steps {
+        assert!(rt; answers(alloc, &mut names, *step), "{step:?}");
+    }
+}
+
+const INITIALIZE_TEXT: &str =
+    "{\"arguments\":{\"adapterID\":\"mock\"},\"command\":\"initialize\",\"seq\":1,\"type\":\"request\"}";
+
+/// `initialize` with another adapter.
+const OTHER: Line = (
+    Client,
+    "{\"arguments\":{\"adapterID\":\"other\"},\"command\":\"initialize\",\"seq\":1,\"type\":\"request\"}",
+);
+
+const OTHER_TEXT: &str =
+    "{\"arguments\":{\"adapterID\":\"other\"},\"command\":\"initialize\",\"seq\":1,\"type\":\"request\"}";
+
+const FULL: [Step; 4] = [
+    Step::Text(INITIALIZE, INITIALIZE_TEXT),
+    Step::Full(THREADS),
+    Step::Count(Sort::ClientSeq, 1),
+    Step::Text(OTHER, OTHER_TEXT),
+];
+
+#[test]
+fn full_table_leaves_the_names(rt: HostRuntime) {
+    answers_all(&rt, rt.alloc(), 1, &FULL);
+}
+
+/// A request with two sequence numbers.
+const CANCEL: Line = (
+    Client,
+    "{\"arguments\":{\"requestId\":40},\"command\":\"cancel\",\"seq\":41,\"type\":\"request\"}",
+);
+
+/// The second of its sequence numbers is refused: the first gets no name either.
+const FULL_IN_THE_MIDDLE: [Step; 3] = [
+    Step::Full(CANCEL),
+    Step::Count(Sort::ClientSeq, 0),
+    Step::Text(INITIALIZE, INITIALIZE_TEXT),
+];
+
+#[test]
+fn full_in_the_middle_of_a_message(rt: HostRuntime) {
+    answers_all(&rt, rt.alloc(), 1, &FULL_IN_THE_MIDDLE);
+}
+
+pub const STACK_TRACE: Line = (
+    Client,
+    "{\"arguments\":{\"threadId\":1},\"command\":\"stackTrace\",\"seq\":2,\"type\":\"request\"}",
+);
+
+const STACK_TRACE_TEXT: &str =
+    "{\"arguments\":{\"threadId\":1},\"command\":\"stackTrace\",\"seq\":2,\"type\":\"request\"}";
+
+pub const TWO_FRAMES: Line = (
+    Adapter,
+    "{\"body\":{\"stackFrames\":[{\"column\":1,\"id\":1000,\"line\":3,\"name\":\"f\"},{\"column\":1,\"id\":1001,\"line\":9,\"name\":\"g\"}]},\"command\":\"stackTrace\",\"request_seq\":2,\"seq\":2,\"success\":true,\"type\":\"response\"}",
+);
+
+pub const FRAMES_EXCHANGED: Line = (
+    Adapter,
+    "{\"body\":{\"stackFrames\":[{\"column\":1,\"id\":1001,\"line\":3,\"name\":\"f\"},{\"column\":1,\"id\":1000,\"line\":9,\"name\":\"g\"}]},\"command\":\"stackTrace\",\"request_seq\":2,\"seq\":2,\"success\":true,\"type\":\"response\"}",
+);
+
+/// The content of either, renamed: 186 bytes.
+const FRAMES_NAMED: &str =
+    "{\"body\":{\"stackFrames\":[{\"column\":1,\"id\":1,\"line\":3,\"name\":\"f\"},{\"column\":1,\"id\":2,\"line\":9,\"name\":\"g\"}]},\"command\":\"stackTrace\",\"request_seq\":2,\"seq\":2,\"success\":true,\"type\":\"response\"}";
+
+const INITIALIZE_IDS: &[(Sort, i64)] = &[(Sort::ClientSeq, 1), (Sort::AdapterSeq, 1)];
+
+/// Asks that frames become the named ones.
+fn frames_become(rt: &impl Abort, alloc: Global, frames: Line) {
+    let steps = [
+        Step::Text(INITIALIZE, INITIALIZE_TEXT),
+        Step::Ids(INITIALIZE_RESPONSE, INITIALIZE_IDS),
+        Step::Text(STACK_TRACE, STACK_TRACE_TEXT),
+        Step::Text(frames, FRAMES_NAMED),
+        Step::Count(Sort::Frame, 2),
+    ];
+    answers_all(rt, alloc, 100, &steps);
+}
+
+#[test]
+fn exchanged_frame_ids(rt: HostRuntime) {
+    assert!(rt; FRAMES_NAMED.len() == 186);
+    frames_become(&rt, rt.alloc(), TWO_FRAMES);
+    frames_become(&rt, rt.alloc(), FRAMES_EXCHANGED);
+}
+
+const REFERENCES: [Step; 3] = [
+    Step::Text(
+        (
+            Client,
+            "{\"arguments\":{\"variablesReference\":9},\"command\":\"variables\",\"seq\":2,\"type\":\"request\"}",
+        ),
+        "{\"arguments\":{\"variablesReference\":1},\"command\":\"variables\",\"seq\":1,\"type\":\"request\"}",
+    ),
+    Step::Text(
+        (
+            Adapter,
+            "{\"body\":{\"variables\":[{\"name\":\"a\",\"value\":\"1\",\"variablesReference\":0},{\"name\":\"b\",\"value\":\"1\",\"variablesReference\":5},{\"name\":\"c\",\"value\":\"1\",\"variablesReference\":0},{\"name\":\"d\",\"value\":\"1\",\"variablesReference\":5},{\"name\":\"e\",\"value\":\"1\",\"variablesReference\":3}]},\"command\":\"variables\",\"request_seq\":2,\"seq\":2,\"success\":true,\"type\":\"response\"}",
+        ),
+        "{\"body\":{\"variables\":[{\"name\":\"a\",\"value\":\"1\",\"variablesReference\":0},{\"name\":\"b\",\"value\":\"1\",\"variablesReference\":2},{\"name\":\"c\",\"value\":\"1\",\"variablesReference\":0},{\"name\":\"d\",\"value\":\"1\",\"variablesReference\":2},{\"name\":\"e\",\"value\":\"1\",\"variablesReference\":3}]},\"command\":\"variables\",\"request_seq\":1,\"seq\":1,\"success\":true,\"type\":\"response\"}",
+    ),
+    Step::Count(Sort::Reference, 3),
+];
+
+#[test]
+fn references_of_variables(rt: HostRuntime) {
+    answers_all(&rt, rt.alloc(), 100, &REFERENCES);
+}
+
+const APART: [Step; 2] = [
+    Step::Ids(
+        (
+            Client,
+            "{\"arguments\":{\"expression\":\"x\",\"frameId\":5},\"command\":\"evaluate\",\"seq\":2,\"type\":\"request\"}",
+        ),
+        &[(Sort::Frame, 1), (Sort::ClientSeq, 1)],
+    ),
+    Step::Ids(
+        (
+            Adapter,
+            "{\"body\":{\"result\":\"1\",\"variablesReference\":6},\"command\":\"evaluate\",\"request_seq\":2,\"seq\":2,\"success\":true,\"type\":\"response\"}",
+        ),
+        &[
+            (Sort::Reference, 1),
+            (Sort::ClientSeq, 1),
+            (Sort::AdapterSeq, 1),
+        ],
+    ),
+];
+
+#[test]
+fn frames_apart_from_references(rt: HostRuntime) {
+    answers_all(&rt, rt.alloc(), 100, &APART);
+}
+
+const NAME_FAULTS: [(NameFault, &str); 2] = [
+    (NameFault::Full, "Full"),
+    (NameFault::Memory, "Memory"),
+];
+
+const PAIR_FAULTS: [(PairFault, &str); 4] = [
+    (PairFault::ZeroReference(1), "ZeroReference 1"),
+    (PairFault::FromTwice(2), "FromTwice 2"),
+    (PairFault::ToTwice(3), "ToTwice 3"),
+    (PairFault::Memory, "Memory"),
+];
+
+#[test]
+fn texts_of_faults(rt: HostRuntime) {
+    for (fault, text) in &NAME_FAULTS {
+        assert!(rt; is_printed(rt.alloc(), fault, text));
+    }
+    for (fault, text) in &PAIR_FAULTS {
+        assert!(rt; is_printed(rt.alloc(), fault, text));
+    }
+}
+
+#[test]
+fn laws_may_be_called() {
+    laws::same_is_equivalence();
+    laws::same_share();
+    laws::one_normal_form();
+    laws::some_normal_form();
+    laws::normal_form_grows();
+    laws::names_are_small();
+    laws::equal_places_carry();
+}

@@ -1,0 +1,232 @@
+//! Tables of names: a plain one, and those over an index set.
+use dap_rename::{IndexNames, NameFault, NameTable, PlainNames};
+use std::hash::{BuildHasherDefault, FoldHasher, RandomState};
+use std::process::Abort;
+
+/// The default of an index set.
+fn hasher() -> BuildHasherDefault<FoldHasher> {
+    BuildHasherDefault::new()
+}
+
+/// A call on a table, and its answer.
+#[derive(Clone, Copy, Debug)]
+enum Step {
+    Name(i64, Result<i64, NameFault>),
+    Find(i64, Option<i64>),
+    Len(usize),
+    /// The number with this name.
+    At(i64, i64),
+    Cut(usize),
+}
+
+fn has_at<T: NameTable>(table: &T, place: i64, number: i64) -> bool {
+    1 <= place && place <= table.len() as i64 && table.at(place) == number
+}
+
+/// Leaves the first names alone, if there are so many.
+fn cuts<T: NameTable>(table: &mut T, keep: usize) -> bool {
+    if table.len() < keep {
+        return false;
+    }
+    table.cut(keep);
+    table.len() == keep
+}
+
+fn answers<T: NameTable>(table: &mut T, step: Step) -> bool {
+    match step {
+        Step::Name(number, answer) => table.name(number) == answer,
+        Step::Find(number, answer) => table.find(number) == answer,
+        Step::Len(len) => table.len() == len,
+        Step::At(place, number) => has_at(table, place, number),
+        Step::Cut(keep) => cuts(table, keep),
+    }
+}
+
+/// Asks that a table answers these calls so.
+fn answers_all<T: NameTable>(rt: &impl Abort, table: &mut T, steps: &[Step]) {
+    for step in steps {
+        assert!(rt; answers(table, *step), "{step:?}");
+    }
+}
+
+const BY_FIRST_APPEARANCE: [Step; 12] = [
+    Step::Name(70, Ok(1)),
+    Step::Name(-3, Ok(2)),
+    Step::Name(70, Ok(1)),
+    Step::Name(0, Err(NameFault::Full)),
+    Step::Find(0, None),
+    Step::Find(-3, Some(2)),
+    Step::Len(2),
+    Step::At(1, 70),
+    Step::At(2, -3),
+    Step::Cut(1),
+    Step::Name(0, Ok(2)),
+    Step::Len(2),
+];
+
+#[test]
+fn names_by_first_appearance(rt: HostRuntime) {
+    let mut plain = PlainNames::new(rt.alloc(), 2);
+    answers_all(&rt, &mut plain, &BY_FIRST_APPEARANCE);
+    let mut index = IndexNames::new(rt.alloc(), 2, hasher());
+    answers_all(&rt, &mut index, &BY_FIRST_APPEARANCE);
+}
+
+#[test]
+fn names_by_random_hashes(rt: HostRuntime) {
+    let words = RandomState::new(&rt).expect(&rt, "no random words");
+    let mut table = IndexNames::new(rt.alloc(), 2, words);
+    answers_all(&rt, &mut table, &BY_FIRST_APPEARANCE);
+}
+
+const AFTER_A_CUT: [Step; 21] = [
+    Step::Name(7, Ok(1)),
+    Step::Name(-7, Ok(2)),
+    Step::Name(7, Ok(1)),
+    Step::Name(0, Ok(3)),
+    Step::Name(5, Err(NameFault::Full)),
+    Step::Name(0, Ok(3)),
+    Step::Find(5, None),
+    Step::Find(-7, Some(2)),
+    Step::Len(3),
+    Step::At(1, 7),
+    Step::At(2, -7),
+    Step::At(3, 0),
+    Step::Cut(1),
+    Step::Find(-7, None),
+    Step::Find(0, None),
+    Step::Find(7, Some(1)),
+    Step::Name(5, Ok(2)),
+    Step::Name(-7, Ok(3)),
+    Step::Name(0, Err(NameFault::Full)),
+    Step::Len(3),
+    Step::At(2, 5),
+];
+
+#[test]
+fn names_after_a_cut(rt: HostRuntime) {
+    let mut table = IndexNames::new(rt.alloc(), 3, hasher());
+    answers_all(&rt, &mut table, &AFTER_A_CUT);
+}
+
+const NO_NAME: [Step; 3] = [
+    Step::Name(1, Err(NameFault::Full)),
+    Step::Find(1, None),
+    Step::Len(0),
+];
+
+#[test]
+fn no_name_at_limit_zero(rt: HostRuntime) {
+    let mut table = IndexNames::new(rt.alloc(), 0, hasher());
+    answers_all(&rt, &mut table, &NO_NAME);
+}
+
+const BOTH_ENDS: [Step; 6] = [
+    Step::Name(i64::MAX, Ok(1)),
+    Step::Name(i64::MIN, Ok(2)),
+    Step::Name(0, Ok(3)),
+    Step::Find(i64::MAX, Some(1)),
+    Step::Find(i64::MIN, Some(2)),
+    Step::Find(0, Some(3)),
+];
+
+#[test]
+fn numbers_at_both_ends(rt: HostRuntime) {
+    let mut table = IndexNames::new(rt.alloc(), 3, hasher());
+    answers_all(&rt, &mut table, &BOTH_ENDS);
+}
+
+/// A number for each index, in neither order, of both signs, and no two equal.
+fn scattered(index: u32) -> i64 {
+    (index as i64 * 7919) % 100_003 - 50_000
+}
+
+/// Whether the tables have as many names, and tell the same name of this number.
+fn agree<A: NameTable, B: NameTable>(a: &A, b: &B, number: i64) -> bool {
+    a.len() == b.len() && a.find(number) == b.find(number)
+}
+
+/// Whether the tables give one name to this number, and agree behind that.
+fn name_alike<A: NameTable, B: NameTable>(a: &mut A, b: &mut B, number: i64) -> bool {
+    a.name(number) == b.name(number) && agree(a, b, number)
+}
+
+/// Whether the tables have the same numbers at the same places, so many.
+fn have_equal_numbers<A: NameTable, B: NameTable>(a: &A, b: &B, count: usize) -> bool {
+    if a.len() != count || b.len() != count {
+        return false;
+    }
+    for before in 0..count {
+        let place = before as i64 + 1;
+        if a.at(place) != b.at(place) {
+            return false;
+        }
+    }
+    true
+}
+
+/// 45 numbers come, each of them twice, and the tables fill up; then all but 15 names are cut.
+fn fills_and_cuts<A: NameTable, B: NameTable>(rt: &impl Abort, a: &mut A, b: &mut B, round: u32) {
+    assert!(rt; round < 4);
+    for step in 0..90u32 {
+        assert!(rt; name_alike(a, b, scattered(step * 7 % 45 + round)));
+    }
+    assert!(rt; have_equal_numbers(a, b, 40));
+    assert!(rt; cuts(a, 15) && cuts(b, 15));
+    for step in 0..48u32 {
+        assert!(rt; agree(a, b, scattered(step)));
+    }
+}
+
+#[test]
+fn answers_as_a_plain_table(rt: HostRuntime) {
+    let mut plain = PlainNames::new(rt.alloc(), 40);
+    let mut index = IndexNames::new(rt.alloc(), 40, hasher());
+    for round in 0..4u32 {
+        fills_and_cuts(&rt, &mut plain, &mut index, round);
+    }
+}
+
+/// Names so many scattered numbers, and finds them.
+fn names_scattered<T: NameTable>(rt: &impl Abort, table: &mut T, count: u32) {
+    for index in 0..count {
+        assert!(rt; table.name(scattered(index)) == Ok(index as i64 + 1));
+    }
+    for index in 0..count {
+        assert!(rt; table.find(scattered(index)) == Some(index as i64 + 1));
+    }
+}
+
+/// Whether just the first ten of so many scattered numbers have names.
+fn has_ten<T: NameTable>(table: &T, count: u32) -> bool {
+    for index in 0..count {
+        let name = if index < 10 {
+            Some(index as i64 + 1)
+        } else {
+            None
+        };
+        if table.find(scattered(index)) != name {
+            return false;
+        }
+    }
+    true
+}
+
+const BEHIND_TEN: [Step; 3] = [
+    Step::Name(18327, Ok(11)),
+    Step::Len(11),
+    Step::At(11, 18327),
+];
+
+/// A scan from the front would take five thousand million steps here.
+#[test]
+fn many_numbers_and_a_cut(rt: HostRuntime) {
+    let mut table = IndexNames::new(rt.alloc(), 100_000, hasher());
+    names_scattered(&rt, &mut table, 100_000);
+    assert!(rt; table.len() == 100_000);
+    assert!(rt; table.name(60_000) == Err(NameFault::Full));
+    assert!(rt; cuts(&mut table, 10));
+    assert!(rt; has_ten(&table, 100_000));
+    assert!(rt; scattered(99_999) == 18327);
+    answers_all(&rt, &mut table, &BEHIND_TEN);
+}

@@ -1,0 +1,362 @@
+//! Trees read, looked into, changed, copied and written.
+use crate::texts::is_printed;
+use dap_tree::{Side, Sort, Tree, TreeFault, laws, read_tree, write_tree};
+use std::alloc::Global;
+use std::process::Abort;
+
+/// Whether the tree is sound and written so.
+pub fn is_written(alloc: Global, tree: &Tree, text: &str) -> bool {
+    tree.sound() && matches!(write_tree(alloc, tree), Ok(written) if written.as_str() == text)
+}
+
+/// A content, and the text of its tree, or why it has none.
+type Reading = (&'static [u8], Result<&'static str, TreeFault>);
+
+/// Asks that a content is read so.
+fn reads(rt: &impl Abort, alloc: Global, (content, wanted): Reading) {
+    match (read_tree(alloc, content), wanted) {
+        (Ok(tree), Ok(text)) => assert!(rt; is_written(alloc, &tree, text), "{text}"),
+        (Err(fault), Err(wanted)) => assert_eq!(rt; fault, wanted),
+        _ => assert!(rt; false, "{wanted:?}"),
+    }
+}
+
+const NUMBERS: [Reading; 6] = [
+    (b"18446744073709551615", Ok("18446744073709551615")),
+    (b"-9223372036854775808", Ok("-9223372036854775808")),
+    (b"18446744073709551616", Err(TreeFault::Fraction)),
+    (b"-9223372036854775809", Err(TreeFault::Fraction)),
+    (b"-0", Err(TreeFault::Fraction)),
+    (b"[1e3]", Err(TreeFault::Fraction)),
+];
+
+#[test]
+fn whole_numbers(rt: HostRuntime) {
+    for reading in NUMBERS {
+        reads(&rt, rt.alloc(), reading);
+    }
+}
+
+const CONTENTS: [Reading; 5] = [
+    (b" [ 0 ]\n", Ok("[0]")),
+    (b"", Err(TreeFault::Json)),
+    (b"[0", Err(TreeFault::Json)),
+    (b"[1e999]", Err(TreeFault::Json)),
+    (b"\"\xff\"", Err(TreeFault::Json)),
+];
+
+#[test]
+fn json_and_other_contents(rt: HostRuntime) {
+    for reading in CONTENTS {
+        reads(&rt, rt.alloc(), reading);
+    }
+}
+
+/// A text of 17 bytes.
+const UNESCAPED: &str = "{\"a\":\"\u{e9}/\\u0001\"}";
+
+#[test]
+fn escapes(rt: HostRuntime) {
+    assert!(rt; UNESCAPED.len() == 17);
+    let content = b"{\"a\":\"\\u00e9\\/\\u0001\"}";
+    reads(&rt, rt.alloc(), (content, Ok(UNESCAPED)));
+}
+
+#[test]
+fn members_by_name(rt: HostRuntime) {
+    let content = b"{\"b\":1,\"a\":[true,null],\"B\":{},\"b\":2,\"\":3}";
+    let text = "{\"\":3,\"B\":{},\"a\":[true,null],\"b\":2}";
+    reads(&rt, rt.alloc(), (content, Ok(text)));
+}
+
+fn nested_text(alloc: Global, levels: usize) -> Result<String, TreeFault> {
+    let mut text = String::new(alloc);
+    for _ in 0..levels {
+        text.push_str("[")?;
+    }
+    for _ in 0..levels {
+        text.push_str("]")?;
+    }
+    Ok(text)
+}
+
+fn nested_tree(alloc: Global, levels: usize) -> Result<Tree, TreeFault> {
+    let mut tree = Tree::List(Vec::new(alloc));
+    for _ in 1..levels {
+        let mut items = Vec::new(alloc);
+        items.push(tree)?;
+        tree = Tree::List(items);
+    }
+    Ok(tree)
+}
+
+/// Whether the tree of a text, and a copy of it, are written so again.
+fn stays(alloc: Global, text: &str) -> bool {
+    match read_tree(alloc, text.as_bytes()) {
+        Ok(tree) => is_written(alloc, &tree, text) && is_copied(alloc, &tree, text),
+        Err(_) => false,
+    }
+}
+
+/// Whether a copy of the tree is sound and written so.
+pub fn is_copied(alloc: Global, tree: &Tree, text: &str) -> bool {
+    match tree.copy(alloc) {
+        Ok(copy) => is_written(alloc, &copy, text),
+        Err(_) => false,
+    }
+}
+
+fn is_nested_too_deep(alloc: Global, levels: usize) -> bool {
+    match nested_text(alloc, levels) {
+        Ok(text) => read_tree(alloc, text.as_bytes()).err() == Some(TreeFault::Json),
+        Err(_) => false,
+    }
+}
+
+#[test]
+fn nesting(rt: HostRuntime) {
+    let alloc = rt.alloc();
+    assert!(rt; matches!(nested_text(alloc, 127), Ok(text) if stays(alloc, text.as_str())));
+    assert!(rt; is_nested_too_deep(alloc, 128));
+}
+
+/// Numbers, and whether a tree of each is sound.
+const WHOLE: [(i128, bool); 4] = [
+    (18_446_744_073_709_551_615, true),
+    (18_446_744_073_709_551_616, false),
+    (-9_223_372_036_854_775_808, true),
+    (-9_223_372_036_854_775_809, false),
+];
+
+fn is_sound(number: i128) -> bool {
+    Tree::Whole(number).sound()
+}
+
+fn is_sound_at(alloc: Global, levels: usize) -> Option<bool> {
+    match nested_tree(alloc, levels) {
+        Ok(tree) => Some(tree.sound()),
+        Err(_) => None,
+    }
+}
+
+#[test]
+fn sound_trees(rt: HostRuntime) {
+    for (number, sound) in WHOLE {
+        assert!(rt; is_sound(number) == sound);
+    }
+    assert!(rt; is_sound_at(rt.alloc(), 127) == Some(true));
+    assert!(rt; is_sound_at(rt.alloc(), 128) == Some(false));
+}
+
+/// Whether the member is this number.
+fn has_number(tree: &Tree, name: &str, number: i128) -> bool {
+    matches!(tree.child(name), Some(Tree::Whole(found)) if *found == number)
+}
+
+/// Whether the number takes the place of a member that was this one.
+fn sets(tree: &mut Tree, name: &str, number: i128, before: i128) -> bool {
+    matches!(tree.set_child(name, Tree::Whole(number)), Ok(Tree::Whole(found)) if found == before)
+}
+
+/// Whether there is no such member to be set: the value is given back.
+fn sets_none(tree: &mut Tree, name: &str) -> bool {
+    matches!(tree.set_child(name, Tree::Null), Err(Tree::Null))
+}
+
+/// Whether there is no such member, to be read or changed.
+fn has_none(tree: &mut Tree, name: &str) -> bool {
+    tree.child(name).is_none() && tree.child_mut(name).is_none()
+}
+
+fn put(tree: &mut Tree, name: &str, number: i128) {
+    if let Some(child) = tree.child_mut(name) {
+        *child = Tree::Whole(number);
+    }
+}
+
+/// Whether members are told and changed.
+fn has_members(alloc: Global) -> bool {
+    let Ok(mut tree) = read_tree(alloc, b"{\"a\":1}") else {
+        return false;
+    };
+    if !has_number(&tree, "a", 1) || !has_none(&mut tree, "b") {
+        return false;
+    }
+    put(&mut tree, "a", 2);
+    is_written(alloc, &tree, "{\"a\":2}")
+        && sets(&mut tree, "a", 3, 2)
+        && sets_none(&mut tree, "b")
+        && has_number(&tree, "a", 3)
+}
+
+#[test]
+fn members(rt: HostRuntime) {
+    let alloc = rt.alloc();
+    assert!(rt; has_members(alloc));
+    assert!(rt; Tree::List(Vec::new(alloc)).child("a").is_none());
+}
+
+/// Whether members are lent, and those alone that are there.
+fn lends_members(tree: &mut Tree) -> bool {
+    tree.with_child("a", |child| {
+        *child = Tree::Bool(true);
+    });
+    tree.with_child("b", |child| {
+        *child = Tree::Bool(false);
+    });
+    matches!(tree.child("a"), Some(Tree::Bool(true)))
+}
+
+fn has_one_member(tree: &mut Tree) -> bool {
+    matches!(tree.members_mut(), Some(members) if members.len() == 1)
+}
+
+#[test]
+fn lent_members(rt: HostRuntime) {
+    match read_tree(rt.alloc(), b"{\"a\":1}") {
+        Ok(mut tree) => {
+            assert!(rt; lends_members(&mut tree));
+            assert!(rt; has_one_member(&mut tree));
+        }
+        Err(_) => assert!(rt; false, "no tree"),
+    }
+    assert!(rt; Tree::Null.members_mut().is_none());
+}
+
+/// The tree of an evaluate request, with ids in the place of its two numbers.
+fn evaluate_request(alloc: Global) -> Result<Tree, TreeFault> {
+    let mut tree = read_tree(
+        alloc,
+        b"{\"type\":\"request\",\"seq\":2,\"command\":\"evaluate\",\"arguments\":{\"frameId\":7,\"expression\":\"x\"}}",
+    )?;
+    drop(tree.set_child("seq", Tree::Id(Sort::ClientSeq, 2)));
+    tree.with_child("arguments", |arguments| {
+        drop(arguments.set_child("frameId", Tree::Id(Sort::Frame, 7)));
+    });
+    Ok(tree)
+}
+
+fn has_ids(alloc: Global, tree: &Tree, ids: &[(Sort, i64)]) -> bool {
+    let mut found = Vec::new(alloc);
+    tree.add_ids(&mut found).is_ok() && found.as_slice() == ids
+}
+
+#[test]
+fn ids_in_the_order_of_the_text(rt: HostRuntime) {
+    let alloc = rt.alloc();
+    let ids = [(Sort::Frame, 7), (Sort::ClientSeq, 2)];
+    assert!(rt; matches!(evaluate_request(alloc), Ok(tree) if has_ids(alloc, &tree, &ids)));
+}
+
+/// Whether an evaluate request has two ids, and is written so when these numbers take their places.
+fn is_replaced(alloc: Global, numbers: &[i64; 2], text: &str) -> bool {
+    let Ok(mut tree) = evaluate_request(alloc) else {
+        return false;
+    };
+    let mut found = Vec::new(alloc);
+    if tree.add_ids(&mut found).is_err() || found.len() != 2 || !tree.sound() {
+        return false;
+    }
+    laws::numbers_ids();
+    tree.replace_ids(numbers);
+    is_written(alloc, &tree, text)
+}
+
+#[test]
+fn replaced_ids(rt: HostRuntime) {
+    let text =
+        "{\"arguments\":{\"expression\":\"x\",\"frameId\":4},\"command\":\"evaluate\",\"seq\":9,\"type\":\"request\"}";
+    assert!(rt; is_replaced(rt.alloc(), &[4, 9], text));
+}
+
+/// Whether an evaluate request is sound and not plain.
+fn has_sound_ids(alloc: Global) -> bool {
+    match evaluate_request(alloc) {
+        Ok(tree) => tree.sound() && !tree.plain(),
+        Err(_) => false,
+    }
+}
+
+#[test]
+fn plain_trees(rt: HostRuntime) {
+    assert!(rt; Tree::Whole(1).plain());
+    assert!(rt; !Tree::Id(Sort::Frame, 1).plain());
+    assert!(rt; !Tree::Whole(18446744073709551616).plain());
+    assert!(rt; has_sound_ids(rt.alloc()));
+}
+
+/// Whether a copy of the tree has the ids of an evaluate request in their places.
+fn is_copied_with_ids(alloc: Global, tree: &Tree) -> bool {
+    match tree.copy(alloc) {
+        Ok(copy) => has_seq(&copy) && matches!(copy.child("arguments"), Some(it) if has_frame(it)),
+        Err(_) => false,
+    }
+}
+
+fn has_seq(tree: &Tree) -> bool {
+    matches!(tree.child("seq"), Some(Tree::Id(Sort::ClientSeq, 2)))
+}
+
+fn has_frame(tree: &Tree) -> bool {
+    matches!(tree.child("frameId"), Some(Tree::Id(Sort::Frame, 7)))
+}
+
+#[test]
+fn copied_ids(rt: HostRuntime) {
+    let alloc = rt.alloc();
+    assert!(rt; matches!(evaluate_request(alloc), Ok(tree) if is_copied_with_ids(alloc, &tree)));
+}
+
+/// A list of two ids.
+fn ids(alloc: Global) -> Result<Tree, TreeFault> {
+    let mut items = Vec::new(alloc);
+    items.push(Tree::Id(Sort::AdapterSeq, -9223372036854775808))?;
+    items.push(Tree::Id(Sort::Reference, 9223372036854775807))?;
+    Ok(Tree::List(items))
+}
+
+#[test]
+fn ids_written_as_numbers(rt: HostRuntime) {
+    let alloc = rt.alloc();
+    let text = "[-9223372036854775808,9223372036854775807]";
+    assert!(rt; matches!(ids(alloc), Ok(tree) if is_written(alloc, &tree, text)));
+}
+
+#[test]
+fn side_texts(rt: HostRuntime) {
+    for (side, text) in [(Side::Client, "client"), (Side::Adapter, "adapter")] {
+        assert!(rt; is_printed(rt.alloc(), &side, text));
+    }
+}
+
+#[test]
+fn order_of_sorts(rt: HostRuntime) {
+    assert!(rt;
+        Sort::ClientSeq < Sort::AdapterSeq
+            && Sort::AdapterSeq < Sort::Frame
+            && Sort::Frame < Sort::Reference
+    );
+}
+
+#[test]
+fn fault_texts(rt: HostRuntime) {
+    for (fault, text) in [
+        (TreeFault::Json, "Json"),
+        (TreeFault::Fraction, "Fraction"),
+        (TreeFault::Memory, "Memory"),
+    ] {
+        assert!(rt; is_printed(rt.alloc(), &fault, text));
+    }
+}
+
+#[test]
+fn law_functions_return() {
+    laws::one_outcome();
+    laws::read_is_plain();
+    laws::changes_one_member();
+    laws::changes_items();
+    laws::numbers_ids();
+    laws::skeletons_are_all_but_numbers();
+    laws::ids_are_written_as_numbers();
+    laws::ids_stand_by_path();
+}

@@ -1,0 +1,81 @@
+"""What the gate costs: minutes of one processor for each crate's proof, its tests' proof and its must-fail edits.
+
+Read off the provers that run, once a second, by their command lines; so of a prover that ended at most a second is missing.
+`tests/all.py` prints the table behind the gate. By itself this watches provers that run already, until they have been gone for a minute."""
+import collections
+import glob
+import os
+import sys
+import threading
+import time
+
+TICK = os.sysconf("SC_CLK_TCK")
+PARTS = ("proof", "tests", "edits")
+
+
+def prover(process):
+    """Which crate a process proves and which part of it, and how many seconds it has taken; None where it is no prover."""
+    try:
+        with open(f"{process}/cmdline", "rb") as file:
+            words = file.read().decode(errors="replace").split("\0")
+        if os.path.basename(words[0]) != "rattle" or "--crate-name" not in words:
+            return None
+        with open(f"{process}/stat", encoding="utf-8", errors="replace") as file:
+            fields = file.read().rsplit(")", 1)[1].split()
+        folder = os.readlink(f"{process}/cwd")
+    except (OSError, IndexError):
+        return None
+    crate = words[words.index("--crate-name") + 1]
+    part = "edits" if "/rt-edit-" in folder else "tests" if "--test" in words else "proof"
+    # its own time, and that of its children that have ended
+    return (crate, part), fields[19], sum(int(fields[it]) for it in (11, 12, 13, 14)) / TICK
+
+
+class Cost:
+    """Adds up what provers take, from its making until `close`."""
+
+    def __init__(self):
+        self.taken = {}
+        self.ended = threading.Event()
+        self.seen = time.monotonic()
+        self.watcher = threading.Thread(target=self.watch, daemon=True)
+        self.watcher.start()
+
+    def watch(self):
+        while not self.ended.wait(1):
+            for process in glob.glob("/proc/[0-9]*"):
+                found = prover(process)
+                if found:
+                    key, begun, seconds = found
+                    self.taken[process, begun] = key, seconds
+                    self.seen = time.monotonic()
+
+    def close(self):
+        self.ended.set()
+        self.watcher.join()
+
+    def table(self):
+        """The lines of the table, the dearest crate first."""
+        minutes = collections.defaultdict(lambda: collections.Counter())
+        for (crate, part), seconds in self.taken.values():
+            minutes[crate][part] += seconds / 60
+        lines = [f"{'minutes of one processor':26}" + "".join(f"{part:>8}" for part in PARTS) + f"{'all':>8}"]
+        total = collections.Counter()
+        for crate, parts in sorted(minutes.items(), key=lambda it: -it[1].total()):
+            total += parts
+            lines.append(f"{crate:26}" + "".join(f"{parts[part]:8.1f}" for part in PARTS) + f"{parts.total():8.1f}")
+        lines.append(f"{'all':26}" + "".join(f"{total[part]:8.1f}" for part in PARTS) + f"{total.total():8.1f}")
+        return lines
+
+
+def main():
+    cost = Cost()
+    while time.monotonic() - cost.seen < 60:
+        time.sleep(5)
+    cost.close()
+    print("\n".join(cost.table()))
+    return 0
+
+
+if __name__ == "__main__":
+    sys.exit(main())
