@@ -1,4 +1,5 @@
-"""Checks that the documents name what there is: the contracts of docs/PROMISES.md, the files that links lead to, the make targets."""
+"""Checks that the documents name what there is: the contracts of docs/PROMISES.md, the files that links lead to and that are named, the make
+targets; and that docs/FAULTS.md has each fault."""
 import glob
 import os
 import re
@@ -58,6 +59,26 @@ def links(report):
                 report.check(f"{os.path.relpath(path, TOP)} leads to {target}", os.path.exists(os.path.join(os.path.dirname(path), target)))
 
 
+def files(report):
+    """Files of the crates that are named in full, as `dap_frame/specs/Frame.antt`."""
+    for path in [os.path.join(TOP, "README.md"), *glob.glob(os.path.join(TOP, "docs", "*.md"))]:
+        with open(path, encoding="utf-8") as file:
+            for name in re.findall(r"`(?:crates/)?((?:dap\w+|layer_tests|conformance)/[\w/]+\.(?:antt|rt))`", file.read()):
+                report.check(f"{os.path.relpath(path, TOP)} names the file {name}", os.path.exists(os.path.join(TOP, "crates", name)))
+
+
+def faults(report):
+    with open(os.path.join(TOP, "docs", "FAULTS.md"), encoding="utf-8") as file:
+        told = file.read()
+    for crate in ("dap_frame", "dap_tree", "dap_message", "dap_recording", "dap_session", "dap_input"):
+        for text in sources(crate):
+            for fault in re.findall(r"#\[error\(\"([^\"]+)\"\)\]", text):
+                name = re.sub(r"^(?:record|piece) ", "", re.sub(r"[:,]? *\{\d\}[:,]? *", " ", fault)).split()
+                for word in name:
+                    if word != "Memory":
+                        report.check(f"docs/FAULTS.md has {word} of {fault}", word in told)
+
+
 def targets(report):
     with open(os.path.join(TOP, "Makefile"), encoding="utf-8") as file:
         made = set(re.findall(r"^(\w+):", file.read(), re.MULTILINE))
@@ -71,6 +92,8 @@ def main():
     promises(report)
     links(report)
     targets(report)
+    files(report)
+    faults(report)
     return report.close()
 
 
