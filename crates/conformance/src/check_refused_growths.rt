@@ -1,6 +1,8 @@
-//! Each growth of `check` refused in turn: the answer is that of ample memory, or want of memory, and never another.
+//! Each growth of `check` refused in turn: the answer is that of ample memory, or want of memory,
+//! and never another.
 //!
-//! tests/fault_injection.py runs these under a shim that refuses. Without it each makes one turn with ample memory.
+//! tests/fault_injection.py runs these under a shim that refuses. Without it each makes one turn
+//! with ample memory.
 use crate::check_lines::NO_SOURCE;
 use crate::checking::{Answer, OPEN};
 use crate::devices::whole;

@@ -178,7 +178,8 @@ fn refused_envelopes(rt: HostRuntime) {
     checks_lines(&rt, rt.alloc(), &LEAST, accepted(1, 1, 0));
 }
 
-/// A recording whose second record is no message, whose third breaks a rule, and bytes behind that are no record.
+/// A recording whose second record is no message, whose third breaks a rule, and bytes behind that
+/// are no record.
 pub fn several_faults(rt: &impl Abort, alloc: Global) -> Vec<u8> {
     let lines = [INITIALIZE, ("<", "[]"), INITIALIZE_RESPONSE];
     let mut bytes = recording(rt, alloc, &lines);
@@ -281,7 +282,12 @@ fn nested_content(alloc: Global, levels: usize) -> Result<String, AllocError> {
 
 /// A recording whose third record has so many lists in one another.
 pub fn nested(rt: &impl Abort, alloc: Global, levels: usize) -> Vec<u8> {
-    let mut bytes = recording(rt, alloc, &[INITIALIZE, INITIALIZE_RESPONSE]);
+    nested_behind(rt, alloc, &[INITIALIZE, INITIALIZE_RESPONSE], levels)
+}
+
+/// The same behind these records.
+pub fn nested_behind(rt: &impl Abort, alloc: Global, lines: &[Line], levels: usize) -> Vec<u8> {
+    let mut bytes = recording(rt, alloc, lines);
     let content = nested_content(alloc, levels).expect(rt, "no memory");
     add_record(alloc, &mut bytes, ">", content.as_str()).expect(rt, "no memory");
     bytes
@@ -326,7 +332,8 @@ fn cut_at(place: usize) -> Answer {
     }
 }
 
-/// The same where open requests are refused. That requests are open is not told of a recording that was cut.
+/// The same where open requests are refused. That requests are open is not told of a recording that
+/// was cut.
 fn incomplete_at(place: usize) -> Answer {
     match cut_at(place) {
         Ok(told) if told.client_open != 0 => Err(Refused::Incomplete(told.client_open, 0)),

@@ -8,7 +8,8 @@ use dapnorm::{Limits, RecordCause, Refused};
 use std::alloc::Global;
 use std::process::Abort;
 
-/// Asks for what `compact` answers and writes.
+/// Asks for what `compact` answers and writes, also where the input comes and goes a byte at a
+/// time.
 fn compacts(
     rt: &impl Abort,
     alloc: Global,
@@ -17,6 +18,8 @@ fn compacts(
     written: &[u8],
 ) {
     asks_memory(rt, alloc, Engine::Compact, (input, LIMITS), wanted, written);
+    let by_bytes = by_pieces(run_of(Engine::Compact, input), 1);
+    asks(rt, alloc, by_bytes, wanted, written);
 }
 
 /// Contents and their canonical forms.
@@ -122,6 +125,28 @@ fn refused_frames(rt: HostRuntime) {
     }
 }
 
+/// A frame whose header part has 25 bytes and so many more.
+fn padded(rt: &impl Abort, alloc: Global, count: usize) -> Vec<u8> {
+    let mut input = Vec::from_slice(alloc, b"Content-Length: 2\r\nX:").expect(rt, "no memory");
+    let length = input.len().saturating_add(count);
+    input.resize(length, b'a').expect(rt, "no memory");
+    input
+        .extend_from_slice(b"\r\n\r\n{}")
+        .expect(rt, "no memory");
+    input
+}
+
+#[test]
+fn a_header_part_of_4096_bytes(rt: HostRuntime) {
+    let longest = padded(&rt, rt.alloc(), 4071);
+    let written = b"Content-Length: 2\r\n\r\n{}";
+    compacts(&rt, rt.alloc(), longest.as_slice(), Ok(()), written);
+    let longer = padded(&rt, rt.alloc(), 4072);
+    let cause = RecordCause::Frame(FrameFault::HeaderTooLong);
+    let refused = Err(Refused::Record(1, cause));
+    compacts(&rt, rt.alloc(), longer.as_slice(), refused, b"");
+}
+
 /// Without the space behind the colon the header has a byte less than the one that is written.
 const SHORT: &[u8] = b"Content-Length:2\r\n\r\n{}";
 
@@ -142,7 +167,8 @@ const LIMITED: [Limited; 8] = [
     ),
     (SHORT, 16_777_216, 22, Err(Refused::Grew(1))),
     (SHORT, 16_777_216, 23, Ok(b"Content-Length: 2\r\n\r\n{}")),
-    // An escape in six bytes of input becomes a character of one byte, and a character of one byte an escape.
+    // An escape in six bytes of input becomes a character of one byte, and a character of one byte
+    // an escape.
     (DELETE, 3, 37, Ok(DELETE)),
     (b"", 0, 0, Ok(b"")),
     (b"C", 0, 0, Err(Refused::InputTooLong(1))),

@@ -1,7 +1,8 @@
-//! Each growth of `compare` and of renamings refused in turn: the answer is that of ample memory, or want of memory, and
-//! never another.
+//! Each growth of `compare` and of renamings refused in turn: the answer is that of ample memory,
+//! or want of memory, and never another.
 //!
-//! tests/fault_injection.py runs these under a shim that refuses. Without it each makes one turn with ample memory.
+//! tests/fault_injection.py runs these under a shim that refuses. Without it each makes one turn
+//! with ample memory.
 use crate::comparing::{EXCHANGED, FRAMES};
 use crate::devices::whole;
 use crate::engines::compare_status;

@@ -205,7 +205,8 @@ fn a_front_of_a_recording_differs_where_it_ends(rt: HostRuntime) {
     prints(&rt, rt.alloc(), &CONFIGURING, &CONFIGURED, 1, b"differ 5\n");
 }
 
-/// A recording that differs from the configured session at the third record, and is no recording behind it.
+/// A recording that differs from the configured session at the third record, and is no recording
+/// behind it.
 pub fn faulty_behind_a_difference(rt: &impl Abort, alloc: Global) -> Vec<u8> {
     let mut bytes = recording(rt, alloc, &UNNUMBERED[..4]);
     bytes.push(b'!').expect(rt, "no memory");
@@ -220,7 +221,8 @@ fn nothing_is_judged_behind_a_difference(rt: HostRuntime) {
     tells_both(&rt, rt.alloc(), both, 1, b"differ 3\n", b"");
 }
 
-/// Asks that a second response is refused in this one of two inputs, and for the line that tells it.
+/// Asks that a second response is refused in this one of two inputs, and for the line that tells
+/// it.
 fn refuses_input(rt: &impl Abort, alloc: Global, both: (&[u8], &[u8]), which: Which, line: &[u8]) {
     let refused = CompareRefused::Input(which, Refused::Rule(3, Rule::AnsweredTwice));
     asks_memory_compare(rt, alloc, both, Compared::Refused(refused));

@@ -1,4 +1,5 @@
-//! Devices for tests, which give and take little at a time and fail where a test says so. They tell no bytes.
+//! Devices for tests, which give and take little at a time and fail where a test says so. They tell
+//! no bytes.
 ghost use Rattle.std.specs.Prelude.{◌≡◌, None, IfOk};
 
 use dapnorm::{DeviceFault, Sink, Source};

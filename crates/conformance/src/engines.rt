@@ -1,4 +1,5 @@
-//! The calls of `dapnorm` behind functions that promise nothing, so that the tests are cheap to prove.
+//! The calls of `dapnorm` behind functions that promise nothing, so that the tests are cheap to
+//! prove.
 ghost use Rattle.std.specs.Prelude.{◌≡◌, ◌<◌, ◌≤◌, ◌^◌, IsTrue};
 ghost use Rattle.dapnorm.specs.Limits.{AreSound};
 

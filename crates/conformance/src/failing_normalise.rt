@@ -38,7 +38,8 @@ fn a_broken_rule_comes_before_a_reader_that_fails(rt: HostRuntime) {
     assert!(rt; counts.flushes == 1);
 }
 
-/// Asks for a write fault and a front of the normal text where the writer fails so, at each place of the text.
+/// Asks for a write fault and a front of the normal text where the writer fails so, at each place
+/// of the text.
 fn fails_to_write(rt: &impl Abort, alloc: Global, failing: Failing) {
     let bytes = recording(rt, alloc, &CONFIGURED);
     let normal = recording(rt, alloc, &NORMAL_CONFIGURED);
@@ -76,7 +77,8 @@ fn a_normal_text_may_go_out_byte_by_byte(rt: HostRuntime) {
     assert!(rt; counts.flushes == 1);
 }
 
-/// Asks for a write fault where the flush fails, and the reader behind so many bytes, with so many bytes written.
+/// Asks for a write fault where the flush fails, and the reader behind so many bytes, with so many
+/// bytes written.
 fn fails_to_flush(rt: &impl Abort, alloc: Global, (bytes, fails_at): (&[u8], u64), written: usize) {
     let normal = recording(rt, alloc, &NORMAL_CONFIGURED);
     let run = failing_reader(run_of(Engine::Normalise, bytes), fails_at);

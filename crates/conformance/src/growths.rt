@@ -1,5 +1,5 @@
-//! What is asked where a growth of memory may have been refused: the answer is that of ample memory, or want of memory, and
-//! never another.
+//! What is asked where a growth of memory may have been refused: the answer is that of ample
+//! memory, or want of memory, and never another.
 use crate::engines::{Engine, answer, status};
 use crate::examples::LIMITS;
 use dapnorm::{Job, MemorySink, MemorySource, Refused};

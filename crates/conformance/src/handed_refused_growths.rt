@@ -1,7 +1,8 @@
-//! Each growth of tables of names, and of the engines that they are handed to, refused in turn: the answer is that of ample
-//! memory, or want of memory, and never another.
+//! Each growth of tables of names, and of the engines that they are handed to, refused in turn: the
+//! answer is that of ample memory, or want of memory, and never another.
 //!
-//! tests/fault_injection.py runs these under a shim that refuses. Without it each makes one turn with ample memory.
+//! tests/fault_injection.py runs these under a shim that refuses. Without it each makes one turn
+//! with ample memory.
 use crate::comparing::{EXCHANGED, FRAMES};
 use crate::examples::LIMITS;
 use crate::growths::was_wanted;
@@ -172,7 +173,8 @@ fn compare_with_tables_is_refused_in_turn(rt: HostRuntime) {
     }
 }
 
-/// Asks for the status, and for what is told of want of memory, where a growth may have been refused.
+/// Asks for the status, and for what is told of want of memory, where a growth may have been
+/// refused.
 fn tells_memory(rt: &impl Abort, status: u8, errors: &[u8], (is_refused, turn): (bool, u16)) {
     if status == 5 {
         was_wanted(rt, is_refused, turn);

@@ -1,4 +1,5 @@
-//! The engines with tables of names that they are handed: any table gives the answers that the engine's own gives.
+//! The engines with tables of names that they are handed: any table gives the answers that the
+//! engine's own gives.
 use crate::engines::{Engine, answer, are_sound, checked, compare_status, status, verdict};
 use crate::examples::{LIMITS, LOOSE, up_to, with_contents, with_ids};
 use crate::handed_engines::{
@@ -22,7 +23,8 @@ fn handed_tables(rt: &impl Abort, hasher: Option<RandomState>) -> [Handed; 2] {
     [Handed::Plain, Handed::Indexed(hasher)]
 }
 
-/// Limits that many recordings pass: of their contents, their ids, and their bytes; and those of the program.
+/// Limits that many recordings pass: of their contents, their ids, and their bytes; and those of
+/// the program.
 fn limits() -> [Limits; 8] {
     [
         LIMITS,

@@ -1,4 +1,5 @@
-//! Tests that cross crates: worked examples of each command, devices that fail, growths that are refused.
+//! Tests that cross crates: worked examples of each command, devices that fail, growths that are
+//! refused.
 #![tactic(auto)]
 
 #[cfg(test)]
@@ -43,6 +44,8 @@ mod name_tables;
 mod normalise_refused_growths;
 #[cfg(test)]
 mod normalising;
+#[cfg(test)]
+mod random_inputs;
 #[cfg(test)]
 mod recording_traces;
 #[cfg(test)]

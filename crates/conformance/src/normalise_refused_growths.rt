@@ -1,6 +1,8 @@
-//! Each growth of `normalise` refused in turn: the answer is that of ample memory, or want of memory, and never another.
+//! Each growth of `normalise` refused in turn: the answer is that of ample memory, or want of
+//! memory, and never another.
 //!
-//! tests/fault_injection.py runs these under a shim that refuses. Without it each makes one turn with ample memory.
+//! tests/fault_injection.py runs these under a shim that refuses. Without it each makes one turn
+//! with ample memory.
 use crate::devices::{ROOM, TestSink};
 use crate::engines::{Engine, answer, normal_text};
 use crate::examples::LIMITS;
@@ -58,7 +60,8 @@ fn asks_turn(
     found.is_refused
 }
 
-/// Asks for the answer on lines, and for so many bytes of the normal text of the configured session.
+/// Asks for the answer on lines, and for so many bytes of the normal text of the configured
+/// session.
 fn asks_each_turn(
     rt: &impl Abort,
     alloc: Global,

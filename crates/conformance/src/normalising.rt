@@ -1,4 +1,5 @@
 //! What `normalise` writes and what it refuses.
+use crate::checking::{nested, nested_behind};
 use crate::devices::whole;
 use crate::engines::{Engine, are_sound, normal_text};
 use crate::examples::{LIMITS, up_to, with_contents, with_ids};
@@ -401,8 +402,8 @@ fn is_refused(alloc: Global, bytes: &[u8], limits: Limits, refused: Refused) -> 
     are_sound(limits) && normal_text(alloc, bytes, limits).err() == Some(refused)
 }
 
-/// Asks that `normalise_bytes`, `check` and `normalise` answer this refusal, with the records of these lines written and
-/// flushed, whether the input comes at once or a byte at a time.
+/// Asks that `normalise_bytes`, `check` and `normalise` answer this refusal, with the records of
+/// these lines written and flushed, whether the input comes at once or a byte at a time.
 fn refuses(
     rt: &impl Abort,
     alloc: Global,
@@ -458,7 +459,8 @@ fn refused_records(rt: HostRuntime) {
     refuses(&rt, rt.alloc(), (cut, LIMITS), &[], refused);
 }
 
-/// How many bytes of the configured session are taken, how many records are written, and the refusal.
+/// How many bytes of the configured session are taken, how many records are written, and the
+/// refusal.
 const LIMITED: [(u64, &[Line], Refused); 4] = [
     (10, &[], Refused::InputTooLong(1)),
     (106, &[INITIALIZE], Refused::InputTooLong(2)),
@@ -488,6 +490,24 @@ fn the_input_limit_is_that_of_the_normal_text_too(rt: HostRuntime) {
         Ok(()),
         normal.as_slice(),
     );
+}
+
+#[test]
+fn contents_nest_127_deep(rt: HostRuntime) {
+    let filled = [INITIALIZE, FILLED_RESPONSE];
+    let deep = nested(&rt, rt.alloc(), 125);
+    let normal = nested_behind(&rt, rt.alloc(), &filled, 125);
+    asks_memory(
+        &rt,
+        rt.alloc(),
+        Engine::Normalise,
+        (deep.as_slice(), LIMITS),
+        Ok(()),
+        normal.as_slice(),
+    );
+    let deeper = nested(&rt, rt.alloc(), 126);
+    let input = (deeper.as_slice(), LIMITS);
+    refuses(&rt, rt.alloc(), input, &filled, Refused::Json(3));
 }
 
 #[test]
@@ -535,7 +555,8 @@ fn a_normal_text_stands_still(rt: HostRuntime) {
     }
 }
 
-/// How many ids are taken, the lines of the normal text that is written, what is told, and the status.
+/// How many ids are taken, the lines of the normal text that is written, what is told, and the
+/// status.
 const TOLD: [(usize, &[Line], &[u8], u8); 2] = [
     (2_147_483_647, &NORMAL_CONFIGURED, b"", 0),
     (

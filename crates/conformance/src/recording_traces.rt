@@ -78,6 +78,8 @@ fn traces_and_their_recordings(rt: HostRuntime) {
             *wanted,
             output,
         );
+        let by_bytes = by_pieces(run_of(Engine::Record, input), 1);
+        asks(&rt, rt.alloc(), by_bytes, *wanted, output);
     }
 }
 

@@ -73,8 +73,8 @@ pub const NORMAL_CONFIGURED: [Line; 5] = [
 /// A session whose third record answers the first again.
 pub const ANSWERED_TWICE: [Line; 3] = [INITIALIZE, INITIALIZE_RESPONSE, INITIALIZE_RESPONSE];
 
-/// Behind how many bytes each record of the configured session ends, how many requests of the client are open there, and
-/// behind how many bytes the record of its normal form ends.
+/// Behind how many bytes each record of the configured session ends, how many requests of the
+/// client are open there, and behind how many bytes the record of its normal form ends.
 const ENDS: [(usize, usize, usize); 5] = [
     (106, 1, 106),
     (211, 0, 1447),
@@ -155,7 +155,8 @@ pub fn front<'a>(rt: &impl Abort, bytes: &'a [u8], len: usize) -> &'a [u8] {
     bytes.get(..len).expect(rt, "too far")
 }
 
-/// That so many records are accepted, and so many requests of the client and of the adapter are open.
+/// That so many records are accepted, and so many requests of the client and of the adapter are
+/// open.
 pub fn accepted(records: u64, client_open: usize, adapter_open: usize) -> Result<Checked, Refused> {
     Ok(Checked {
         records,

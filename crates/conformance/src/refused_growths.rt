@@ -1,6 +1,8 @@
-//! Each growth of a call refused in turn: the answer is that of ample memory, or want of memory, and never another.
+//! Each growth of a call refused in turn: the answer is that of ample memory, or want of memory,
+//! and never another.
 //!
-//! tests/fault_injection.py runs these under a shim that refuses. Without it each makes one turn with ample memory.
+//! tests/fault_injection.py runs these under a shim that refuses. Without it each makes one turn
+//! with ample memory.
 use crate::engines::Engine;
 use crate::examples::{CANONICAL, LIMITS, LOOSE};
 use crate::growths::{Case, asks_each_turn, tells_each_turn, was_wanted};
@@ -95,7 +97,8 @@ fn show_is_refused_in_turn(rt: HostRuntime) {
     asks_each_turn(&rt, rt.alloc(), &case);
 }
 
-/// Asks for what `write_frame` answers and leaves behind a text, with this growth refused. Whether it was.
+/// Asks for what `write_frame` answers and leaves behind a text, with this growth refused. Whether
+/// it was.
 fn writes_frame(rt: &impl Abort, alloc: Global, turn: u16) -> bool {
     let mut out = Vec::from_slice(alloc, b"before").expect(rt, "no memory");
     refuse_growth(alloc, turn);
@@ -154,7 +157,8 @@ fn feed(framer: &mut Framer, bytes: &[u8]) -> Made {
     }
 }
 
-/// Asks that a framer gives its content with this growth refused, and is as before where it was. Whether it was.
+/// Asks that a framer gives its content with this growth refused, and is as before where it was.
+/// Whether it was.
 fn feeds_all(rt: &impl Abort, alloc: Global, turn: u16) -> bool {
     let mut framer = Framer::new(alloc, LIMITS.frame);
     let mut rest = LOOSE;

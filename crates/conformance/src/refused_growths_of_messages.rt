@@ -1,7 +1,8 @@
-//! Each growth of a call on messages refused in turn: the answer is that of ample memory, or want of memory, and never
-//! another. What is lent is as before.
+//! Each growth of a call on messages refused in turn: the answer is that of ample memory, or want
+//! of memory, and never another. What is lent is as before.
 //!
-//! tests/fault_injection.py runs these under a shim that refuses. Without it each makes one turn with ample memory.
+//! tests/fault_injection.py runs these under a shim that refuses. Without it each makes one turn
+//! with ample memory.
 use crate::growths::was_wanted;
 use dap_message::{Message, MessageFault, Side, typed};
 use dap_tree::{Sort, read_tree};
@@ -63,7 +64,8 @@ fn types_turn(
     is_refused
 }
 
-/// Texts, and the length of the content of each, or why it is no message. The 34 other capabilities come in.
+/// Texts, and the length of the content of each, or why it is no message. The 34 other capabilities
+/// come in.
 const TYPED: [(&str, Result<usize, MessageFault>); 4] = [
     (INITIALIZED, Ok(1314)),
     (FRAMES, Ok(FRAMES.len())),

@@ -1,7 +1,9 @@
-//! Each growth of a reader of records, a recorder, a session and names refused in turn: the answer is that of ample memory,
-//! or want of memory, and never another. After want of memory each is as before, and takes the same again.
+//! Each growth of a reader of records, a recorder, a session and names refused in turn: the answer
+//! is that of ample memory, or want of memory, and never another. After want of memory each is as
+//! before, and takes the same again.
 //!
-//! tests/fault_injection.py runs these under a shim that refuses. Without it each makes one turn with ample memory.
+//! tests/fault_injection.py runs these under a shim that refuses. Without it each makes one turn
+//! with ample memory.
 use crate::examples::{IndexTable, LIMITS, index_tables};
 use crate::growths::was_wanted;
 use crate::recordings::{INITIALIZE, INITIALIZE_RESPONSE, recording};
@@ -195,7 +197,8 @@ fn write_record_is_refused_in_turn(rt: HostRuntime) {
     }
 }
 
-/// Asks that a session accepts a message, again where it wanted memory, and is as before where it did. Whether it did.
+/// Asks that a session accepts a message, again where it wanted memory, and is as before where it
+/// did. Whether it did.
 fn accepts(
     rt: &impl Abort,
     alloc: Global,
@@ -271,7 +274,8 @@ fn has_content(alloc: Global, message: &Message, text: &str) -> bool {
     matches!(message.content(alloc), Ok(content) if content.as_str() == text)
 }
 
-/// Asks for the renamed message with this growth refused, of names that are empty again where it was. Whether it was.
+/// Asks for the renamed message with this growth refused, of names that are empty again where it
+/// was. Whether it was.
 fn renames(rt: &impl Abort, alloc: Global, turn: u16) -> bool {
     let mut names = Names::new(alloc, index_tables(alloc, 4));
     let first = message(rt, alloc, Side::Adapter, SCOPES);

@@ -220,7 +220,8 @@ pub fn is_one(x: &Result<Verdict, CompareRefused>, y: &Result<Verdict, CompareRe
     }
 }
 
-/// Asks for the status of the program for two inputs in memory, what it prints and what it tells of a fault.
+/// Asks for the status of the program for two inputs in memory, what it prints and what it tells of
+/// a fault.
 pub fn tells_both(
     rt: &impl Abort,
     alloc: Global,
@@ -257,7 +258,8 @@ pub fn job_on<'a>(job: Job<'a>, text: &'a [u8]) -> JobRun<'a> {
     }
 }
 
-/// Asks for the status of the program, what it prints and what it tells of a fault, and gives how often it has flushed.
+/// Asks for the status of the program, what it prints and what it tells of a fault, and gives how
+/// often it has flushed.
 pub fn tells(
     rt: &impl Abort,
     alloc: Global,

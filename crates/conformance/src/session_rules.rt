@@ -139,8 +139,9 @@ fn each_rule_broken_alone(rt: HostRuntime) {
     }
 }
 
-/// Lines that break two rules, and the one that is told. The others: NotInitialized, NoRequest, NoRequest, InitializeTwice,
-/// AfterDisconnect, SeqUsed, SeqUsed, ConfiguredEarly, ConfiguredTwice, OtherCommand.
+/// Lines that break two rules, and the one that is told. The others: NotInitialized, NoRequest,
+/// NoRequest, InitializeTwice, AfterDisconnect, SeqUsed, SeqUsed, ConfiguredEarly, ConfiguredTwice,
+/// OtherCommand.
 const BROKEN_TWICE: [Broken; 10] = [
     (&[], CLIENT_EVENT, Rule::EventFromClient),
     (&[], INITIALIZE_RESPONSE, Rule::NotInitialized),

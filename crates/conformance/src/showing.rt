@@ -80,6 +80,8 @@ fn lines_of_recordings(rt: HostRuntime) {
             Ok(()),
             text.as_bytes(),
         );
+        let by_bytes = by_pieces(run_of(Engine::Show, bytes.as_slice()), 1);
+        asks(&rt, rt.alloc(), by_bytes, Ok(()), text.as_bytes());
     }
 }
 

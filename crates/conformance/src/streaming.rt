@@ -1,5 +1,5 @@
-//! The engines that hold one record at a time: how the bytes of a recording come does not matter, and little is read behind
-//! what is answered.
+//! The engines that hold one record at a time: how the bytes of a recording come does not matter,
+//! and little is read behind what is answered.
 use crate::comparing::UNNUMBERED;
 use crate::devices::{Failing, Input, Output, ROOM, TestSource, whole};
 use crate::engines::{Engine, answer};
@@ -259,13 +259,13 @@ fn an_endless_recording_differs_from_an_empty_one(rt: HostRuntime) {
 }
 
 /// How many bytes are taken, the record that is past them, and how many bytes are written.
-const TAKEN: [(u64, u64, usize); 2] = [(1000, 12, 968), (264_000, 3001, 264_000)];
+const TAKEN: [(u64, u64, usize); 2] = [(1000, 12, 968), (8_800_000, 100_001, 8_800_000)];
 
 /// Room for all of it.
 const LARGE: Output = Output {
-    room: 264_000,
-    piece: 264_000,
-    fails_at: 264_000,
+    room: 8_800_000,
+    piece: 8_800_000,
+    fails_at: 8_800_000,
     failing: Failing::Fault,
     fails_to_flush: false,
 };
@@ -273,7 +273,7 @@ const LARGE: Output = Output {
 /// So much of the records of output as is written.
 fn outputs_up_to(rt: &impl Abort, alloc: Global, outputs: &[u8], len: usize) -> Vec<u8> {
     let mut bytes = Vec::new(alloc);
-    for _ in 0..4 {
+    for _ in 0..100 {
         bytes.extend_from_slice(outputs).expect(rt, "no memory");
     }
     bytes.truncate(len);

@@ -1,7 +1,7 @@
 //! Each message of a recording typed.
 //!
-//! tests/typed_recordings.py runs this in folders that hold the recordings of real adapters, each with the refusals that are
-//! wanted of it. Elsewhere it takes the recording below.
+//! tests/typed_recordings.py runs this in folders that hold the recordings of real adapters, each
+//! with the refusals that are wanted of it. Elsewhere it takes the recording below.
 use crate::examples::LIMITS;
 use dap_message::typed;
 use dap_recording::{Record, RecordReader};
@@ -16,7 +16,8 @@ const RECORDING: &str = "recording.rec";
 /// The file of the refusals that are wanted of it.
 const REFUSALS: &str = "refusals.txt";
 
-/// A request, a response with another type at a row, an event without a number, and a number that is not whole.
+/// A request, a response with another type at a row, an event without a number, and a number that
+/// is not whole.
 const OWN_RECORDING: &[u8] =
     b">Content-Length: 46\r\n\r\n{\"command\":\"threads\",\"seq\":2,\"type\":\"request\"}\n<Content-Length: 99\r\n\r\n{\"body\":{\"threads\":7},\"command\":\"threads\",\"request_seq\":2,\"seq\":3,\"success\":true,\"type\":\"response\"}\n<Content-Length: 38\r\n\r\n{\"event\":\"initialized\",\"type\":\"event\"}\n<Content-Length: 3\r\n\r\n0.5\n";
 

@@ -1,11 +1,12 @@
 //! Makes the contents of frames canonical.
 ghost use Rattle.std.specs.Prelude.{◌≡◌, ◌+◌, ◌<◌, ◌≤◌, ◌^◌, List, Result, Ok, Err};
 ghost use Rattle.dap_tree.specs.Doc.{Doc};
-ghost use Rattle.dap_compact.specs.Compacting.{Compacts, Fits, IsRefused, text};
-ghost use Rattle.dap_compact.specs.CompactingSteps.{Appended, HasGoneOn, JudgesInput, refusal_at};
+ghost use Rattle.dap_compact.specs.Compacting.{Compacts, Fits, compacting, text};
+ghost use Rattle.dap_compact.specs.CompactingSteps.{Appended, HasGoneOn, JudgesInput};
 ghost use Rattle.dap_device.specs.Reading.{HasLength};
 ghost use Rattle.dap_input.specs.Engine.{Answers};
 ghost use Rattle.dap_input.specs.Limits.{AreSound};
+ghost use Rattle.dap_input.specs.Refusals.{IsRefused};
 
 use dap_device::{Input, Sink, Source, Stop, read_all, write_and_flush};
 use dap_frame::{Content, FrameFault, Framer, write_frame};
@@ -14,55 +15,34 @@ use dap_recording::RecordCause;
 use dap_tree::{TreeFault, read_tree, write_tree};
 use std::alloc::Global;
 
-/// Why a content has no compact text that fits.
-#[derive(Clone, Copy, Debug, PartialEq, Eq)]
-enum ContentFault {
-    Json,
-    Fraction,
-    Grew,
-    Memory,
-}
-
-impl ContentFault {
-    /// The refusal of the record of that number.
-    fn at(self, number: u64) -> Refused
-        ensures { result ≡ refusal_at number self }
-    {
-        match self {
-            ContentFault::Json => Refused::Json(number),
-            ContentFault::Fraction => Refused::Fraction(number),
-            ContentFault::Grew => Refused::Grew(number),
-            ContentFault::Memory => Refused::Memory,
-        }
-    }
-}
-
-/// Appends the frame of a content's canonical text to the text of those before it.
+/// Appends the frame of the canonical text of a record's content to the text of those before it.
 fn append_compact(
     alloc: Global,
     out: &mut Vec<u8>,
+    number: u64,
     content: &[u8],
     limits: Limits,
-) -> Result<(), ContentFault>
+) -> Result<(), Refused>
     requires { AreSound limits }
-    ensures { (values : List Doc) → Fits limits values → out.old.items ≡ text values → Appended limits values content.now result out.new.items }
+    ensures { (values : List Doc) → Fits limits values → out.old.items ≡ text values
+        → Appended limits values number content.now result out.new.items }
 {
     let tree = match read_tree(alloc, content) {
         Ok(tree) => tree,
-        Err(TreeFault::Json) => return Err(ContentFault::Json),
-        Err(TreeFault::Fraction) => return Err(ContentFault::Fraction),
-        Err(TreeFault::Memory) => return Err(ContentFault::Memory),
+        Err(TreeFault::Json) => return Err(Refused::Json(number)),
+        Err(TreeFault::Fraction) => return Err(Refused::Fraction(number)),
+        Err(TreeFault::Memory) => return Err(Refused::Memory),
     };
     let Ok(text) = write_tree(alloc, &tree) else {
-        return Err(ContentFault::Memory);
+        return Err(Refused::Memory);
     };
     match write_frame(out, text.as_bytes(), limits.frame) {
         Ok(()) => {}
-        Err(FrameFault::ContentTooLong) => return Err(ContentFault::Grew),
-        Err(_) => return Err(ContentFault::Memory),
+        Err(FrameFault::ContentTooLong) => return Err(Refused::Grew(number)),
+        Err(_) => return Err(Refused::Memory),
     }
     if limits.input < out.len() as u64 {
-        return Err(ContentFault::Grew);
+        return Err(Refused::Grew(number));
     }
     Ok(())
 }
@@ -77,14 +57,15 @@ fn append_next(
 ) -> Result<u64, Refused>
     requires sound { AreSound limits }
     requires few { number < 2 ^ 63 }
-    ensures { (values : List Doc) → Fits limits values → out.old.items ≡ text values → HasGoneOn limits values number out.old.items content result out.new.items }
+    ensures { (values : List Doc) → Fits limits values → out.old.items ≡ text values
+        → HasGoneOn limits values number out.old.items content result out.new.items }
 {
     let Some(content) = content else {
         return Ok(number);
     };
-    match append_compact(alloc, out, content.as_slice(), limits) {
+    match append_compact(alloc, out, number, content.as_slice(), limits) {
         Ok(()) => Ok(number + 1),
-        Err(fault) => Err(fault.at(number)),
+        Err(refused) => Err(refused),
     }
 }
 
@@ -122,14 +103,15 @@ fn compact_input(alloc: Global, input: &Input, limits: Limits) -> Result<Vec<u8>
 
 /// Reads frames of one direction and writes frames of their canonical contents.
 ///
-/// A canonical content is its JSON value without spaces, the members of each object in the byte order of their names.
-/// It reads its whole input, at most one byte past `limits.input`, judges it, and writes last: nothing is written
-/// where it is refused. Records are counted from 1 in the order of the input.
+/// A canonical content is its JSON value without spaces, the members of each object in the byte
+/// order of their names. It reads its whole input, at most one byte past `limits.input`, judges it,
+/// and writes last: nothing is written where it is refused. Records are counted from 1 in the order
+/// of the input.
 ///
 /// # Errors
 ///
-/// The first refusal of the input; `ReadFault` where the reader failed and what came before is not refused;
-/// `WriteFault` where the writer failed; `Memory`.
+/// The first refusal of the input; `ReadFault` where the reader failed and what came before is not
+/// refused; `WriteFault` where the writer failed; `Memory`.
 pub fn compact<R: Source, W: Sink>(
     alloc: Global,
     reader: &mut R,
@@ -141,9 +123,10 @@ pub fn compact<R: Source, W: Sink>(
     requires read_failures { R.failures reader.old < 2 ^ 62 }
     requires write_failures { W.failures writer.old < 2 ^ 62 }
 
-    // The compact text of the input goes out, or its first refusal is answered and nothing goes out. A fault of a
-    // device is answered exactly where that device failed.
-    ensures answer { Answers R.left R.failures W.out W.failures limits.input (Compacts limits) (IsRefused limits) reader.old reader.new writer.old writer.new result }
+    // The compact text of the input goes out, or its first refusal is answered and nothing goes
+    // out. A fault of a device is answered exactly where that device failed.
+    ensures answer { Answers R.left R.failures W.out W.failures limits.input (Compacts limits)
+        (IsRefused (compacting limits)) reader.old reader.new writer.old writer.new result }
 
     // It takes at most one byte past the limit.
     ensures taken { R.given reader.new ≤ R.given reader.old + limits.input + 1 }

@@ -1,5 +1,7 @@
 -- What `compare` answers while it reads two inputs.
-use Rattle.std.proofs.Common.{◌≡◌, ◌⊎◌, inl, inr, ℕ, ℤ, ◌+◌, Bool, true, false, List, [], ◌∷◌, ◌++◌, length, Option, Some, None, Ok, Err, refl, sym, ◌∙◌, ap, subst, arith, append_assoc, append-nil}
+use Rattle.std.proofs.Common.{◌≡◌, ◌⊎◌, inl, inr, ℕ, ℤ, ◌+◌, Bool, true, false, List, [], ◌∷◌, ◌++◌}
+use Rattle.std.proofs.Common.{length, Option, Some, None, Ok, Err, refl, sym, ◌∙◌, ap, subst, arith}
+use Rattle.std.proofs.Common.{append_assoc, append-nil}
 use Rattle.std.proofs.lemmas.List.{length_push}
 use Rattle.dap_device.specs.Pieces.{HasComeSoFar}
 use Rattle.dap_device.specs.declared.reading.Stop.{Stop}
@@ -7,7 +9,8 @@ use Rattle.dap_device.specs.declared.reading.Stop.TheVariants.{End}
 use Rattle.dap_message.specs.Message.{Sent}
 use Rattle.dap_tree.specs.declared.sort.Sort.{Sort}
 use Rattle.dap_tree.specs.declared.sort.Sort.TheVariants.{ClientSeq, AdapterSeq, Frame, Reference}
-use Rattle.dap_rename.specs.Messages.{AreSame, IsNormal, class_after, in_whole, equal_places, numbers_of_class, stops_after}
+use Rattle.dap_rename.specs.Messages.{AreSame, IsNormal, class_after, in_whole, equal_places}
+use Rattle.dap_rename.specs.Messages.{numbers_of_class, stops_after}
 use Rattle.dap_rename.specs.Names.{HaveEqualCounts, StandFor, numbers_in}
 use Rattle.dap_rename.specs.Pairs.{entries}
 use Rattle.dap_rename.specs.Renaming.{pairs_of}
@@ -28,67 +31,83 @@ use Rattle.dap_compare.specs.Comparing.{AreSameBefore, are_same, differ}
 use Rattle.dap_normal.specs.JudgingSteps.{record_of}
 use Rattle.dap_input.specs.Limits.{AreSound}
 use Rattle.dap_normal.specs.NormalSteps.{HasEnded, HasGone, HasNext, HasStoppedAt}
-use Rattle.dap_input.specs.ReadTo.{IsReadTo, so_far}
-use Rattle.dap_compare.specs.Verdicts.{HasCompared, IsOf, IsRecordingVerdict}
-use Rattle.dap_normal.specs.Refusals.{RefusesAt}
-use Rattle.dap_compare.proofs.ComparingLoop.{are_apart, both_have_ended, front_of, goes_on, has_ended, not_the_same, one_form, refused_in, taken_in, x_has_ended, y_has_ended}
+use Rattle.dap_input.specs.ReadTo.{IsOf, IsReadTo, so_far}
+use Rattle.dap_compare.specs.Verdicts.{HasCompared, IsRecordingVerdict}
+use Rattle.dap_input.specs.Refusals.{RefusesAt}
+use Rattle.dap_input.proofs.Refusals.{refused_in}
+use Rattle.dap_normal.proofs.AcceptingFacts.{accepted_facts, value_laws}
+use Rattle.dap_recording.proofs.Records.{readable}
+use Rattle.dap_compare.proofs.ComparingLoop.{are_apart, both_have_ended, front_of, goes_on}
+use Rattle.dap_compare.proofs.ComparingLoop.{has_ended, not_the_same, one_form, taken_in}
+use Rattle.dap_compare.proofs.ComparingLoop.{x_has_ended, y_has_ended}
 use Rattle.dap_normal.proofs.StreamLoop.{Going, before_in, came_on, next_in}
 use Rattle.dap_compare.proofs.Verdicts.{same_lengths}
 
 -- What is answered of the next record is that memory was refused, or a refusal there.
-pub as_told : {T R : Type 0} {numbers : T → List ℤ} {table_limit : T → ℕ} (left : R → Option (List ℕ)) (given failures : R → ℕ) (limits : Limits) (bytes : List ℕ) (messages normal : List Sent) (old new : NormalRecords T) (before after : R) (refused : Refused)
-    → (stopped : HasStoppedAt numbers table_limit left given failures limits bytes messages normal old new before after refused)
-    → (refused ≡ why.Memory) ⊎ ((refused ≡ why.Memory → ⊥) × RefusesAt limits (so_far (bytes ++ stopped.more) stopped.stop) old.records.number refused)
-as_told left given failures limits bytes messages normal old new before after (why.InputTooLong n) stopped = inr ((λ same. absurd (let e = same in cc)), stopped.says)
-as_told left given failures limits bytes messages normal old new before after (why.Record n what) stopped = inr ((λ same. absurd (let e = same in cc)), stopped.says)
-as_told left given failures limits bytes messages normal old new before after (why.Json n) stopped = inr ((λ same. absurd (let e = same in cc)), stopped.says)
-as_told left given failures limits bytes messages normal old new before after (why.Fraction n) stopped = inr ((λ same. absurd (let e = same in cc)), stopped.says)
-as_told left given failures limits bytes messages normal old new before after (why.Message n fault) stopped = inr ((λ same. absurd (let e = same in cc)), stopped.says)
-as_told left given failures limits bytes messages normal old new before after (why.Rule n rule) stopped = inr ((λ same. absurd (let e = same in cc)), stopped.says)
-as_told left given failures limits bytes messages normal old new before after (why.TooManyIds n) stopped = inr ((λ same. absurd (let e = same in cc)), stopped.says)
-as_told left given failures limits bytes messages normal old new before after (why.Grew n) stopped = inr ((λ same. absurd (let e = same in cc)), stopped.says)
-as_told left given failures limits bytes messages normal old new before after (why.Incomplete client adapter) stopped = inr ((λ same. absurd (let e = same in cc)), stopped.says)
-as_told left given failures limits bytes messages normal old new before after (why.TraceTooLong n) stopped = inr ((λ same. absurd (let e = same in cc)), stopped.says)
-as_told left given failures limits bytes messages normal old new before after (why.Trace n cause) stopped = inr ((λ same. absurd (let e = same in cc)), stopped.says)
-as_told left given failures limits bytes messages normal old new before after (why.Recorder n fault) stopped = inr ((λ same. absurd (let e = same in cc)), stopped.says)
-as_told left given failures limits bytes messages normal old new before after why.ReadFault stopped = inr ((λ same. absurd (let e = same in cc)), stopped.says)
-as_told left given failures limits bytes messages normal old new before after why.WriteFault stopped = inr ((λ same. absurd (let e = same in cc)), stopped.says)
-as_told left given failures limits bytes messages normal old new before after why.Memory stopped = inl refl
+pub as_told : {T R : Type 0} {numbers : T → List ℤ} {table_limit : T → ℕ} (left : R
+    → Option (List ℕ)) (given failures : R
+    → ℕ) (limits : Limits) (bytes : List ℕ) (messages normal : List Sent)
+    (old new : NormalRecords T) (before after : R) (refused : Refused)
+    → (stopped : HasStoppedAt numbers table_limit left given failures limits bytes messages normal
+    old new before after refused)
+    → (refused ≡ why.Memory)
+    ⊎ ((refused ≡ why.Memory → ⊥)
+    × RefusesAt (accepting limits) (so_far (bytes ++ stopped.more) stopped.stop)
+    old.records.number refused)
+as_told left given failures limits bytes messages normal old new before after why.Memory stopped =
+    inl refl
+as_told left given failures limits bytes messages normal old new before after refused stopped =
+    inr ((λ same. absurd (let e = same in cc)), stopped.says)
 
-module _ {T R S : Type 0} {numbers : T → List ℤ} {table_limit : T → ℕ} (left_a : R → Option (List ℕ)) (given_a failures_a : R → ℕ) (left_b : S → Option (List ℕ)) (given_b failures_b : S → ℕ) (limits : Limits)
-    (start_a reader_a : R) (records_a : NormalRecords T) (a : Going numbers table_limit left_a given_a failures_a limits start_a reader_a records_a)
-    (start_b reader_b : S) (records_b : NormalRecords T) (b : Going numbers table_limit left_b given_b failures_b limits start_b reader_b records_b) (alike : a.normal ≡ b.normal) where
+module _ {T R S : Type 0} {numbers : T → List ℤ} {table_limit : T → ℕ} (left_a : R
+    → Option (List ℕ)) (given_a failures_a : R → ℕ) (left_b : S
+    → Option (List ℕ)) (given_b failures_b : S → ℕ) (limits : Limits)
+    (start_a reader_a : R) (records_a : NormalRecords T)
+    (a : Going numbers table_limit left_a given_a failures_a limits start_a reader_a records_a)
+    (start_b reader_b : S) (records_b : NormalRecords T)
+    (b : Going numbers table_limit left_b given_b failures_b limits start_b reader_b records_b)
+    (alike : a.normal ≡ b.normal) where
   abbrev pub number : ℕ
   number = records_a.records.number
 
   are : AreSame in_whole a.messages b.messages
-  are = normal_is_complete in_whole a.messages b.messages a.normal a.stands.stands.is_normal (subst (IsNormal in_whole b.messages) (sym alike) b.stands.stands.is_normal)
+  are = normal_is_complete in_whole a.messages b.messages a.normal a.stands.stands.is_normal
+      (subst (IsNormal in_whole b.messages) (sym alike) b.stands.stands.is_normal)
 
   one_number : records_b.records.number ≡ number
-  one_number = b.stands.number_is ∙ sym (ap (λ n. n + 1) (same_lengths a.messages b.messages are)) ∙ sym a.stands.number_is
+  one_number =
+      b.stands.number_is ∙ sym (ap (λ n. n + 1) (same_lengths a.messages b.messages are))
+      ∙ sym a.stands.number_is
 
   -- the records before are accepted of both inputs, of which so much has come
-  module _ (bytes_a bytes_b more_a more_b : List ℕ) (all_a : bytes_a ≡ a.bytes ++ more_a) (all_b : bytes_b ≡ b.bytes ++ more_b) (stop_a stop_b : Option Stop) (x y : Input) (is_x : IsOf bytes_a stop_a x) (is_y : IsOf bytes_b stop_b y) where
+  module _ (bytes_a bytes_b more_a more_b : List ℕ) (all_a : bytes_a
+      ≡ a.bytes ++ more_a) (all_b : bytes_b
+      ≡ b.bytes ++ more_b) (stop_a stop_b : Option Stop) (x y : Input)
+      (is_x : IsOf bytes_a stop_a x) (is_y : IsOf bytes_b stop_b y) where
     abbrev beyond_x : List ℕ
     beyond_x = (front_of bytes_a stop_a x is_x).0
 
     split_x : x.bytes ≡ a.bytes ++ (more_a ++ beyond_x)
-    split_x = (front_of bytes_a stop_a x is_x).1 ∙ ap (λ t. t ++ beyond_x) all_a ∙ append_assoc a.bytes more_a beyond_x
+    split_x = (front_of bytes_a stop_a x is_x).1 ∙ ap (λ t. t ++ beyond_x) all_a
+        ∙ append_assoc a.bytes more_a beyond_x
 
     abbrev beyond_y : List ℕ
     beyond_y = (front_of bytes_b stop_b y is_y).0
 
     split_y : y.bytes ≡ b.bytes ++ (more_b ++ beyond_y)
-    split_y = (front_of bytes_b stop_b y is_y).1 ∙ ap (λ t. t ++ beyond_y) all_b ∙ append_assoc b.bytes more_b beyond_y
+    split_y = (front_of bytes_b stop_b y is_y).1 ∙ ap (λ t. t ++ beyond_y) all_b
+        ∙ append_assoc b.bytes more_b beyond_y
 
     before : AreSameBefore (accepting limits) (AreSame in_whole) x y number
     before = record {
-      of_a = before_in left_a given_a failures_a limits start_a reader_a records_a a x (more_a ++ beyond_x) split_x;
+      of_a = before_in left_a given_a failures_a limits start_a reader_a records_a a x (more_a
+          ++ beyond_x) split_x;
       of_b = record {
         values = b.messages;
         front = b.stands.front;
         rest = records_b.records.pieces.unread ++ (more_b ++ beyond_y);
-        split = (before_in left_b given_b failures_b limits start_b reader_b records_b b y (more_b ++ beyond_y) split_y).split;
+        split = (before_in left_b given_b failures_b limits start_b reader_b records_b b y (more_b
+            ++ beyond_y) split_y).split;
         accepted = b.stands.accepted;
         is_number = sym one_number ∙ b.stands.number_is;
       };
@@ -97,25 +116,36 @@ module _ {T R S : Type 0} {numbers : T → List ℤ} {table_limit : T → ℕ} (
 
   -- ---- a refusal
 
-  pub refused_by_a : (new : NormalRecords T) (after : R) (refused : Refused) (stopped : HasStoppedAt numbers table_limit left_a given_a failures_a limits a.bytes a.messages a.normal records_a new reader_a after refused)
-      → RefusesAt limits (so_far (a.bytes ++ stopped.more) stopped.stop) number refused
-      → HasCompared left_a given_a failures_a left_b given_b failures_b limits start_a after start_b reader_b (Err (because.Input A refused))
+  pub refused_by_a : (new : NormalRecords T) (after : R) (refused : Refused)
+      (stopped : HasStoppedAt numbers table_limit left_a given_a failures_a limits a.bytes
+      a.messages a.normal records_a new reader_a after refused)
+      → RefusesAt (accepting limits) (so_far (a.bytes ++ stopped.more) stopped.stop) number refused
+      → HasCompared left_a given_a failures_a left_b given_b failures_b limits start_a after start_b
+      reader_b (Err (because.Input A refused))
   refused_by_a new after refused stopped said = record {
     number = number;
     bytes_a = a.bytes ++ stopped.more;
     stop_a = stopped.stop;
-    came_a = came_on left_a given_a failures_a start_a reader_a after a.bytes stopped.more stopped.stop a.came stopped.came;
+    came_a = came_on left_a given_a failures_a start_a reader_a after a.bytes stopped.more
+        stopped.stop a.came stopped.came;
     read_a = stopped.read_to;
     bytes_b = b.bytes;
     stop_b = None;
     came_b = b.came;
-    read_b = subst (IsReadTo (accepting limits) b.bytes) (let is = b.stands.number_is in omega (arith, is, one_number)) b.stands.read_to;
+    read_b = subst (IsReadTo (accepting limits) b.bytes)
+        (let is = b.stands.number_is in omega (arith, is, one_number)) b.stands.read_to;
     tells = λ x y is_x is_y.
-        let here = refused_in limits (a.bytes ++ stopped.more) number refused x stopped.stop is_x said stopped.cut in
+        let here = refused_in (accepting limits) (readable limits.frame) (value_laws limits)
+        (accepted_facts limits) (a.bytes ++ stopped.more) number refused x stopped.stop is_x
+        said stopped.cut in
         record {
           fault = here.fault;
           tells = here.tells;
-          is_verdict = (before (a.bytes ++ stopped.more) b.bytes stopped.more [] refl (sym (append-nil b.bytes)) stopped.stop None x y is_x is_y, here.is_refused);
+          is_verdict = (
+            before (a.bytes ++ stopped.more) b.bytes stopped.more [] refl
+                (sym (append-nil b.bytes)) stopped.stop None x y is_x is_y,
+            here.is_refused,
+          );
         };
   }
 
@@ -123,72 +153,108 @@ module _ {T R S : Type 0} {numbers : T → List ℤ} {table_limit : T → ℕ} (
   pub record Passed (after : R) (more : List ℕ) (stop : Option Stop) : Type 0 where
     pub came : HasComeSoFar left_a given_a failures_a reader_a after more stop
     pub read_to : IsReadTo (accepting limits) (a.bytes ++ more) number
-    pub passes : (x : Input) → IsOf (a.bytes ++ more) stop x → IsNotRefusedAt (accepting limits) x number
+    pub passes : (x : Input) → IsOf (a.bytes ++ more) stop x
+        → IsNotRefusedAt (accepting limits) x number
 
-  pub refused_by_b : (passed_to : R) (more : List ℕ) (stop : Option Stop) → Passed passed_to more stop
-      → (new : NormalRecords T) (after : S) (refused : Refused) (stopped : HasStoppedAt numbers table_limit left_b given_b failures_b limits b.bytes b.messages b.normal records_b new reader_b after refused)
-      → RefusesAt limits (so_far (b.bytes ++ stopped.more) stopped.stop) records_b.records.number refused
-      → HasCompared left_a given_a failures_a left_b given_b failures_b limits start_a passed_to start_b after (Err (because.Input B refused))
+  pub refused_by_b : (passed_to : R) (more : List ℕ) (stop : Option Stop)
+      → Passed passed_to more stop
+      → (new : NormalRecords T) (after : S) (refused : Refused)
+      (stopped : HasStoppedAt numbers table_limit left_b given_b failures_b limits b.bytes
+      b.messages b.normal records_b new reader_b after refused)
+      → RefusesAt (accepting limits) (so_far (b.bytes ++ stopped.more) stopped.stop)
+      records_b.records.number refused
+      → HasCompared left_a given_a failures_a left_b given_b failures_b limits start_a passed_to
+      start_b after (Err (because.Input B refused))
   refused_by_b passed_to more stop passed new after refused stopped said = record {
     number = number;
     bytes_a = a.bytes ++ more;
     stop_a = stop;
-    came_a = came_on left_a given_a failures_a start_a reader_a passed_to a.bytes more stop a.came passed.came;
+    came_a = came_on left_a given_a failures_a start_a reader_a passed_to a.bytes more stop a.came
+        passed.came;
     read_a = passed.read_to;
     bytes_b = b.bytes ++ stopped.more;
     stop_b = stopped.stop;
-    came_b = came_on left_b given_b failures_b start_b reader_b after b.bytes stopped.more stopped.stop b.came stopped.came;
-    read_b = subst (IsReadTo (accepting limits) (b.bytes ++ stopped.more)) one_number stopped.read_to;
+    came_b = came_on left_b given_b failures_b start_b reader_b after b.bytes stopped.more
+        stopped.stop b.came stopped.came;
+    read_b = subst (IsReadTo (accepting limits) (b.bytes ++ stopped.more)) one_number
+        stopped.read_to;
     tells = λ x y is_x is_y.
-        let here = refused_in limits (b.bytes ++ stopped.more) number refused y stopped.stop is_y (subst (λ n. RefusesAt limits (so_far (b.bytes ++ stopped.more) stopped.stop) n refused) one_number said) stopped.cut in
+        let here = refused_in (accepting limits) (readable limits.frame) (value_laws limits)
+        (accepted_facts limits) (b.bytes ++ stopped.more) number refused y stopped.stop is_y
+        (subst (λ n. RefusesAt (accepting limits)
+        (so_far (b.bytes ++ stopped.more) stopped.stop) n refused) one_number said) stopped.cut
+        in
         record {
           fault = here.fault;
           tells = here.tells;
-          is_verdict = (before (a.bytes ++ more) (b.bytes ++ stopped.more) more stopped.more refl refl stop stopped.stop x y is_x is_y, passed.passes x is_x, here.is_refused);
+          is_verdict = (
+            before (a.bytes ++ more) (b.bytes ++ stopped.more) more stopped.more refl refl stop
+                stopped.stop x y is_x is_y,
+            passed.passes x is_x,
+            here.is_refused,
+          );
         };
   }
 
   -- ---- the record of the one
 
   module _ (new_a : NormalRecords T) (after_a : R) (text_a longer_a : List ℕ) where
-    pub gone_passed : (gone : HasGone numbers table_limit left_a given_a failures_a limits a.bytes a.messages a.normal records_a new_a reader_a after_a text_a longer_a) → Passed after_a gone.more None
+    pub gone_passed : (gone : HasGone numbers table_limit left_a given_a failures_a limits a.bytes
+        a.messages a.normal records_a new_a reader_a after_a text_a longer_a)
+        → Passed after_a gone.more None
     gone_passed gone = record {
       came = gone.came;
       read_to = gone.read_to;
       passes = λ x is_x.
-          goes_on limits number x (next_in left_a given_a failures_a limits start_a reader_a records_a a new_a after_a text_a longer_a gone x is_x.0 is_x.1);
+          goes_on limits number x
+          (next_in left_a given_a failures_a limits start_a reader_a records_a a new_a after_a
+          text_a longer_a gone x is_x.0 is_x.1);
     }
 
-    pub ended_passed : (ended : HasEnded numbers table_limit left_a given_a failures_a limits a.bytes a.messages a.normal records_a new_a reader_a after_a text_a longer_a) → Passed after_a ended.more (Some End)
+    pub ended_passed : (ended : HasEnded numbers table_limit left_a given_a failures_a limits
+        a.bytes a.messages a.normal records_a new_a reader_a after_a text_a longer_a)
+        → Passed after_a ended.more (Some End)
     ended_passed ended = record {
       came = ended.came;
       read_to = ended.read_to;
-      passes = λ x is_x. has_ended limits number x a.messages (taken_in limits (a.bytes ++ ended.more) x a.messages is_x ended.accepted);
+      passes = λ x is_x. has_ended limits number x a.messages
+          (taken_in limits (a.bytes ++ ended.more) x a.messages is_x ended.accepted);
     }
 
     -- whether a record has come, or none is left
-    pub passed_by : (some : Bool) → HasNext numbers table_limit left_a given_a failures_a limits a.bytes a.messages a.normal records_a new_a reader_a after_a text_a longer_a (Ok some)
+    pub passed_by : (some : Bool)
+        → HasNext numbers table_limit left_a given_a failures_a limits a.bytes a.messages a.normal
+        records_a new_a reader_a after_a text_a longer_a (Ok some)
         → (more : List ℕ) × (stop : Option Stop) × Passed after_a more stop
     passed_by true gone = (gone.more, None, gone_passed gone)
     passed_by false ended = (ended.more, Some End, ended_passed ended)
 
   -- ---- the records of both
 
-  module _ (new_a : NormalRecords T) (after_a : R) (text_a longer_a : List ℕ) (new_b : NormalRecords T) (after_b : S) (text_b longer_b : List ℕ) where
+  module _ (new_a : NormalRecords T) (after_a : R) (text_a longer_a : List ℕ)
+      (new_b : NormalRecords T) (after_b : S) (text_b longer_b : List ℕ) where
     abbrev pub Gone_a : Type 0
-    Gone_a = HasGone numbers table_limit left_a given_a failures_a limits a.bytes a.messages a.normal records_a new_a reader_a after_a text_a longer_a
+    Gone_a = HasGone numbers table_limit left_a given_a failures_a limits a.bytes a.messages
+        a.normal records_a new_a reader_a after_a text_a longer_a
 
     abbrev pub Ended_a : Type 0
-    Ended_a = HasEnded numbers table_limit left_a given_a failures_a limits a.bytes a.messages a.normal records_a new_a reader_a after_a text_a longer_a
+    Ended_a = HasEnded numbers table_limit left_a given_a failures_a limits a.bytes a.messages
+        a.normal records_a new_a reader_a after_a text_a longer_a
 
     abbrev pub Gone_b : Type 0
-    Gone_b = HasGone numbers table_limit left_b given_b failures_b limits b.bytes b.messages b.normal records_b new_b reader_b after_b text_b longer_b
+    Gone_b = HasGone numbers table_limit left_b given_b failures_b limits b.bytes b.messages
+        b.normal records_b new_b reader_b after_b text_b longer_b
 
     abbrev pub Ended_b : Type 0
-    Ended_b = HasEnded numbers table_limit left_b given_b failures_b limits b.bytes b.messages b.normal records_b new_b reader_b after_b text_b longer_b
+    Ended_b = HasEnded numbers table_limit left_b given_b failures_b limits b.bytes b.messages
+        b.normal records_b new_b reader_b after_b text_b longer_b
 
-    next_y : (gone : Gone_b) (y : Input) → IsOf (b.bytes ++ gone.more) None y → AcceptedBefore (accepting limits) y (number + 1)
-    next_y gone y is_y = subst (λ n. AcceptedBefore (accepting limits) y (n + 1)) one_number (next_in left_b given_b failures_b limits start_b reader_b records_b b new_b after_b text_b longer_b gone y is_y.0 is_y.1)
+    next_y : (gone : Gone_b) (y : Input) → IsOf (b.bytes ++ gone.more) None y
+        → AcceptedBefore (accepting limits) y (number + 1)
+    next_y gone y is_y =
+        subst (λ n. AcceptedBefore (accepting limits) y (n + 1)) one_number
+        (next_in left_b given_b failures_b limits start_b reader_b records_b b new_b after_b text_b
+        longer_b gone y is_y.0 is_y.1)
 
     number_of_a : number ≡ length a.messages + 1
     number_of_a = a.stands.number_is
@@ -197,101 +263,151 @@ module _ {T R S : Type 0} {numbers : T → List ℤ} {table_limit : T → ℕ} (
     number_of_b = sym one_number ∙ b.stands.number_is
 
     -- so much has come of both, and this is the verdict
-    module _ (more_a : List ℕ) (stop_a : Option Stop) (came_a : HasComeSoFar left_a given_a failures_a reader_a after_a more_a stop_a) (read_a : IsReadTo (accepting limits) (a.bytes ++ more_a) number)
-        (more_b : List ℕ) (stop_b : Option Stop) (came_b : HasComeSoFar left_b given_b failures_b reader_b after_b more_b stop_b) (read_b : IsReadTo (accepting limits) (b.bytes ++ more_b) records_b.records.number) where
-      differs : (n : ℕ) → n ≡ number → ((x y : Input) → IsOf (a.bytes ++ more_a) stop_a x → IsOf (b.bytes ++ more_b) stop_b y → IsRecordingVerdict limits x y (differ number))
-          → HasCompared left_a given_a failures_a left_b given_b failures_b limits start_a after_a start_b after_b (Ok (code.Differ n))
-      differs n is verdict = record {
-        number = number;
-        bytes_a = a.bytes ++ more_a;
-        stop_a = stop_a;
-        came_a = came_on left_a given_a failures_a start_a reader_a after_a a.bytes more_a stop_a a.came came_a;
-        read_a = read_a;
-        bytes_b = b.bytes ++ more_b;
-        stop_b = stop_b;
-        came_b = came_on left_b given_b failures_b start_b reader_b after_b b.bytes more_b stop_b b.came came_b;
-        read_b = subst (IsReadTo (accepting limits) (b.bytes ++ more_b)) one_number read_b;
-        tells = λ x y is_x is_y. (is, verdict x y is_x is_y);
-      }
+    module _ (more_a : List ℕ) (stop_a : Option Stop)
+        (came_a : HasComeSoFar left_a given_a failures_a reader_a after_a more_a stop_a)
+        (read_a : IsReadTo (accepting limits) (a.bytes ++ more_a) number)
+        (more_b : List ℕ) (stop_b : Option Stop)
+        (came_b : HasComeSoFar left_b given_b failures_b reader_b after_b more_b stop_b)
+        (read_b : IsReadTo (accepting limits) (b.bytes ++ more_b) records_b.records.number)
+      where
+        differs : (n : ℕ) → n ≡ number
+            → ((x y : Input) → IsOf (a.bytes ++ more_a) stop_a x → IsOf (b.bytes ++ more_b) stop_b y
+            → IsRecordingVerdict limits x y (differ number))
+            → HasCompared left_a given_a failures_a left_b given_b failures_b limits start_a after_a
+            start_b after_b (Ok (code.Differ n))
+        differs n is verdict = record {
+          number = number;
+          bytes_a = a.bytes ++ more_a;
+          stop_a = stop_a;
+          came_a = came_on left_a given_a failures_a start_a reader_a after_a a.bytes more_a stop_a
+              a.came came_a;
+          read_a = read_a;
+          bytes_b = b.bytes ++ more_b;
+          stop_b = stop_b;
+          came_b = came_on left_b given_b failures_b start_b reader_b after_b b.bytes more_b stop_b
+              b.came came_b;
+          read_b = subst (IsReadTo (accepting limits) (b.bytes ++ more_b)) one_number read_b;
+          tells = λ x y is_x is_y. (is, verdict x y is_x is_y);
+        }
 
-    pub some_and_none : (n : ℕ) → n ≡ number → Gone_a → Ended_b → HasCompared left_a given_a failures_a left_b given_b failures_b limits start_a after_a start_b after_b (Ok (code.Differ n))
+    pub some_and_none : (n : ℕ) → n ≡ number → Gone_a → Ended_b
+        → HasCompared left_a given_a failures_a left_b given_b failures_b limits start_a after_a
+        start_b after_b (Ok (code.Differ n))
     some_and_none n is gone ended =
-        differs gone.more None gone.came gone.read_to ended.more (Some End) ended.came ended.read_to n is
+        differs gone.more None gone.came gone.read_to ended.more (Some End) ended.came ended.read_to
+        n is
         (λ x y is_x is_y.
-        y_has_ended limits x y number (before (a.bytes ++ gone.more) (b.bytes ++ ended.more) gone.more ended.more refl refl None (Some End) x y is_x is_y) b.messages
+        y_has_ended limits x y number
+        (before (a.bytes ++ gone.more) (b.bytes ++ ended.more) gone.more ended.more refl refl
+        None (Some End) x y is_x is_y) b.messages
         (taken_in limits (b.bytes ++ ended.more) y b.messages is_y ended.accepted) number_of_b
-        (next_in left_a given_a failures_a limits start_a reader_a records_a a new_a after_a text_a longer_a gone x is_x.0 is_x.1))
+        (next_in left_a given_a failures_a limits start_a reader_a records_a a new_a after_a text_a
+        longer_a gone x is_x.0 is_x.1))
 
-    pub none_and_some : (n : ℕ) → n ≡ number → Ended_a → Gone_b → HasCompared left_a given_a failures_a left_b given_b failures_b limits start_a after_a start_b after_b (Ok (code.Differ n))
+    pub none_and_some : (n : ℕ) → n ≡ number → Ended_a → Gone_b
+        → HasCompared left_a given_a failures_a left_b given_b failures_b limits start_a after_a
+        start_b after_b (Ok (code.Differ n))
     none_and_some n is ended gone =
-        differs ended.more (Some End) ended.came ended.read_to gone.more None gone.came gone.read_to n is
+        differs ended.more (Some End) ended.came ended.read_to gone.more None gone.came gone.read_to
+        n is
         (λ x y is_x is_y.
-        x_has_ended limits x y number (before (a.bytes ++ ended.more) (b.bytes ++ gone.more) ended.more gone.more refl refl (Some End) None x y is_x is_y) a.messages
-        (taken_in limits (a.bytes ++ ended.more) x a.messages is_x ended.accepted) number_of_a (next_y gone y is_y))
+        x_has_ended limits x y number
+        (before (a.bytes ++ ended.more) (b.bytes ++ gone.more) ended.more gone.more refl refl
+        (Some End) None x y is_x is_y) a.messages
+        (taken_in limits (a.bytes ++ ended.more) x a.messages is_x ended.accepted) number_of_a
+        (next_y gone y is_y))
 
     module _ (gone : Gone_a) (went : Gone_b) where
-      is_normal_b : IsNormal in_whole (b.messages ++ went.message ∷ []) (a.normal ++ went.named ∷ [])
-      is_normal_b = subst (λ n. IsNormal in_whole (b.messages ++ went.message ∷ []) (n ++ went.named ∷ [])) (sym alike) went.stands.stands.is_normal
+      is_normal_b : IsNormal in_whole (b.messages ++ went.message ∷ []) (a.normal ++ went.named
+          ∷ [])
+      is_normal_b =
+          subst (λ n. IsNormal in_whole (b.messages ++ went.message ∷ []) (n ++ went.named ∷ []))
+          (sym alike) went.stands.stands.is_normal
 
       pub texts_apart : text_a ≡ [] → text_b ≡ [] → (n : ℕ) → n ≡ number → (longer_a ≡ longer_b → ⊥)
-          → HasCompared left_a given_a failures_a left_b given_b failures_b limits start_a after_a start_b after_b (Ok (code.Differ n))
+          → HasCompared left_a given_a failures_a left_b given_b failures_b limits start_a after_a
+          start_b after_b (Ok (code.Differ n))
       texts_apart none nothing n is apart =
           differs gone.more None gone.came gone.read_to went.more None went.came went.read_to n is
           (λ x y is_x is_y.
-          are_apart limits x y number (before (a.bytes ++ gone.more) (b.bytes ++ went.more) gone.more went.more refl refl None None x y is_x is_y)
-          (next_in left_a given_a failures_a limits start_a reader_a records_a a new_a after_a text_a longer_a gone x is_x.0 is_x.1) (in_y y is_y)
-          (not_the_same limits a.normal (a.messages ++ gone.message ∷ []) (b.messages ++ went.message ∷ []) gone.named went.named gone.stands.stands.is_normal is_normal_b
-          (λ equal. apart (gone.appended ∙ ap (λ t. t ++ record_of gone.named) none ∙ equal ∙ sym (went.appended ∙ ap (λ t. t ++ record_of went.named) nothing)))))
+          are_apart limits x y number
+          (before (a.bytes ++ gone.more) (b.bytes ++ went.more) gone.more went.more refl refl
+          None None x y is_x is_y)
+          (next_in left_a given_a failures_a limits start_a reader_a records_a a new_a after_a
+          text_a longer_a gone x is_x.0 is_x.1) (in_y y is_y)
+          (not_the_same limits a.normal (a.messages ++ gone.message ∷ []) (b.messages
+          ++ went.message ∷ []) gone.named went.named gone.stands.stands.is_normal is_normal_b
+          (λ equal. apart (gone.appended ∙ ap (λ t. t ++ record_of gone.named) none ∙ equal
+          ∙ sym (went.appended ∙ ap (λ t. t ++ record_of went.named) nothing)))))
         where
-          in_y : (y : Input) → IsOf (b.bytes ++ went.more) None y → AcceptedBefore (accepting limits) y (number + 1)
+          in_y : (y : Input) → IsOf (b.bytes ++ went.more) None y
+              → AcceptedBefore (accepting limits) y (number + 1)
           in_y y is_y = record {
             values = b.messages ++ went.message ∷ [];
             front = went.stands.front;
             rest = new_b.records.pieces.unread ++ is_y.0;
-            split = (next_in left_b given_b failures_b limits start_b reader_b records_b b new_b after_b text_b longer_b went y is_y.0 is_y.1).split;
+            split = (next_in left_b given_b failures_b limits start_b reader_b records_b b new_b
+                after_b text_b longer_b went y is_y.0 is_y.1).split;
             accepted = went.stands.accepted;
-            is_number = (let is = number_of_b in omega (arith, is, length_push b.messages went.message));
+            is_number =
+                (let is = number_of_b in omega (arith, is, length_push b.messages went.message));
           }
 
-      pub still_alike : AreSound limits → text_a ≡ [] → text_b ≡ [] → longer_a ≡ longer_b → a.normal ++ gone.named ∷ [] ≡ b.normal ++ went.named ∷ []
+      pub still_alike : AreSound limits → text_a ≡ [] → text_b ≡ [] → longer_a ≡ longer_b
+          → a.normal ++ gone.named ∷ [] ≡ b.normal ++ went.named ∷ []
       still_alike sound none nothing equal =
           sym
-          (one_form limits a.normal (a.messages ++ gone.message ∷ []) (b.messages ++ went.message ∷ []) gone.named went.named gone.stands.stands.is_normal is_normal_b sound
+          (one_form limits a.normal (a.messages ++ gone.message ∷ []) (b.messages ++ went.message
+          ∷ []) gone.named went.named gone.stands.stands.is_normal is_normal_b sound
           gone.stands.front went.stands.front gone.stands.accepted went.stands.accepted
-          (sym (gone.appended ∙ ap (λ t. t ++ record_of gone.named) none) ∙ equal ∙ went.appended ∙ ap (λ t. t ++ record_of went.named) nothing))
+          (sym (gone.appended ∙ ap (λ t. t ++ record_of gone.named) none) ∙ equal ∙ went.appended
+          ∙ ap (λ t. t ++ record_of went.named) nothing))
           ∙ ap (λ n. n ++ went.named ∷ []) alike
 
     module _ (end_a : Ended_a) (end_b : Ended_b) where
       pub names_a : StandFor numbers new_a.judge.names a.messages
-      names_a = subst (λ judge. StandFor numbers judge.names a.messages) (sym end_a.judge_is) a.stands.stands.names
+      names_a = subst (λ judge. StandFor numbers judge.names a.messages) (sym end_a.judge_is)
+          a.stands.stands.names
 
       pub names_b : StandFor numbers new_b.judge.names b.messages
-      names_b = subst (λ judge. StandFor numbers judge.names b.messages) (sym end_b.judge_is) b.stands.stands.names
+      names_b = subst (λ judge. StandFor numbers judge.names b.messages) (sym end_b.judge_is)
+          b.stands.stands.names
 
-      one_count : (s : Sort) → length (numbers_in numbers new_a.judge.names s) ≡ length (numbers_in numbers new_b.judge.names s)
+      one_count : (s : Sort)
+          → length (numbers_in numbers new_a.judge.names s)
+          ≡ length (numbers_in numbers new_b.judge.names s)
       one_count s =
           ap length (names_a s)
-          ∙ ap (λ k. length (numbers_of_class in_whole (class_after k s) a.messages)) (no_stops a.messages ∙ sym (no_stops b.messages))
-          ∙ same_counts in_whole a.messages b.messages are (class_after (stops_after in_whole 0 b.messages) s)
+          ∙ ap (λ k. length (numbers_of_class in_whole (class_after k s) a.messages))
+          (no_stops a.messages ∙ sym (no_stops b.messages))
+          ∙ same_counts in_whole a.messages b.messages are
+          (class_after (stops_after in_whole 0 b.messages) s)
           ∙ sym (ap length (names_b s))
 
       pub equal_counts : HaveEqualCounts numbers new_a.judge.names new_b.judge.names
-      equal_counts = (one_count ClientSeq, one_count AdapterSeq, one_count Frame, one_count Reference)
+      equal_counts =
+          (one_count ClientSeq, one_count AdapterSeq, one_count Frame, one_count Reference)
 
-      pub both_ended : (renaming : Renaming) → entries (pairs_of renaming) ≡ equal_places a.messages b.messages
-          → HasCompared left_a given_a failures_a left_b given_b failures_b limits start_a after_a start_b after_b (Ok (code.Same renaming))
+      pub both_ended : (renaming : Renaming)
+          → entries (pairs_of renaming) ≡ equal_places a.messages b.messages
+          → HasCompared left_a given_a failures_a left_b given_b failures_b limits start_a after_a
+          start_b after_b (Ok (code.Same renaming))
       both_ended renaming pairs = record {
         number = number;
         bytes_a = a.bytes ++ end_a.more;
         stop_a = Some End;
-        came_a = came_on left_a given_a failures_a start_a reader_a after_a a.bytes end_a.more (Some End) a.came end_a.came;
+        came_a = came_on left_a given_a failures_a start_a reader_a after_a a.bytes end_a.more
+            (Some End) a.came end_a.came;
         read_a = end_a.read_to;
         bytes_b = b.bytes ++ end_b.more;
         stop_b = Some End;
-        came_b = came_on left_b given_b failures_b start_b reader_b after_b b.bytes end_b.more (Some End) b.came end_b.came;
-        read_b = subst (IsReadTo (accepting limits) (b.bytes ++ end_b.more)) one_number end_b.read_to;
+        came_b = came_on left_b given_b failures_b start_b reader_b after_b b.bytes end_b.more
+            (Some End) b.came end_b.came;
+        read_b = subst (IsReadTo (accepting limits) (b.bytes ++ end_b.more)) one_number
+            end_b.read_to;
         tells = λ x y is_x is_y.
             subst (λ how. IsRecordingVerdict limits x y (are_same how)) (sym pairs)
-            (both_have_ended limits x y a.messages b.messages (taken_in limits (a.bytes ++ end_a.more) x a.messages is_x end_a.accepted)
+            (both_have_ended limits x y a.messages b.messages
+            (taken_in limits (a.bytes ++ end_a.more) x a.messages is_x end_a.accepted)
             (taken_in limits (b.bytes ++ end_b.more) y b.messages is_y end_b.accepted) are);
       }

@@ -1,17 +1,23 @@
--- Two recordings have one verdict, and it tells that they are the same exactly where their messages are.
-use Rattle.std.proofs.Common.{◌≡◌, ◌⊎◌, inl, inr, ℕ, ◌<◌, ◌≤◌, ℤ, List, [], ◌∷◌, length, refl, sym, ◌∙◌, ap, subst, arith}
+-- Two recordings have one verdict, and it tells that they are the same exactly where their messages
+-- are.
+use Rattle.std.proofs.Common.{◌≡◌, ◌⊎◌, inl, inr, ℕ, ◌<◌, ◌≤◌, ℤ, List, [], ◌∷◌, length, refl, sym}
+use Rattle.std.proofs.Common.{◌∙◌, ap, subst, arith}
 use Rattle.std.proofs.lemmas.Bool.{cases_lt}
 use Rattle.std.proofs.lemmas.List.{length-map}
 use Rattle.dap_message.specs.Message.{Sent}
-use Rattle.dap_rename.specs.Messages.{Class, AreSame, in_whole, message_skeleton, normal_of, equal_places}
-use Rattle.dap_rename.proofs.Sameness.{same_as_itself, same_fronts, same_is_proper, equal_places_rename, equal_places_carry}
+use Rattle.dap_rename.specs.Messages.{Class, AreSame, in_whole, message_skeleton, normal_of}
+use Rattle.dap_rename.specs.Messages.{equal_places}
+use Rattle.dap_rename.proofs.Sameness.{same_as_itself, same_fronts, same_is_proper}
+use Rattle.dap_rename.proofs.Sameness.{equal_places_rename, equal_places_carry}
 use Rattle.dap_input.specs.declared.limits.Limits.{Limits}
 use Rattle.dap_input.specs.Limits.{AreSound}
 use Rattle.dap_normal.specs.Accepting.{IsAccepted, accepting, text}
 use Rattle.dap_input.specs.Inputs.{Input, IsTaken}
 use Rattle.dap_compare.specs.Comparing.{are_same}
-use Rattle.dap_compare.specs.Verdicts.{RecordingsHaveOneVerdict, SameIsTold, SameIsToldExactly, IsCarried, SameIsCarried, IsRecordingVerdict}
-use Rattle.dap_normal.proofs.AcceptingFacts.{accepted_facts, messages_proper, value_facts, value_laws}
+use Rattle.dap_compare.specs.Verdicts.{RecordingsHaveOneVerdict, SameIsTold, SameIsToldExactly}
+use Rattle.dap_compare.specs.Verdicts.{IsCarried, SameIsCarried, IsRecordingVerdict}
+use Rattle.dap_normal.proofs.AcceptingFacts.{accepted_facts, messages_proper, value_facts}
+use Rattle.dap_normal.proofs.AcceptingFacts.{value_laws}
 use Rattle.dap_recording.proofs.Records.{readable}
 use Rattle.dap_input.proofs.Outcomes.{one_list}
 use Rattle.dap_normal.specs.Normalising.{Normalises}
@@ -34,7 +40,8 @@ bytes_equal_or_not [] (y ∷ ys) = inr (λ e. absurd cc)
 bytes_equal_or_not (x ∷ xs) [] = inr (λ e. absurd cc)
 bytes_equal_or_not (x ∷ xs) (y ∷ ys) = here (numbers_equal_or_not x y) (bytes_equal_or_not xs ys)
   where
-    here : (x ≡ y) ⊎ (x ≡ y → ⊥) → (xs ≡ ys) ⊎ (xs ≡ ys → ⊥) → (x ∷ xs ≡ y ∷ ys) ⊎ (x ∷ xs ≡ y ∷ ys → ⊥)
+    here : (x ≡ y) ⊎ (x ≡ y → ⊥) → (xs ≡ ys) ⊎ (xs ≡ ys → ⊥)
+        → (x ∷ xs ≡ y ∷ ys) ⊎ (x ∷ xs ≡ y ∷ ys → ⊥)
     here (inl a) (inl b) = inl (cc (a, b))
     here (inr a) b = inr (λ e. a (let q : x ≡ y = cc in q))
     here (inl a) (inr b) = inr (λ e. b (let q : xs ≡ ys = cc in q))
@@ -42,15 +49,26 @@ bytes_equal_or_not (x ∷ xs) (y ∷ ys) = here (numbers_equal_or_not x y) (byte
 -- Lists that are the same are as long.
 pub same_lengths : (ms ns : List Sent) → AreSame in_whole ms ns → length ms ≡ length ns
 unfolding AreSame
-same_lengths ms ns same = sym (length-map ms message_skeleton) ∙ ap (λ (t : List Sent). length t) same.2.0 ∙ length-map ns message_skeleton
+same_lengths ms ns same =
+    sym (length-map ms message_skeleton) ∙ ap (λ (t : List Sent). length t) same.2.0
+    ∙ length-map ns message_skeleton
 
 module _ (limits : Limits) (sound : AreSound limits) where
-  abbrev as_normalised : (bytes : List ℕ) (ms : List Sent) → IsAccepted limits bytes ms → Normalises limits bytes (text (normal_of in_whole ms))
+  abbrev as_normalised : (bytes : List ℕ) (ms : List Sent) → IsAccepted limits bytes ms
+      → Normalises limits bytes (text (normal_of in_whole ms))
   as_normalised bytes ms accepted =
-      record { messages = ms; accepts = accepted; normal = normal_of in_whole ms; is_normal = normal ms (messages_proper accepted.records ms accepted.typed); text_is = refl }
+      record {
+        messages = ms;
+        accepts = accepted;
+        normal = normal_of in_whole ms;
+        is_normal = normal ms (messages_proper accepted.records ms accepted.typed);
+        text_is =
+            refl;
+      }
 
   -- Accepted messages are the same or not, and the texts of their normal forms tell.
-  pub same_or_not : (bytes other : List ℕ) (ms ns : List Sent) → IsAccepted limits bytes ms → IsAccepted limits other ns → AreSame in_whole ms ns ⊎ (AreSame in_whole ms ns → ⊥)
+  pub same_or_not : (bytes other : List ℕ) (ms ns : List Sent) → IsAccepted limits bytes ms
+      → IsAccepted limits other ns → AreSame in_whole ms ns ⊎ (AreSame in_whole ms ns → ⊥)
   same_or_not bytes other ms ns p q = here (bytes_equal_or_not x y)
     where
       x : List ℕ
@@ -60,24 +78,45 @@ module _ (limits : Limits) (sound : AreSound limits) where
       y = text (normal_of in_whole ns)
 
       here : (x ≡ y) ⊎ (x ≡ y → ⊥) → AreSame in_whole ms ns ⊎ (AreSame in_whole ms ns → ⊥)
-      here (inl e) = inl (equal_texts limits sound bytes other x y (as_normalised bytes ms p) (as_normalised other ns q) e)
-      here (inr e) = inr (λ same. e (same_texts limits sound bytes other x y (as_normalised bytes ms p) (as_normalised other ns q) same))
+      here (inl e) =
+          inl (equal_texts limits sound bytes other x y (as_normalised bytes ms p)
+          (as_normalised other ns q) e)
+      here (inr e) =
+          inr (λ same. e
+          (same_texts limits sound bytes other x y (as_normalised bytes ms p)
+          (as_normalised other ns q) same))
 
   pub same_facts : SameFacts (accepting limits) (AreSame in_whole)
-  same_facts = record { none = same_as_itself in_whole [] tt; lengths = same_lengths; fronts = same_fronts in_whole; told = same_or_not }
+  same_facts =
+      record {
+        none = same_as_itself in_whole [] tt;
+        lengths = same_lengths;
+        fronts = same_fronts in_whole;
+        told = same_or_not;
+      }
 
-  one_accepted : (bytes : List ℕ) (ms ns : List Sent) → IsAccepted limits bytes ms → IsAccepted limits bytes ns → ms ≡ ns
-  one_accepted = one_list (accepting limits) (readable limits.frame) (value_laws limits) (accepted_facts limits)
+  one_accepted : (bytes : List ℕ) (ms ns : List Sent) → IsAccepted limits bytes ms
+      → IsAccepted limits bytes ns → ms ≡ ns
+  one_accepted =
+      one_list (accepting limits) (readable limits.frame) (value_laws limits)
+      (accepted_facts limits)
 
-  pub same_told : (a b : Input) (of_a of_b : List Sent) → IsTaken (accepting limits) a of_a → IsTaken (accepting limits) b of_b → SameIsTold limits a b of_a of_b
+  pub same_told : (a b : Input) (of_a of_b : List Sent) → IsTaken (accepting limits) a of_a
+      → IsTaken (accepting limits) b of_b → SameIsTold limits a b of_a of_b
   same_told a b of_a of_b taken_a taken_b = record {
-    if_same = λ same. (record { of_a = of_a; of_b = of_b; taken_a = taken_a; taken_b = taken_b; same = same }, refl);
+    if_same = λ same. (
+      record { of_a = of_a; of_b = of_b; taken_a = taken_a; taken_b = taken_b; same = same },
+      refl,
+    );
     only_if = λ how is.
-        subst (λ ms. AreSame in_whole ms of_b) (one_accepted a.bytes is.0.of_a of_a is.0.taken_a.0 taken_a.0)
-        (subst (AreSame in_whole is.0.of_a) (one_accepted b.bytes is.0.of_b of_b is.0.taken_b.0 taken_b.0) is.0.same);
+        subst (λ ms. AreSame in_whole ms of_b)
+        (one_accepted a.bytes is.0.of_a of_a is.0.taken_a.0 taken_a.0)
+        (subst (AreSame in_whole is.0.of_a)
+        (one_accepted b.bytes is.0.of_b of_b is.0.taken_b.0 taken_b.0) is.0.same);
   }
 
-  pub same_carried : (a b : Input) (how : List (Class × ℤ × ℤ)) → IsRecordingVerdict limits a b (are_same how) → IsCarried limits a b how
+  pub same_carried : (a b : Input) (how : List (Class × ℤ × ℤ))
+      → IsRecordingVerdict limits a b (are_same how) → IsCarried limits a b how
   same_carried a b how (inputs, is) =
       let proper = same_is_proper in_whole inputs.of_a inputs.of_b inputs.same in
       subst (IsCarried limits a b) (sym is) (record {
@@ -90,10 +129,13 @@ module _ (limits : Limits) (sound : AreSound limits) where
       })
 
 pub recordings_have_one_verdict : RecordingsHaveOneVerdict
-recordings_have_one_verdict limits sound = has_one_verdict (accepting limits) (readable limits.frame) (value_facts limits) (accepted_facts limits) (AreSame in_whole) (same_facts limits sound) equal_places
+recordings_have_one_verdict limits sound =
+    has_one_verdict (accepting limits) (readable limits.frame) (value_facts limits)
+    (accepted_facts limits) (AreSame in_whole) (same_facts limits sound) equal_places
 
 pub same_is_told_exactly : SameIsToldExactly
-same_is_told_exactly limits sound a b of_a of_b taken_a taken_b = same_told limits sound a b of_a of_b taken_a taken_b
+same_is_told_exactly limits sound a b of_a of_b taken_a taken_b =
+    same_told limits sound a b of_a of_b taken_a taken_b
 
 pub same_is_carried : SameIsCarried
 same_is_carried limits sound a b how is = same_carried limits sound a b how is

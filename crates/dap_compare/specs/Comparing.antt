@@ -1,7 +1,9 @@
--- Two inputs compared record by record, whatever a record is, and whatever makes their values the same: the verdict. Source: own.
+-- Two inputs compared record by record, whatever a record is, and whatever makes their values the
+-- same: the verdict. Source: own.
 use Rattle.std.specs.Prelude.{◌≡◌, ◌≢◌, ◌⊎◌, ℕ, ◌+◌, ◌<◌, List, []}
 use Rattle.dap_input.specs.Judging.{Judging}
-use Rattle.dap_input.specs.Inputs.{Input, Fault, IsRefusedAt, IsNotRefusedAt, IsTaken, AcceptedBefore}
+use Rattle.dap_input.specs.Inputs.{Input, Fault, IsRefusedAt, IsNotRefusedAt, IsTaken}
+use Rattle.dap_input.specs.Inputs.{AcceptedBefore}
 
 module _ (j : Judging) where
   module _ (AreSame : List j.Value → List j.Value → Type 0) where
@@ -16,7 +18,8 @@ module _ (j : Judging) where
     DifferAt a b number before =
         ((before.of_a.rest ≡ []) × (before.of_b.rest ≢ []))
         ⊎ (((before.of_a.rest ≢ []) × (before.of_b.rest ≡ []))
-        ⊎ ((next_a : AcceptedBefore j a (number + 1)) × (next_b : AcceptedBefore j b (number + 1)) × (AreSame next_a.values next_b.values → ⊥)))
+        ⊎ ((next_a : AcceptedBefore j a (number + 1)) × (next_b : AcceptedBefore j b (number + 1))
+        × (AreSame next_a.values next_b.values → ⊥)))
 
     -- The values of the whole inputs are the same.
     pub record AreSameInputs (a b : Input) : Type 0 where
@@ -31,20 +34,27 @@ module _ (j : Judging) where
       pub data Verdict : Type 0 where
         are_same : P → Verdict
         differ : ℕ → Verdict
-        refused_a : ℕ → Fault j → Verdict
-        refused_b : ℕ → Fault j → Verdict
+        refused_a : ℕ → Fault → Verdict
+        refused_b : ℕ → Fault → Verdict
 
-      -- Record by record, first of the one input and then of the other: the first that is refused, or that makes them differ; if there is none, how they are the same.
+      -- Record by record, first of the one input and then of the other: the first that is refused,
+      -- or that makes them differ; if there is none, how they are the same.
       abbrev pub IsVerdict : Input → Input → Verdict → Type 0
-      IsVerdict a b (refused_a number fault) = AreSameBefore a b number × IsRefusedAt j a number fault
-      IsVerdict a b (refused_b number fault) = AreSameBefore a b number × IsNotRefusedAt j a number × IsRefusedAt j b number fault
-      IsVerdict a b (differ number) = (before : AreSameBefore a b number) × IsNotRefusedAt j a number × IsNotRefusedAt j b number × DifferAt a b number before
-      IsVerdict a b (are_same how) = (inputs : AreSameInputs a b) × (how ≡ pairs inputs.of_a inputs.of_b)
+      IsVerdict a b (refused_a number fault) = AreSameBefore a b number
+          × IsRefusedAt j a number fault
+      IsVerdict a b (refused_b number fault) = AreSameBefore a b number × IsNotRefusedAt j a number
+          × IsRefusedAt j b number fault
+      IsVerdict a b (differ number) = (before : AreSameBefore a b number)
+          × IsNotRefusedAt j a number × IsNotRefusedAt j b number × DifferAt a b number before
+      IsVerdict a b (are_same how) = (inputs : AreSameInputs a b)
+          × (how ≡ pairs inputs.of_a inputs.of_b)
 
       -- Two inputs have a verdict, and only one.
       pub record HasOneVerdict : Type 0 where
         pub some : (a b : Input) → (verdict : Verdict) × IsVerdict a b verdict
-        pub one : (a b : Input) (verdict other : Verdict) → IsVerdict a b verdict → IsVerdict a b other → verdict ≡ other
+        pub one : (a b : Input) (verdict other : Verdict) → IsVerdict a b verdict
+            → IsVerdict a b other → verdict ≡ other
         -- no earlier record makes them differ
-        pub least : (a b : Input) (number earlier : ℕ) → IsVerdict a b (differ number) → earlier < number
+        pub least : (a b : Input) (number earlier : ℕ) → IsVerdict a b (differ number)
+            → earlier < number
             → (before : AreSameBefore a b earlier) → DifferAt a b earlier before → ⊥

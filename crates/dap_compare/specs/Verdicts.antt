@@ -1,5 +1,6 @@
--- The verdict on two recordings: how they are the same, the first record where they differ, or the first that is refused of one. Source: own.
-use Rattle.std.specs.Prelude.{◌≡◌, ℕ, ℤ, ◌-◌, true, false, List, ◌++◌, Option, Some, Result, Ok, Err}
+-- The verdict on two recordings: how they are the same, the first record where they differ, or the
+-- first that is refused of one. Source: own.
+use Rattle.std.specs.Prelude.{◌≡◌, ℕ, ℤ, ◌-◌, List, Option, Result, Ok, Err}
 use Rattle.dap_message.specs.Message.{Sent}
 use Rattle.dap_rename.specs.Messages.{Class, IsProperId, AreSame, Carries, in_whole, equal_places}
 use Rattle.dap_rename.specs.Pairs.{entries}
@@ -7,7 +8,6 @@ use Rattle.dap_rename.specs.Renaming.{pairs_of}
 use Rattle.dap_rename.specs.Renamings.{IsRenaming}
 use Rattle.dap_input.specs.declared.limits.Limits.{Limits}
 use Rattle.dap_device.specs.declared.reading.Stop.{Stop}
-use Rattle.dap_device.specs.declared.reading.Stop.TheVariants.{End, Failed}
 use Rattle.dap_input.specs.declared.refused.Refused.{Refused}
 use Rattle.dap_compare.specs.declared.verdict.CompareRefused.{CompareRefused}
 use Rattle.dap_compare.specs.declared.verdict.CompareRefused.TheVariants as because
@@ -16,51 +16,58 @@ use Rattle.dap_compare.specs.declared.verdict.Verdict.TheVariants as code
 use Rattle.dap_compare.specs.declared.verdict.Which.TheVariants.{A, B}
 use Rattle.dap_input.specs.Limits.{AreSound}
 use Rattle.dap_normal.specs.Accepting.{accepting}
-use Rattle.dap_normal.specs.Refusals.{Tells}
+use Rattle.dap_input.specs.Refusals.{Tells}
 use Rattle.dap_device.specs.Pieces.{HasComeSoFar}
-use Rattle.dap_input.specs.ReadTo.{IsReadTo}
+use Rattle.dap_input.specs.ReadTo.{IsOf, IsReadTo}
 use Rattle.dap_input.specs.Inputs.{Input, Fault, IsTaken}
-use Rattle.dap_compare.specs.Comparing.{Verdict, IsVerdict, are_same, differ, refused_a, refused_b, HasOneVerdict}
+use Rattle.dap_compare.specs.Comparing.{Verdict, IsVerdict, are_same, differ, refused_a, refused_b}
+use Rattle.dap_compare.specs.Comparing.{HasOneVerdict}
 
--- Two recordings are the same if a renaming carries the messages of the one to those of the other, and then by the pairs of equal places.
+-- Two recordings are the same if a renaming carries the messages of the one to those of the other,
+-- and then by the pairs of equal places.
 abbrev pub RecordingVerdict : Limits → Type 0
 RecordingVerdict limits = Verdict (accepting limits) (AreSame in_whole) equal_places
 
 abbrev pub IsRecordingVerdict : (limits : Limits) → Input → Input → RecordingVerdict limits → Type 0
-IsRecordingVerdict limits a b verdict = IsVerdict (accepting limits) (AreSame in_whole) equal_places a b verdict
+IsRecordingVerdict limits a b verdict =
+    IsVerdict (accepting limits) (AreSame in_whole) equal_places a b verdict
 
--- The verdict on the inputs is a refusal of the one or of the other at this record, and it is told. Memory that was refused tells nothing.
-pub record IsRefusalOf (limits : Limits) (number : ℕ) (why : Refused) (verdict : Fault (accepting limits) → RecordingVerdict limits) (a b : Input) : Type 0 where
-  pub fault : Fault (accepting limits)
-  pub tells : Tells limits why number fault
+-- The verdict on the inputs is a refusal of the one or of the other at this record, and it is told.
+-- Memory that was refused tells nothing.
+pub record IsRefusalOf (limits : Limits) (number : ℕ) (why : Refused) (verdict : Fault
+    → RecordingVerdict limits) (a b : Input) : Type 0 where
+  pub fault : Fault
+  pub tells : Tells why number fault
   pub is_verdict : IsRecordingVerdict limits a b (verdict fault)
 
 abbrev pub TellsRefusal : Limits → Input → Input → ℕ → CompareRefused → Type 0
-TellsRefusal limits a b number (because.Input A why) = IsRefusalOf limits number why (refused_a number) a b
-TellsRefusal limits a b number (because.Input B why) = IsRefusalOf limits number why (refused_b number) a b
+TellsRefusal limits a b number (because.Input A why) =
+    IsRefusalOf limits number why (refused_a number) a b
+TellsRefusal limits a b number (because.Input B why) =
+    IsRefusalOf limits number why (refused_b number) a b
 TellsRefusal limits a b number because.Memory = Unit {0}
 
 -- The verdict is answered. It is that of this record, unless the inputs are the same.
 abbrev pub TellsVerdict : Limits → Input → Input → ℕ → Result CodeVerdict CompareRefused → Type 0
-TellsVerdict limits a b number (Ok (code.Same renaming)) = IsRecordingVerdict limits a b (are_same (entries (pairs_of renaming)))
-TellsVerdict limits a b number (Ok (code.Differ n)) = (n ≡ number) × IsRecordingVerdict limits a b (differ number)
+TellsVerdict limits a b number (Ok (code.Same renaming)) =
+    IsRecordingVerdict limits a b (are_same (entries (pairs_of renaming)))
+TellsVerdict limits a b number (Ok (code.Differ n)) = (n ≡ number)
+    × IsRecordingVerdict limits a b (differ number)
 TellsVerdict limits a b number (Err refusal) = TellsRefusal limits a b number refusal
 
--- An input of which these bytes have come: all of it where the reader has ended or failed, and else a front of it, whatever comes behind.
-abbrev pub IsOf : List ℕ → Option Stop → Input → Type 0
-IsOf bytes (Some End) input = (input.bytes ≡ bytes) × (input.failed ≡ false)
-IsOf bytes (Some Failed) input = (input.bytes ≡ bytes) × (input.failed ≡ true)
-IsOf bytes stop input = (more : List ℕ) × (input.bytes ≡ bytes ++ more)
-
--- how far the second input is read where the verdict is that of this record: before it, where the first is refused there
+-- how far the second input is read where the verdict is that of this record: before it, where the
+-- first is refused there
 abbrev pub read_of_b : ℕ → Result CodeVerdict CompareRefused → ℕ
 read_of_b number (Err (because.Input A why)) = number - 1
 read_of_b number answer = number
 
 -- Two readers, by what they tell of their bytes, and by their counts.
-module _ {R S : Type 0} (left_a : R → Option (List ℕ)) (given_a failures_a : R → ℕ) (left_b : S → Option (List ℕ)) (given_b failures_b : S → ℕ) (limits : Limits) where
-  -- So much came from the readers, no more than this record asked for, and the verdict on the inputs, whatever else they hold, is answered.
-  pub record HasCompared (old_a new_a : R) (old_b new_b : S) (answer : Result CodeVerdict CompareRefused) : Type 0 where
+module _ {R S : Type 0} (left_a : R → Option (List ℕ)) (given_a failures_a : R → ℕ) (left_b : S
+    → Option (List ℕ)) (given_b failures_b : S → ℕ) (limits : Limits) where
+  -- So much came from the readers, no more than this record asked for, and the verdict on the
+  -- inputs, whatever else they hold, is answered.
+  pub record HasCompared (old_a new_a : R) (old_b new_b : S)
+      (answer : Result CodeVerdict CompareRefused) : Type 0 where
     pub number : ℕ
     pub bytes_a : List ℕ
     pub stop_a : Option Stop
@@ -70,7 +77,8 @@ module _ {R S : Type 0} (left_a : R → Option (List ℕ)) (given_a failures_a :
     pub stop_b : Option Stop
     pub came_b : HasComeSoFar left_b given_b failures_b old_b new_b bytes_b stop_b
     pub read_b : IsReadTo (accepting limits) bytes_b (read_of_b number answer)
-    pub tells : (a b : Input) → IsOf bytes_a stop_a a → IsOf bytes_b stop_b b → TellsVerdict limits a b number answer
+    pub tells : (a b : Input) → IsOf bytes_a stop_a a → IsOf bytes_b stop_b b
+        → TellsVerdict limits a b number answer
 
   abbrev pub Compares : R → R → S → S → Result CodeVerdict CompareRefused → Type 0
   Compares old_a new_a old_b new_b (Err because.Memory) = Unit {0}
@@ -78,17 +86,24 @@ module _ {R S : Type 0} (left_a : R → Option (List ℕ)) (given_a failures_a :
 
 -- Two inputs have one verdict; where they differ, they do so at no earlier record.
 abbrev pub RecordingsHaveOneVerdict : Type 0
-RecordingsHaveOneVerdict = (limits : Limits) → AreSound limits → HasOneVerdict (accepting limits) (AreSame in_whole) equal_places
+RecordingsHaveOneVerdict = (limits : Limits) → AreSound limits
+    → HasOneVerdict (accepting limits) (AreSame in_whole) equal_places
 
--- Where both inputs are accepted, the verdict is that they are the same exactly where their messages are.
+-- Where both inputs are accepted, the verdict is that they are the same exactly where their
+-- messages are.
 pub record SameIsTold (limits : Limits) (a b : Input) (of_a of_b : List Sent) : Type 0 where
-  pub if_same : AreSame in_whole of_a of_b → IsRecordingVerdict limits a b (are_same (equal_places of_a of_b))
-  pub only_if : (how : List (Class × ℤ × ℤ)) → IsRecordingVerdict limits a b (are_same how) → AreSame in_whole of_a of_b
+  pub if_same : AreSame in_whole of_a of_b
+      → IsRecordingVerdict limits a b (are_same (equal_places of_a of_b))
+  pub only_if : (how : List (Class × ℤ × ℤ)) → IsRecordingVerdict limits a b (are_same how)
+      → AreSame in_whole of_a of_b
 
 abbrev pub SameIsToldExactly : Type 0
-SameIsToldExactly = (limits : Limits) → AreSound limits → (a b : Input) (of_a of_b : List Sent) → IsTaken (accepting limits) a of_a → IsTaken (accepting limits) b of_b → SameIsTold limits a b of_a of_b
+SameIsToldExactly = (limits : Limits) → AreSound limits → (a b : Input) (of_a of_b : List Sent)
+    → IsTaken (accepting limits) a of_a → IsTaken (accepting limits) b of_b
+    → SameIsTold limits a b of_a of_b
 
--- Where the verdict is that they are the same, both inputs are accepted, and the pairs are a renaming that carries the messages of the one to those of the other.
+-- Where the verdict is that they are the same, both inputs are accepted, and the pairs are a
+-- renaming that carries the messages of the one to those of the other.
 pub record IsCarried (limits : Limits) (a b : Input) (how : List (Class × ℤ × ℤ)) : Type 0 where
   pub of_a : List Sent
   pub of_b : List Sent
@@ -98,4 +113,5 @@ pub record IsCarried (limits : Limits) (a b : Input) (how : List (Class × ℤ �
   pub carries : Carries in_whole how of_a of_b
 
 abbrev pub SameIsCarried : Type 0
-SameIsCarried = (limits : Limits) → AreSound limits → (a b : Input) (how : List (Class × ℤ × ℤ)) → IsRecordingVerdict limits a b (are_same how) → IsCarried limits a b how
+SameIsCarried = (limits : Limits) → AreSound limits → (a b : Input) (how : List (Class × ℤ × ℤ))
+    → IsRecordingVerdict limits a b (are_same how) → IsCarried limits a b how

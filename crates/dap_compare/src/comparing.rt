@@ -22,16 +22,17 @@ fn refusal_of(which: Which, refused: Refused) -> CompareRefused
     }
 }
 
-/// Compares two recordings: says how the ids of the one are renamed to those of the other, or where they differ.
+/// Compares two recordings: says how the ids of the one are renamed to those of the other, or where
+/// they differ.
 ///
-/// Record by record that of A is read and judged first, then that of B; behind a difference or a refusal nothing more is
-/// judged. At most 65,536 bytes are read past a record, and at most one byte past `limits.input` of each. Records are
-/// counted from 1.
+/// Record by record that of A is read and judged first, then that of B; behind a difference or a
+/// refusal nothing more is judged. At most 65,536 bytes are read past a record, and at most one
+/// byte past `limits.input` of each. Records are counted from 1.
 ///
 /// # Errors
 ///
-/// The first refusal of an input, where the records before it are the same; `ReadFault` is one where a reader failed and
-/// nothing is wrong with what came before; `Memory`.
+/// The first refusal of an input, where the records before it are the same; `ReadFault` is one
+/// where a reader failed and nothing is wrong with what came before; `Memory`.
 pub fn compare<A: Source, B: Source>(
     alloc: Global,
     reader_a: &mut A,
@@ -44,8 +45,10 @@ pub fn compare<A: Source, B: Source>(
     requires failures_a { A.failures reader_a.old < 2 ^ 62 }
     requires failures_b { B.failures reader_b.old < 2 ^ 62 }
 
-    // The one verdict on the two inputs is answered. That a reader failed is answered only where it did.
-    ensures answer { Compares A.left A.given A.failures B.left B.given B.failures limits reader_a.old reader_a.new reader_b.old reader_b.new result }
+    // The one verdict on the two inputs is answered. That a reader failed is answered only where it
+    // did.
+    ensures answer { Compares A.left A.given A.failures B.left B.given B.failures limits
+        reader_a.old reader_a.new reader_b.old reader_b.new result }
 
     // It takes at most one byte past the limit of each.
     ensures taken_a { A.given reader_a.new ≤ A.given reader_a.old + limits.input + 1 }
@@ -61,8 +64,8 @@ pub fn compare<A: Source, B: Source>(
     )
 }
 
-/// Does what [`compare`] does, with these tables for the names of the ids of A and of B. They have to be empty, each with
-/// the limit `limits.ids`.
+/// Does what [`compare`] does, with these tables for the names of the ids of A and of B. They have
+/// to be empty, each with the limit `limits.ids`.
 ///
 /// # Errors
 ///
@@ -84,7 +87,8 @@ pub fn compare_with<A: Source, B: Source, T: NameTable + Drop>(
     requires failures_b { B.failures reader_b.old < 2 ^ 62 }
 
     // What `compare` promises, whatever the tables are.
-    ensures answer { Compares A.left A.given A.failures B.left B.given B.failures limits reader_a.old reader_a.new reader_b.old reader_b.new result }
+    ensures answer { Compares A.left A.given A.failures B.left B.given B.failures limits
+        reader_a.old reader_a.new reader_b.old reader_b.new result }
     ensures taken_a { A.given reader_a.new ≤ A.given reader_a.old + limits.input + 1 }
     ensures taken_b { B.given reader_b.new ≤ B.given reader_b.old + limits.input + 1 }
 {

@@ -25,8 +25,8 @@ impl fmt::Display for Which {
 pub enum Verdict {
     /// This renaming carries the messages of the first to those of the second.
     Same(Renaming),
-    /// From the record of this number on, counted from 1, they differ: no renaming carries the messages up to it, or just
-    /// one of them has it.
+    /// From the record of this number on, counted from 1, they differ: no renaming carries the
+    /// messages up to it, or just one of them has it.
     Differ(u64),
 }
 
@@ -35,7 +35,8 @@ pub enum Verdict {
 /// The text is what the program prints behind `dapnorm: `.
 #[derive(Clone, Copy, Debug, PartialEq, Eq, Error)]
 pub enum CompareRefused {
-    /// This input is refused. The fault inside is never for want of memory, and never that a writer failed.
+    /// This input is refused. The fault inside is never for want of memory, and never that a writer
+    /// failed.
     #[error("{0}: {1}")]
     Input(Which, Refused),
     /// Memory was refused.

@@ -57,7 +57,8 @@ module _ {S : Type 0} (out : S → Option (List ℕ)) (failures : S → ℕ) whe
     pub appended : Appends (out old) (out new) (take count bytes)
     pub failure : failures new ≡ failures old + 1
 
-  -- All of the bytes went out, and were flushed where that is asked for; or a front of them, and the device failed.
+  -- All of the bytes went out, and were flushed where that is asked for; or a front of them, and
+  -- the device failed.
   abbrev pub HasWrittenAll : {U : Type 0} → S → S → Result U DeviceFault → List ℕ → Type 0
   HasWrittenAll old new (Ok done) bytes = AllWritten old new bytes
   HasWrittenAll old new (Err fault) bytes = FrontWritten old new bytes

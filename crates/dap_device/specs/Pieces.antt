@@ -1,11 +1,13 @@
 -- What reading an input piece by piece takes of a source. Source: own.
-use Rattle.std.specs.Prelude.{◌≡◌, ◌⊎◌, ℕ, ◌+◌, ◌<◌, ◌≤◌, List, [], ◌∷◌, ◌++◌, length, Option, Some, None, Result, Ok, Err}
+use Rattle.std.specs.Prelude.{◌≡◌, ◌⊎◌, ℕ, ◌+◌, ◌<◌, ◌≤◌, List, [], ◌∷◌, ◌++◌, length, Option, Some}
+use Rattle.std.specs.Prelude.{None, Result, Ok, Err}
 use Rattle.std.specs.Io.KnownBytes.{Consumes}
 use Rattle.dap_device.specs.declared.reading.Stop.{Stop}
 use Rattle.dap_device.specs.declared.reading.Stop.TheVariants.{End, Full, Failed}
 use Rattle.dap_device.specs.Reading.{HasStopped}
 
--- What callers see of the pieces of a source: the bytes that came and are not read yet, how many came in all, and how many may.
+-- What callers see of the pieces of a source: the bytes that came and are not read yet, how many
+-- came in all, and how many may.
 pub record Window : Type 0 where
   pub unread : List ℕ
   pub taken : ℕ
@@ -30,7 +32,13 @@ module _ {S : Type 0} (left : S → Option (List ℕ)) (given failures : S → �
     pub few : length piece ≤ 65536
     pub needed : (piece ≡ []) ⊎ (before.unread ≡ [])
     pub some : 0 < length after.unread
-    pub window : after ≡ record { unread = before.unread ++ piece; taken = before.taken + length piece; limit = before.limit }
+    pub window : after
+        ≡ record {
+          unread = before.unread
+              ++ piece;
+          taken = before.taken + length piece;
+          limit = before.limit;
+        }
     pub within : after.taken ≤ after.limit
 
   -- A byte past the limit came.
@@ -48,4 +56,5 @@ module _ {S : Type 0} (left : S → Option (List ℕ)) (given failures : S → �
   -- Something is unread; or nothing is, for a reason, and the pieces are as they were.
   abbrev pub HasFilled : {U : Type 0} → Window → Window → S → S → Result U Stop → Type 0
   HasFilled before after old new (Ok done) = HasNextPiece before after old new
-  HasFilled before after old new (Err stop) = (before.unread ≡ []) × (after ≡ before) × HasNoPiece before old new stop
+  HasFilled before after old new (Err stop) = (before.unread ≡ []) × (after ≡ before)
+      × HasNoPiece before old new stop

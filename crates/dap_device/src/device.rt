@@ -8,8 +8,9 @@ pub struct DeviceFault {}
 
 /// What bytes are read from.
 ///
-/// A source counts what it gave and how often it failed, so that a contract can say that an engine answers a read
-/// fault exactly where its reader failed. Nothing but `read` changes the bytes that are left, or a count.
+/// A source counts what it gave and how often it failed, so that a contract can say that an engine
+/// answers a read fault exactly where its reader failed. Nothing but `read` changes the bytes that
+/// are left, or a count.
 pub trait Source {
     /// The bytes that are left, where the source tells them.
     ghost left: { Self → Option (List ℕ) };
@@ -20,8 +21,8 @@ pub trait Source {
     /// How often it failed.
     ghost failures: { Self → ℕ };
 
-    /// Moves bytes to the front of `buffer` and answers how many. None into a buffer that has room says that the
-    /// input has ended.
+    /// Moves bytes to the front of `buffer` and answers how many. None into a buffer that has room
+    /// says that the input has ended.
     fn read(&mut self, buffer: &mut [u8]) -> Result<usize, DeviceFault>
         requires small { length buffer.old ≤ 65536 }
         requires given { given self.old < 2 ^ 63 }
@@ -39,8 +40,8 @@ pub trait Source {
 
 /// What bytes are written to.
 ///
-/// A write of nothing into a sink that was given some bytes counts as a failure, beside a write or a flush that
-/// answers `Err`. Nothing but `write` changes the bytes that went out.
+/// A write of nothing into a sink that was given some bytes counts as a failure, beside a write or
+/// a flush that answers `Err`. Nothing but `write` changes the bytes that went out.
 pub trait Sink {
     /// The bytes that went out, where the sink tells them.
     ghost out: { Self → Option (List ℕ) };

@@ -107,9 +107,11 @@ impl Sink for MemorySink {
     /// Takes what there is room for. Only a write of some bytes into a full sink fails.
     fn write(&mut self, bytes: &[u8]) -> Result<usize, DeviceFault>
         requires { self.old.failures < 2 ^ 63 }
-        ensures written { HasWritten (λ (s : TakenBytes). Some s.out) (λ (s : TakenBytes). s.failures) self.old self.new result bytes.now }
+        ensures written { HasWritten (λ (s : TakenBytes). Some s.out)
+            (λ (s : TakenBytes). s.failures) self.old self.new result bytes.now }
         ensures room { self.new.room ≡ self.old.room }
-        ensures full { IsErr result ↔ ((0 < length bytes.now) × (length self.old.out ≡ self.old.room)) }
+        ensures full { IsErr result
+            ↔ ((0 < length bytes.now) × (length self.old.out ≡ self.old.room)) }
     {
         let room = self.room - self.bytes.len();
         if room == 0 && !bytes.is_empty() {

@@ -21,7 +21,8 @@ fn read_front<R: Source>(
     requires small { room ≤ 65536 }
     requires given { R.given reader.old < 2 ^ 63 }
     requires failures { R.failures reader.old < 2 ^ 63 }
-    ensures read { HasRead R.left R.given R.failures reader.old reader.new result (take room buffer.new) }
+    ensures read { HasRead R.left R.given R.failures reader.old reader.new result
+        (take room buffer.new) }
     ensures len { length buffer.new ≡ length buffer.old }
 {
     reader.read(&mut buffer[..room])
@@ -45,16 +46,19 @@ impl Model for Pieces {
 
     ghost Value = { Window };
 
-    ghost view = { λ p. record { unread = slice_range p.buffer.items p.start p.end; taken = p.taken; limit = p.limit } };
+    ghost view = { λ p. record
+        { unread = slice_range p.buffer.items p.start p.end; taken = p.taken; limit = p.limit } };
 
-    ghost invariant = { λ p. (p.start ≤ p.end) × (p.end ≤ length p.buffer.items) × (length p.buffer.items ≡ 65536) × (p.taken ≤ p.limit) × (p.limit ≤ 2 ^ 62) };
+    ghost invariant = { λ p. (p.start ≤ p.end) × (p.end ≤ length p.buffer.items)
+        × (length p.buffer.items ≡ 65536) × (p.taken ≤ p.limit) × (p.limit ≤ 2 ^ 62) };
 }
 
 impl Pieces {
     /// The pieces of a source of which nothing has been read.
     pub fn new(alloc: Global, limit: u64) -> Result<Pieces, AllocError>
         requires { limit ≤ 2 ^ 62 }
-        ensures { IfOk result (λ pieces. pieces ≡ record { unread = []; taken = 0; limit = limit }) }
+        ensures { IfOk result (λ pieces. pieces
+            ≡ record { unread = []; taken = 0; limit = limit }) }
     {
         let mut buffer = Vec::new(alloc);
         buffer.resize(PIECE, 0)?;
@@ -77,12 +81,18 @@ impl Pieces {
     /// Goes on behind so many bytes of what is unread.
     pub fn skip(&mut self, count: usize)
         requires { count ≤ length self.old.unread }
-        ensures { self.new ≡ record { unread = drop count self.old.unread; taken = self.old.taken; limit = self.old.limit } }
+        ensures { self.new
+            ≡ record {
+              unread = drop count self.old.unread;
+              taken = self.old.taken;
+              limit = self.old.limit;
+            } }
     {
         self.start += count;
     }
 
-    /// Asks for the next piece where all has been read, so that something is unread; or says why there is none.
+    /// Asks for the next piece where all has been read, so that something is unread; or says why
+    /// there is none.
     pub fn fill<R: Source>(&mut self, reader: &mut R) -> Result<(), Stop>
         requires given { R.given reader.old < 2 ^ 63 }
         requires failures { R.failures reader.old < 2 ^ 63 }

@@ -20,7 +20,8 @@ pub fn write_all<W: Sink>(writer: &mut W, bytes: &[u8]) -> Result<(), DeviceFaul
     Ok(())
 }
 
-/// Sends all of the bytes out and flushes. Where the sink fails, a front of them, perhaps all, went out.
+/// Sends all of the bytes out and flushes. Where the sink fails, a front of them, perhaps all, went
+/// out.
 pub fn write_and_flush<W: Sink>(writer: &mut W, bytes: &[u8]) -> Result<(), DeviceFault>
     requires { W.failures writer.old < 2 ^ 63 }
     ensures { HasWrittenAll W.out W.failures writer.old writer.new result bytes.now }

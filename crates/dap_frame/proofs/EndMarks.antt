@@ -25,27 +25,33 @@ lf_others CrLf = (refl, refl)
 lf_others CrLfCr = (refl, refl)
 
 pub cr_all : (mark : EndMark)
-    → (true ≡ is_cr (at_cr mark)) × (false ≡ is_crlf (at_cr mark)) × (is_crlf mark ≡ is_crlfcr (at_cr mark)) × (pending (at_cr mark) ≡ 13 ∷ [])
+    → (true ≡ is_cr (at_cr mark)) × (false ≡ is_crlf (at_cr mark))
+    × (is_crlf mark ≡ is_crlfcr (at_cr mark)) × (pending (at_cr mark) ≡ 13 ∷ [])
 cr_all Nothing = (refl, refl, refl, refl)
 cr_all Cr = (refl, refl, refl, refl)
 cr_all CrLf = (refl, refl, refl, refl)
 cr_all CrLfCr = (refl, refl, refl, refl)
 
-pub mark_lf : (bytes : List ℕ) (mark : EndMark) → IsMark bytes mark → IsMark (bytes ++ 10 ∷ []) (lf_mark mark)
+pub mark_lf : (bytes : List ℕ) (mark : EndMark) → IsMark bytes mark
+    → IsMark (bytes ++ 10 ∷ []) (lf_mark mark)
 mark_lf bytes mark h = record {
   one = ends_more [] bytes 13 10 ∙ and_right (ends [] bytes) _ refl ∙ (lf_others mark).0;
   two = ends_more (13 ∷ []) bytes 10 10 ∙ and_true (ends (13 ∷ []) bytes) ∙ h.one ∙ lf_two mark;
-  three = ends_more (13 ∷ 10 ∷ []) bytes 13 10 ∙ and_right (ends (13 ∷ 10 ∷ []) bytes) _ refl ∙ (lf_others mark).1;
+  three = ends_more (13 ∷ 10 ∷ []) bytes 13 10 ∙ and_right (ends (13 ∷ 10 ∷ []) bytes) _ refl
+      ∙ (lf_others mark).1;
 }
 
-pub mark_cr : (bytes : List ℕ) (mark : EndMark) → IsMark bytes mark → IsMark (bytes ++ 13 ∷ []) (at_cr mark)
+pub mark_cr : (bytes : List ℕ) (mark : EndMark) → IsMark bytes mark
+    → IsMark (bytes ++ 13 ∷ []) (at_cr mark)
 mark_cr bytes mark h = record {
   one = ends_more [] bytes 13 13 ∙ and_true (ends [] bytes) ∙ ends_nil bytes ∙ (cr_all mark).0;
   two = ends_more (13 ∷ []) bytes 10 13 ∙ and_right (ends (13 ∷ []) bytes) _ refl ∙ (cr_all mark).1;
-  three = ends_more (13 ∷ 10 ∷ []) bytes 13 13 ∙ and_true (ends (13 ∷ 10 ∷ []) bytes) ∙ h.two ∙ (cr_all mark).2;
+  three = ends_more (13 ∷ 10 ∷ []) bytes 13 13 ∙ and_true (ends (13 ∷ 10 ∷ []) bytes) ∙ h.two
+      ∙ (cr_all mark).2;
 }
 
-pub mark_other : (bytes : List ℕ) (b : ℕ) → nat_eq 13 b ≡ false → nat_eq 10 b ≡ false → IsMark (bytes ++ b ∷ []) Nothing
+pub mark_other : (bytes : List ℕ) (b : ℕ) → nat_eq 13 b ≡ false → nat_eq 10 b ≡ false
+    → IsMark (bytes ++ b ∷ []) Nothing
 mark_other bytes b no_cr no_lf = record {
   one = ends_more [] bytes 13 b ∙ and_right (ends [] bytes) _ no_cr;
   two = ends_more (13 ∷ []) bytes 10 b ∙ and_right (ends (13 ∷ []) bytes) _ no_lf;

@@ -1,6 +1,8 @@
 -- What a framer stands for once it has taken of a frame.
-use Rattle.std.proofs.Common.{◌≡◌, ℕ, ◌+◌, ◌-◌, ◌<◌, ◌≤◌, List, [], ◌++◌, length, take, drop, min, Result, Ok, Err, sym, ap, ◌∙◌, subst, arith}
-use Rattle.std.proofs.lemmas.List.{take-append-drop, take_all, append_assoc, length-append, length-take-le, length-drop, drop-append-le, nil_from_length}
+use Rattle.std.proofs.Common.{◌≡◌, ℕ, ◌+◌, ◌-◌, ◌<◌, ◌≤◌, List, [], ◌++◌, length, take, drop, min}
+use Rattle.std.proofs.Common.{Result, Ok, Err, sym, ap, ◌∙◌, subst, arith}
+use Rattle.std.proofs.lemmas.List.{take-append-drop, take_all, append_assoc, length-append}
+use Rattle.std.proofs.lemmas.List.{length-take-le, length-drop, drop-append-le, nil_from_length}
 use Rattle.std.proofs.Math.Seq.{take-add}
 use Rattle.dap_frame.specs.declared.limits.FrameLimits.{FrameLimits}
 use Rattle.dap_frame.specs.declared.fault.FrameFault.{FrameFault}
@@ -18,7 +20,8 @@ use Rattle.dap_frame.proofs.MarkEnds.{BeginsWith-more}
 use Rattle.dap_frame.proofs.Frames.{frame_of, open_in_content}
 
 -- what the fields keep is that of the rest that the framer stands for
-pub kept_of : (fields : Inside) (framer : Reading) (progress : Progress) (rest : List ℕ) → reading fields ≡ framer
+pub kept_of : (fields : Inside) (framer : Reading) (progress : Progress) (rest : List ℕ)
+    → reading fields ≡ framer
     → fields.state ≡ Open progress → Stands framer rest
     → IsKeptOf fields.limits progress fields.bytes.items rest
 kept_of fields framer progress rest view is stands =
@@ -26,8 +29,10 @@ kept_of fields framer progress rest view is stands =
     subst (λ s. IsKeptBy fields.limits (progress_in s) fields.bytes.items rest) is inside.kept
 
 -- where the header part had not ended
-pub rest_taken : (limits : FrameLimits) (bytes rest piece : List ℕ) (result : Result HeaderTaken FrameFault)
-    → bytes ≡ [] → TakesHeader limits rest piece result → TakesRestOfHeader limits bytes rest piece result
+pub rest_taken : (limits : FrameLimits) (bytes rest piece : List ℕ)
+    (result : Result HeaderTaken FrameFault)
+    → bytes ≡ [] → TakesHeader limits rest piece result
+    → TakesRestOfHeader limits bytes rest piece result
 rest_taken limits bytes rest piece (Ok (Unfinished scan)) e h = (e, h)
 rest_taken limits bytes rest piece (Ok (Ended header_len content used)) e h =
     let some = h.some in
@@ -37,7 +42,8 @@ rest_taken limits bytes rest piece (Ok (Ended header_len content used)) e h =
       progress = omega (arith, some);
       room = omega (arith, ap length e);
       header = h.header;
-      behind = nil_from_length (drop header_len (rest ++ take used piece)) (omega (arith, header_len_is, length-drop header_len (rest ++ take used piece))) ∙ sym e;
+      behind = nil_from_length (drop header_len (rest ++ take used piece))
+          (omega (arith, header_len_is, length-drop header_len (rest ++ take used piece))) ∙ sym e;
       small = h.small;
     }
 rest_taken limits bytes rest piece (Err fault) e h = (e, h)
@@ -46,51 +52,80 @@ module _ (limits : FrameLimits) (bytes rest piece new : List ℕ) (header_len co
     (begun : IsAtContent limits bytes rest piece header_len content used)
     (most : more ≡ min (content - length bytes) (length (drop used piece)))
     (is : new ≡ bytes ++ take more (drop used piece)) where
-  joined : (rest ++ take used piece) ++ take more (drop used piece) ≡ rest ++ take (used + more) piece
-  joined = append_assoc rest (take used piece) _ ∙ ap (λ xs. rest ++ xs) (sym (take-add used more piece))
+  joined : (rest ++ take used piece) ++ take more (drop used piece)
+      ≡ rest ++ take (used + more) piece
+  joined = append_assoc rest (take used piece) _
+      ∙ ap (λ xs. rest ++ xs) (sym (take-add used more piece))
 
   begins : BeginsWith limits (rest ++ take (used + more) piece) header_len (Ok content)
-  begins = subst (λ b. BeginsWith limits b header_len (Ok content)) joined (BeginsWith-more limits (rest ++ take used piece) (take more (drop used piece)) header_len (Ok content) begun.header)
+  begins = subst (λ b. BeginsWith limits b header_len (Ok content)) joined
+      (BeginsWith-more limits (rest ++ take used piece) (take more (drop used piece)) header_len
+      (Ok content) begun.header)
 
   behind : drop header_len (rest ++ take (used + more) piece) ≡ new
   behind =
-      ap (drop header_len) (sym joined) ∙ drop-append-le header_len (rest ++ take used piece) (take more (drop used piece)) begun.header.ended.within
+      ap (drop header_len) (sym joined)
+      ∙ drop-append-le header_len (rest ++ take used piece) (take more (drop used piece))
+      begun.header.ended.within
       ∙ ap (λ xs. xs ++ take more (drop used piece)) begun.behind ∙ sym is
 
   len : length new ≡ length bytes + more
-  len = omega (arith, ap length is, length-append bytes (take more (drop used piece)), length-take-le more (drop used piece) (omega arith))
+  len = omega (
+    arith,
+    ap length is,
+    length-append bytes (take more (drop used piece)),
+    length-take-le more (drop used piece) (omega arith),
+  )
 
   fits : used + more ≤ length piece
   fits = omega (arith, begun.within, length-drop used piece)
 
   pub fed_open : length new < content
-      → IsKeptOf limits (Content header_len content) new (rest ++ piece) × IsOpen limits (rest ++ piece)
+      → IsKeptOf limits (Content header_len content) new (rest ++ piece)
+      × IsOpen limits (rest ++ piece)
   fed_open short =
       let room = begun.room in
       let all : length piece ≤ used + more = omega (arith, len, length-drop used piece) in
-      let whole : rest ++ take (used + more) piece ≡ rest ++ piece = ap (λ xs. rest ++ xs) (take_all (used + more) piece all) in
+      let whole : rest ++ take (used + more) piece ≡ rest ++ piece =
+      ap (λ xs. rest ++ xs) (take_all (used + more) piece all) in
       let header = subst (λ b. BeginsWith limits b header_len (Ok content)) whole begins in
-      let left : drop header_len (rest ++ piece) ≡ new = ap (drop header_len) (sym whole) ∙ behind in
-      let long : length (rest ++ piece) < header_len + content = omega (arith, ap length left, length-drop header_len (rest ++ piece), header.ended.within) in
+      let left : drop header_len (rest ++ piece) ≡ new =
+      ap (drop header_len) (sym whole) ∙ behind in
+      let long : length (rest ++ piece) < header_len + content =
+      omega (arith, ap length left, length-drop header_len (rest ++ piece), header.ended.within)
+      in
       ((header, left, short), open_in_content limits (rest ++ piece) header_len content header long)
 
   pub fed_frame : content ≤ length new
       → (used + more ≤ length piece) × IsFrame limits (rest ++ take (used + more) piece) new
   fed_frame long =
       let room = begun.room in
-      let exact : length new ≡ content = omega (arith, len) in
-      (fits, frame_of limits (rest ++ take (used + more) piece) new header_len content begins behind exact)
+      let exact : length new ≡ content = omega (arith, len) in (
+        fits,
+        frame_of limits (rest ++ take (used + more) piece) new header_len content begins behind
+            exact,
+      )
 
 -- memory is asked for bytes of a content alone
-pub content_byte : (limits : FrameLimits) (bytes rest piece : List ℕ) (header_len content_len used : ℕ)
+pub content_byte : (limits : FrameLimits) (bytes rest piece : List ℕ)
+    (header_len content_len used : ℕ)
     → IsAtContent limits bytes rest piece header_len content_len used
     → 0 < length (drop used piece) → HasContentByte limits (rest ++ piece)
 content_byte limits bytes rest piece header_len content_len used begun some =
     let front : List ℕ = rest ++ take used piece in
-    let whole : front ++ drop used piece ≡ rest ++ piece = append_assoc rest (take used piece) (drop used piece) ∙ ap (λ xs. rest ++ xs) (take-append-drop used piece) in
+    let whole : front ++ drop used piece ≡ rest ++ piece =
+    append_assoc rest (take used piece) (drop used piece)
+    ∙ ap (λ xs. rest ++ xs) (take-append-drop used piece) in
     record {
       len = header_len;
       content_len = content_len;
-      header = subst (λ xs. BeginsWith limits xs header_len (Ok content_len)) whole (BeginsWith-more limits front (drop used piece) header_len (Ok content_len) begun.header);
-      byte = omega (arith, begun.header.ended.within, some, ap length whole, length-append front (drop used piece));
+      header = subst (λ xs. BeginsWith limits xs header_len (Ok content_len)) whole
+          (BeginsWith-more limits front (drop used piece) header_len (Ok content_len) begun.header);
+      byte = omega (
+        arith,
+        begun.header.ended.within,
+        some,
+        ap length whole,
+        length-append front (drop used piece),
+      );
     }

@@ -1,17 +1,20 @@
 -- What the lines of a header part can say.
-use Rattle.std.proofs.Common.{◌≡◌, ◌≢◌, ℕ, ◌≤◌, Bool, true, false, not, cond, List, [], ◌∷◌, Ok, Err, ◌⊎◌, inl, inr, refl, arith, leb}
+use Rattle.std.proofs.Common.{◌≡◌, ◌≢◌, ℕ, ◌≤◌, Bool, true, false, not, cond, List, [], ◌∷◌, Ok}
+use Rattle.std.proofs.Common.{Err, ◌⊎◌, inl, inr, refl, arith, leb}
 use Rattle.std.specs.List.{list_all}
 use Rattle.dap_frame.specs.declared.limits.FrameLimits.{FrameLimits}
 use Rattle.dap_frame.specs.declared.fault.FrameFault.{FrameFault}
 use Rattle.dap_frame.specs.declared.fault.FrameFault.TheVariants.{Cut, Memory}
 use Rattle.dap_frame.specs.Lines.{is_field_line, trimmed, is_length_text, number_of}
-use Rattle.dap_frame.specs.Frame.{length_from, the_length, lengths_in, judged}
+use Rattle.dap_frame.specs.Frame.{length_from, the_length, lengths_in, told_length}
 
-chosen : {A : Type 0} (b : Bool) (x y z : A) → cond b x y ≡ z → ((b ≡ true) × (x ≡ z)) ⊎ ((b ≡ false) × (y ≡ z))
+chosen : {A : Type 0} (b : Bool) (x y z : A) → cond b x y ≡ z
+    → ((b ≡ true) × (x ≡ z)) ⊎ ((b ≡ false) × (y ≡ z))
 chosen true x y z e = inl (refl, e)
 chosen false x y z e = inr (refl, e)
 
-length_from-small : (limits : FrameLimits) (text : List ℕ) (n : ℕ) → length_from limits text ≡ Ok n → n ≤ limits.content
+length_from-small : (limits : FrameLimits) (text : List ℕ) (n : ℕ) → length_from limits text ≡ Ok n
+    → n ≤ limits.content
 length_from-small limits text n e =
     elim (chosen (not (is_length_text text)) _ _ _ e) [
       | inl h ↦ (let wrong = h.1 in cc)
@@ -21,13 +24,15 @@ length_from-small limits text n e =
       ]
     ]
 
-the_length-small : (limits : FrameLimits) (values : List (List ℕ)) (n : ℕ) → the_length limits values ≡ Ok n
+the_length-small : (limits : FrameLimits) (values : List (List ℕ)) (n : ℕ)
+    → the_length limits values ≡ Ok n
     → n ≤ limits.content
 the_length-small limits [] n e = cc
 the_length-small limits (value ∷ []) n e = length_from-small limits (trimmed value) n e
 the_length-small limits (value ∷ other ∷ values) n e = cc
 
-pub judged-small : (limits : FrameLimits) (lines : List (List ℕ)) (n : ℕ) → judged limits lines ≡ Ok n
+pub judged-small : (limits : FrameLimits) (lines : List (List ℕ)) (n : ℕ)
+    → told_length limits lines ≡ Ok n
     → n ≤ limits.content
 judged-small limits lines n e =
     elim (chosen (list_all is_field_line lines) _ _ _ e) [
@@ -35,7 +40,8 @@ judged-small limits lines n e =
       | inr h ↦ (let wrong = h.1 in cc)
     ]
 
-length_from-fault : (limits : FrameLimits) (text : List ℕ) (fault : FrameFault) → length_from limits text ≡ Err fault
+length_from-fault : (limits : FrameLimits) (text : List ℕ) (fault : FrameFault)
+    → length_from limits text ≡ Err fault
     → (fault ≢ Cut) × (fault ≢ Memory)
 length_from-fault limits text fault e =
     elim (chosen (not (is_length_text text)) _ _ _ e) [
@@ -53,7 +59,8 @@ the_length-fault limits (value ∷ []) fault e = length_from-fault limits (trimm
 the_length-fault limits (value ∷ other ∷ values) fault e = (λ same. cc, λ same. cc)
 
 -- a header part says no fault but those of its format
-pub judged-fault : (limits : FrameLimits) (lines : List (List ℕ)) (fault : FrameFault) → judged limits lines ≡ Err fault
+pub judged-fault : (limits : FrameLimits) (lines : List (List ℕ)) (fault : FrameFault)
+    → told_length limits lines ≡ Err fault
     → (fault ≢ Cut) × (fault ≢ Memory)
 judged-fault limits lines fault e =
     elim (chosen (list_all is_field_line lines) _ _ _ e) [

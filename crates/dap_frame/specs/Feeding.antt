@@ -8,7 +8,8 @@ use Rattle.dap_frame.specs.declared.fed.Fed.{Fed}
 use Rattle.dap_frame.specs.Reading.{Reading, Stands, Gives, limits_of}
 
 -- What the contract of one call says of the framer before it and after it.
-pub record IsCall (old : Reading) (piece : List ℕ) (result : Result Fed FrameFault) (new : Reading) : Type 0 where
+pub record IsCall (old : Reading) (piece : List ℕ) (result : Result Fed FrameFault)
+    (new : Reading) : Type 0 where
   pub gives : (rest : List ℕ) → Stands old rest → Gives (limits_of old) rest piece result new
   pub limits : limits_of new ≡ limits_of old
 
@@ -21,6 +22,7 @@ calls = record {
   Refused = λ old piece new. IsCall old piece (Err Memory) new;
 }
 
--- Calls of `feed`, from the first framer on and over these pieces, have given these contents so far.
+-- Calls of `feed`, from the first framer on and over these pieces, have given these contents so
+-- far.
 abbrev pub Feeds : Reading → List (List ℕ) → List (List ℕ) → List (List ℕ) → Reading → Type 0
 Feeds = feeding.Feeds calls

@@ -1,19 +1,24 @@
 -- Frames, and what the bytes of a stream hold ("Base Protocol" of the Debug Adapter Protocol).
-use Rattle.std.specs.Prelude.{◌≡◌, ℕ, ◌<◌, ◌≤◌, not, if◌then◌else◌, List, [], ◌∷◌, ◌++◌, length, take, nat_le, Result, Ok, Err, map, filter, codes, decimal}
+use Rattle.std.specs.Prelude.{◌≡◌, ℕ, ◌<◌, ◌≤◌, not, if◌then◌else◌, List, [], ◌∷◌, ◌++◌, length}
+use Rattle.std.specs.Prelude.{take, nat_le, Result, Ok, Err, map, filter, codes, decimal}
 use Rattle.std.specs.List.{list_all}
 use Rattle.dap_items.specs.Items as items
 use Rattle.dap_items.specs.Items.{Items, IsItem, AreItems, HasItem, IsStream}
 use Rattle.dap_items.specs.Then.{and_then, so_many}
 use Rattle.dap_frame.specs.declared.limits.FrameLimits.{FrameLimits}
 use Rattle.dap_frame.specs.declared.fault.FrameFault.{FrameFault}
-use Rattle.dap_frame.specs.declared.fault.FrameFault.TheVariants.{HeaderLine, NoLength, TwoLengths, BadLength, HeaderTooLong, ContentTooLong}
-use Rattle.dap_frame.specs.Lines.{header_end, IsFirstEnd, Lacks, AreLines, is_field_line, is_length_line, value_of, trimmed, is_length_text, number_of}
+use Rattle.dap_frame.specs.declared.fault.FrameFault.TheVariants.{HeaderLine, NoLength, TwoLengths}
+use Rattle.dap_frame.specs.declared.fault.FrameFault.TheVariants.{BadLength, HeaderTooLong}
+use Rattle.dap_frame.specs.declared.fault.FrameFault.TheVariants.{ContentTooLong}
+use Rattle.dap_frame.specs.Lines.{header_end, IsFirstEnd, Lacks, AreLines, is_field_line}
+use Rattle.dap_frame.specs.Lines.{is_length_line, value_of, trimmed, is_length_text, number_of}
 
 -- what the value of the one length says: 1 to 10 digits, and a number within the limit (own)
 abbrev pub length_from : FrameLimits → List ℕ → Result ℕ FrameFault
 length_from limits text =
     if not (is_length_text text) then Err BadLength
-    else (if nat_le (number_of text) limits.content then Ok (number_of text) else Err ContentTooLong)
+    else (if nat_le (number_of text) limits.content then Ok (number_of text) else Err
+    ContentTooLong)
 
 -- what the values of the fields named Content-Length say: there is just one (own)
 abbrev pub the_length : FrameLimits → List (List ℕ) → Result ℕ FrameFault
@@ -27,18 +32,19 @@ lengths_in lines = map value_of (filter is_length_line lines)
 
 -- what the lines of a header part say: the content's length, or the first fault that is true of
 -- them (own order)
-abbrev pub judged : FrameLimits → List (List ℕ) → Result ℕ FrameFault
-judged limits lines =
+abbrev pub told_length : FrameLimits → List (List ℕ) → Result ℕ FrameFault
+told_length limits lines =
     if list_all is_field_line lines then the_length limits (lengths_in lines) else Err HeaderLine
 
 -- The lines of this header part say so.
 pub record Says (limits : FrameLimits) (header : List ℕ) (said : Result ℕ FrameFault) : Type 0 where
   pub lines : List (List ℕ)
   pub are_lines : AreLines header lines
-  pub said_so : said ≡ judged limits lines
+  pub said_so : said ≡ told_length limits lines
 
 -- The bytes begin with a header part of this length, within the limit, and it says so.
-pub record BeginsWith (limits : FrameLimits) (bytes : List ℕ) (len : ℕ) (said : Result ℕ FrameFault) : Type 0 where
+pub record BeginsWith (limits : FrameLimits) (bytes : List ℕ) (len : ℕ)
+    (said : Result ℕ FrameFault) : Type 0 where
   pub ended : IsFirstEnd header_end bytes len
   pub within : len ≤ limits.header
   pub says : Says limits (take len bytes) said
@@ -52,13 +58,16 @@ pub record HasContentByte (limits : FrameLimits) (bytes : List ℕ) : Type 0 whe
 
 -- the frame that is written for a content (own: the one field, one space, no leading zeros)
 abbrev pub frame_text : List ℕ → List ℕ
-frame_text content = codes "Content-Length: " ++ decimal (length content) ++ codes "\r\n\r\n" ++ content
+frame_text content =
+    codes "Content-Length: " ++ decimal (length content) ++ codes "\r\n\r\n" ++ content
 
 -- With the last of the bytes a header part says this (own): it ends there, or it is as long as its
 -- limit and has not ended.
 pub data EndsHeader (limits : FrameLimits) (bytes : List ℕ) : Result ℕ FrameFault → Type 0 where
-  in_header : {said : Result ℕ FrameFault} → BeginsWith limits bytes (length bytes) said → EndsHeader limits bytes said
-  too_long : length bytes ≡ limits.header → Lacks header_end bytes → EndsHeader limits bytes (Err HeaderTooLong)
+  in_header : {said : Result ℕ FrameFault} → BeginsWith limits bytes (length bytes) said
+      → EndsHeader limits bytes said
+  too_long : length bytes ≡ limits.header → Lacks header_end bytes
+      → EndsHeader limits bytes (Err HeaderTooLong)
 
 -- header parts as items; their values are lengths
 abbrev pub headers : FrameLimits → Items ℕ FrameFault
@@ -67,7 +76,8 @@ headers limits = record {
   IsOpen = λ bytes. (length bytes < limits.header) × Lacks header_end bytes;
 }
 
--- frames as the items of a stream (DAP base protocol): a header part, and as many bytes of content as it says
+-- frames as the items of a stream (DAP base protocol): a header part, and as many bytes of content
+-- as it says
 abbrev pub frames : FrameLimits → Items (List ℕ) FrameFault
 frames limits = and_then (headers limits) (so_many (λ content. content)) (λ fault. fault)
 

@@ -21,7 +21,13 @@ progress_in (Failed fault) = None
 
 -- what callers see: all but the allocator
 abbrev pub reading : Inside → Reading
-reading a = record { limits = a.limits; fault = fault_in a.state; progress = progress_in a.state; bytes = a.bytes.items }
+reading a =
+    record {
+      limits = a.limits;
+      fault = fault_in a.state;
+      progress = progress_in a.state;
+      bytes = a.bytes.items;
+    }
 
 -- What is kept is that of some rest of a stream; after a fault no byte is kept.
 abbrev pub IsKeptIn : FrameLimits → List ℕ → State → Type 0

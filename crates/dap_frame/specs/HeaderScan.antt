@@ -1,5 +1,6 @@
 -- What a byte more makes of a header part, and of which bytes a scan is the scan.
-use Rattle.std.specs.Prelude.{◌≡◌, ℕ, ◌+◌, Bool, true, false, List, [], ◌∷◌, ◌++◌, length, nat_eq, ◌==◌, if◌then◌else◌}
+use Rattle.std.specs.Prelude.{◌≡◌, ℕ, ◌+◌, Bool, true, false, List, [], ◌∷◌, ◌++◌, length, nat_eq}
+use Rattle.std.specs.Prelude.{◌==◌, if◌then◌else◌}
 use Rattle.std.specs.List.{ends_with, AllByRecursion}
 use Rattle.dap_frame.specs.declared.limits.FrameLimits.{FrameLimits}
 use Rattle.dap_frame.specs.declared.line_scan.LineScan.{LineScan}
@@ -37,7 +38,8 @@ at_cr CrLfCr = Cr
 
 -- the scan with one byte more
 abbrev pub scan_with : HeaderScan → EndMark → Findings → LineScan → HeaderScan
-scan_with scan mark findings line = record { count = scan.count + 1; mark = mark; findings = findings; line = line }
+scan_with scan mark findings line =
+    record { count = scan.count + 1; mark = mark; findings = findings; line = line }
 
 -- what an LF more is: a byte of the line, the line's end, or the header part's end
 abbrev pub match_mark : EndMark → ScanStep → ScanStep → ScanStep → ScanStep
@@ -57,8 +59,10 @@ at_lf limits scan = match_mark scan.mark
 abbrev pub header_step : FrameLimits → HeaderScan → ℕ → ScanStep
 header_step limits scan b =
     if b == 10 then at_lf limits scan
-    else (if b == 13 then Unfinished (scan_with scan (at_cr scan.mark) scan.findings (held_line scan.mark scan.line))
-    else Unfinished (scan_with scan Nothing scan.findings (line_step (held_line scan.mark scan.line) b)))
+    else (if b == 13 then Unfinished
+    (scan_with scan (at_cr scan.mark) scan.findings (held_line scan.mark scan.line))
+    else Unfinished
+    (scan_with scan Nothing scan.findings (line_step (held_line scan.mark scan.line) b)))
 
 -- the bytes end with the mark
 abbrev pub ends : List ℕ → List ℕ → Bool

@@ -71,24 +71,30 @@ OpenNotFaulty = (limits : FrameLimits) (bytes : List ℕ) (fault : FrameFault) (
 -- All bytes begin with a frame, or show a fault, or are open.
 abbrev pub SomeOutcome : Type 0
 SomeOutcome = (limits : FrameLimits) (bytes : List ℕ)
-    → HasFrame limits bytes ⊎ (((fault : FrameFault) × (i : ℕ) × Shows limits bytes fault i) ⊎ IsOpen limits bytes)
+    → HasFrame limits bytes
+    ⊎ (((fault : FrameFault) × (i : ℕ) × Shows limits bytes fault i) ⊎ IsOpen limits bytes)
 
 -- What is written for a content is a frame with this content.
 abbrev pub WrittenIsFrame : Type 0
 WrittenIsFrame = (limits : FrameLimits) (content : List ℕ)
     → IsSound limits → length content ≤ limits.content → IsFrame limits (frame_text content) content
 
--- Whatever the pieces: once they are used up, the contents that were given are those of the stream of
--- the bytes that the framer stood for and of the pieces, and the framer stands for that stream's rest.
+-- Whatever the pieces: once they are used up, the contents that were given are those of the stream
+-- of the bytes that the framer stood for and of the pieces, and the framer stands for that stream's
+-- rest.
 abbrev pub AnyPieces : Type 0
 AnyPieces = (first last : Reading) (held : List ℕ) (pieces contents : List (List ℕ))
     → Stands first held → Feeds first pieces contents [] last
-    → (rest : List ℕ) × Stream (limits_of first) (held ++ concat pieces) contents rest × Stands last rest
+    → (rest : List ℕ) × Stream (limits_of first) (held ++ concat pieces) contents rest
+    × Stands last rest
 
--- Whatever the pieces: where a call tells a fault of the format, the contents that were given before are
--- those of that stream, and the stream's rest shows the fault.
+-- Whatever the pieces: where a call tells a fault of the format, the contents that were given
+-- before are those of that stream, and the stream's rest shows the fault.
 abbrev pub FaultInAnyPieces : Type 0
-FaultInAnyPieces = (first last new : Reading) (held piece : List ℕ) (pieces contents left : List (List ℕ)) (fault : FrameFault)
-    → Stands first held → Feeds first pieces contents (piece ∷ left) last → IsCall last piece (Err fault) new → fault ≢ Memory
+FaultInAnyPieces =
+    (first last new : Reading) (held piece : List ℕ) (pieces contents left : List (List ℕ))
+    (fault : FrameFault)
+    → Stands first held → Feeds first pieces contents (piece ∷ left) last
+    → IsCall last piece (Err fault) new → fault ≢ Memory
     → (rest : List ℕ) × (i : ℕ) × Stream (limits_of first) (held ++ concat pieces) contents rest
     × Shows (limits_of first) rest fault i × HasFailed new fault

@@ -1,26 +1,32 @@
 -- What a byte more makes of the value of a length. The code's own steps: proofs/LengthRuns.antt
 -- shows that a run of them over a whole value says what `length_from` says of it.
-use Rattle.std.specs.Prelude.{ℕ, ◌+◌, ◌-◌, ◌*◌, ◌&&◌, nat_lt, nat_le, if◌then◌else◌, Result, Ok, Err}
+use Rattle.std.specs.Prelude.{ℕ, ◌+◌, ◌-◌, ◌*◌, ◌&&◌, nat_lt, nat_le, if◌then◌else◌, Result, Ok}
+use Rattle.std.specs.Prelude.{Err}
 use Rattle.std.specs.Char.{is_ascii_digit}
 use Rattle.dap_frame.specs.declared.limits.FrameLimits.{FrameLimits}
 use Rattle.dap_frame.specs.declared.fault.FrameFault.{FrameFault}
 use Rattle.dap_frame.specs.declared.fault.FrameFault.TheVariants.{BadLength, ContentTooLong}
 use Rattle.dap_frame.specs.declared.length_scan.LengthScan.{LengthScan}
-use Rattle.dap_frame.specs.declared.length_scan.LengthScan.TheVariants.{Blank, Digits, Padded, Invalid}
+use Rattle.dap_frame.specs.declared.length_scan.LengthScan.TheVariants.{Blank, Digits, Padded}
+use Rattle.dap_frame.specs.declared.length_scan.LengthScan.TheVariants.{Invalid}
 use Rattle.dap_frame.specs.Lines.{is_blank}
 
 -- one byte more of the value
 abbrev pub length_step : LengthScan → ℕ → LengthScan
-length_step Blank b = if is_blank b then Blank else (if is_ascii_digit b then Digits 1 (b - 48) else Invalid)
+length_step Blank b =
+    if is_blank b then Blank else (if is_ascii_digit b then Digits 1 (b - 48) else Invalid)
 length_step (Digits count number) b =
     if is_blank b then Padded number
-    else (if is_ascii_digit b && (nat_lt count 10 && nat_lt number 1000000000) then Digits (count + 1) (number * 10 + (b - 48)) else Invalid)
+    else (if is_ascii_digit b
+    && (nat_lt count 10 && nat_lt number 1000000000) then Digits (count + 1)
+    (number * 10 + (b - 48)) else Invalid)
 length_step (Padded number) b = if is_blank b then Padded number else Invalid
 length_step Invalid b = Invalid
 
 -- the length, if its number is within the limit
 abbrev pub number_outcome : FrameLimits → ℕ → Result ℕ FrameFault
-number_outcome limits number = if nat_le number limits.content then Ok number else Err ContentTooLong
+number_outcome limits number =
+    if nat_le number limits.content then Ok number else Err ContentTooLong
 
 -- what the value says if it ends here
 abbrev pub length_outcome : FrameLimits → LengthScan → Result ℕ FrameFault

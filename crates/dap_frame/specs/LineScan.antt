@@ -1,12 +1,15 @@
 -- What a byte more makes of a line. The code's own steps: proofs/LineRuns.antt shows that a run of
 -- them over a whole line says what `is_field_line`, `is_length_line` and `length_from` say of it.
-use Rattle.std.specs.Prelude.{◌≡◌, ℕ, ◌+◌, true, false, ◌&&◌, List, [], ◌∷◌, codes, nat_eq, nat_lt, if◌then◌else◌, slice_index_or}
+use Rattle.std.specs.Prelude.{◌≡◌, ℕ, ◌+◌, true, false, ◌&&◌, List, [], ◌∷◌, codes, nat_eq, nat_lt}
+use Rattle.std.specs.Prelude.{if◌then◌else◌, slice_index_or}
 use Rattle.std.specs.Char.{eq_ignore_ascii_case}
 use Rattle.dap_frame.specs.declared.limits.FrameLimits.{FrameLimits}
 use Rattle.dap_frame.specs.declared.length_scan.LengthScan.TheVariants.{Blank}
 use Rattle.dap_frame.specs.declared.line_scan.LineScan.{LineScan}
-use Rattle.dap_frame.specs.declared.line_scan.LineScan.TheVariants.{Name, OtherName, Length, OtherValue, NoField}
-use Rattle.dap_frame.specs.Lines.{is_name_byte, is_value_byte, is_colon, is_field_line, is_length_line, trimmed, value_of}
+use Rattle.dap_frame.specs.declared.line_scan.LineScan.TheVariants.{Name, OtherName, Length}
+use Rattle.dap_frame.specs.declared.line_scan.LineScan.TheVariants.{OtherValue, NoField}
+use Rattle.dap_frame.specs.Lines.{is_name_byte, is_value_byte, is_colon, is_field_line}
+use Rattle.dap_frame.specs.Lines.{is_length_line, trimmed, value_of}
 use Rattle.dap_frame.specs.Frame.{length_from}
 use Rattle.dap_frame.specs.LengthScan.{length_step, length_outcome}
 
@@ -17,9 +20,13 @@ length_name = codes "content-length"
 -- one byte more of the line
 abbrev pub line_step : LineScan → ℕ → LineScan
 line_step (Name n) b =
-    if is_colon b then (if nat_eq n 0 then NoField else (if nat_eq n 14 then Length Blank else OtherValue))
-    else (if is_name_byte b then (if nat_lt n 14 && eq_ignore_ascii_case b (slice_index_or length_name n 0) then Name (n + 1) else OtherName) else NoField)
-line_step OtherName b = if is_colon b then OtherValue else (if is_name_byte b then OtherName else NoField)
+    if is_colon b then
+    (if nat_eq n 0 then NoField else (if nat_eq n 14 then Length Blank else OtherValue))
+    else (if is_name_byte b then (if nat_lt n 14
+    && eq_ignore_ascii_case b (slice_index_or length_name n 0) then Name (n + 1) else OtherName)
+    else NoField)
+line_step OtherName b =
+    if is_colon b then OtherValue else (if is_name_byte b then OtherName else NoField)
 line_step (Length value) b = if is_value_byte b then Length (length_step value b) else NoField
 line_step OtherValue b = if is_value_byte b then OtherValue else NoField
 line_step NoField b = NoField

@@ -1,7 +1,10 @@
 -- A header part, its lines and their fields. A byte is its number: 13 is CR, 10 is LF, 9 is TAB, 32
 -- is a space, 58 is a colon.
-use Rattle.std.specs.Prelude.{◌≡◌, ℕ, ◌+◌, ◌-◌, ◌*◌, ◌<◌, ◌≤◌, Bool, true, false, not, ◌&&◌, ◌||◌, List, [], ◌∷◌, ◌++◌, length, take, drop, codes, nat_eq, nat_lt, nat_le, ◌==◌}
-use Rattle.std.specs.List.{ends_with, list_all, fold, before_first, after_first, prefix_len, suffix_len, flat_map, AllByRecursion}
+use Rattle.std.specs.Prelude.{◌≡◌, ℕ, ◌+◌, ◌-◌, ◌*◌, ◌<◌, ◌≤◌, Bool, true, false, not, ◌&&◌, ◌||◌}
+use Rattle.std.specs.Prelude.{List, [], ◌∷◌, ◌++◌, length, take, drop, codes, nat_eq, nat_lt}
+use Rattle.std.specs.Prelude.{nat_le, ◌==◌}
+use Rattle.std.specs.List.{ends_with, list_all, fold, before_first, after_first, prefix_len}
+use Rattle.std.specs.List.{suffix_len, flat_map, AllByRecursion}
 use Rattle.std.specs.Str.{str_eq_ignore_ascii_case}
 use Rattle.std.specs.Char.{is_ascii_digit}
 
@@ -77,11 +80,14 @@ without_front bytes = drop (prefix_len is_blank bytes) bytes
 
 -- without the blanks round it
 abbrev pub trimmed : List ℕ → List ℕ
-trimmed bytes = take (length (without_front bytes) - suffix_len is_blank (without_front bytes)) (without_front bytes)
+trimmed bytes =
+    take (length (without_front bytes) - suffix_len is_blank (without_front bytes))
+    (without_front bytes)
 
 -- 1 to 10 decimal digits; leading zeros are taken (own)
 abbrev pub is_length_text : List ℕ → Bool
-is_length_text text = nat_lt 0 (length text) && nat_le (length text) 10 && list_all is_ascii_digit text
+is_length_text text =
+    nat_lt 0 (length text) && nat_le (length text) 10 && list_all is_ascii_digit text
 
 -- the number that decimal digits say
 abbrev pub number_of : List ℕ → ℕ

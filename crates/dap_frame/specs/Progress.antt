@@ -1,5 +1,6 @@
 -- What is taken of a piece for a frame. `rest` is the part of the frame that came before the piece.
-use Rattle.std.specs.Prelude.{◌≡◌, ◌≢◌, ℕ, ◌+◌, ◌-◌, ◌<◌, ◌≤◌, List, [], ◌++◌, length, take, drop, Result, Ok, Err}
+use Rattle.std.specs.Prelude.{◌≡◌, ◌≢◌, ℕ, ◌+◌, ◌-◌, ◌<◌, ◌≤◌, List, [], ◌++◌, length, take, drop}
+use Rattle.std.specs.Prelude.{Result, Ok, Err}
 use Rattle.dap_frame.specs.declared.limits.FrameLimits.{FrameLimits}
 use Rattle.dap_frame.specs.declared.fault.FrameFault.{FrameFault}
 use Rattle.dap_frame.specs.declared.fault.FrameFault.TheVariants.{Memory}
@@ -11,7 +12,8 @@ use Rattle.dap_frame.specs.HeaderScan.{IsScanOf}
 
 -- The scan is that of some bytes, fewer than the limit of a header part.
 abbrev pub IsShortScan : FrameLimits → HeaderScan → Type 0
-IsShortScan limits scan = (rest : List ℕ) × IsScanOf limits rest scan × (length rest < limits.header)
+IsShortScan limits scan = (rest : List ℕ) × IsScanOf limits rest scan
+    × (length rest < limits.header)
 
 -- The whole piece was taken, and the header part goes on.
 pub record GoesOn (limits : FrameLimits) (rest piece : List ℕ) (scan : HeaderScan) : Type 0 where
@@ -19,7 +21,8 @@ pub record GoesOn (limits : FrameLimits) (rest piece : List ℕ) (scan : HeaderS
   pub short : length (rest ++ piece) < limits.header
 
 -- So much of the piece was taken, the header part ended there, and it says how long the content is.
-pub record HasEnded (limits : FrameLimits) (rest piece : List ℕ) (header_len content_len used : ℕ) : Type 0 where
+pub record HasEnded (limits : FrameLimits) (rest piece : List ℕ)
+    (header_len content_len used : ℕ) : Type 0 where
   pub within : used ≤ length piece
   pub some : 0 < used
   pub header_len_is : header_len ≡ length (rest ++ take used piece)
@@ -27,10 +30,11 @@ pub record HasEnded (limits : FrameLimits) (rest piece : List ℕ) (header_len c
   pub small : content_len ≤ limits.content
 
 -- The header part shows this fault, which is not one of memory.
-pub record ShowsInHeader (limits : FrameLimits) (rest piece : List ℕ) (fault : FrameFault) : Type 0 where
-  pub no_memory : fault ≢ Memory
-  pub place : ℕ
-  pub shown : Shows limits (rest ++ piece) fault place
+pub record ShowsInHeader (limits : FrameLimits) (rest piece : List ℕ) (fault : FrameFault) : Type 0
+  where
+    pub no_memory : fault ≢ Memory
+    pub place : ℕ
+    pub shown : Shows limits (rest ++ piece) fault place
 
 -- what a piece makes of a header part that had not ended
 abbrev pub TakesHeader : FrameLimits → List ℕ → List ℕ → Result HeaderTaken FrameFault → Type 0
@@ -41,7 +45,8 @@ TakesHeader limits rest piece (Err fault) = ShowsInHeader limits rest piece faul
 
 -- So much of the piece was taken before the bytes of the content, of which these came before the
 -- piece.
-pub record IsAtContent (limits : FrameLimits) (bytes rest piece : List ℕ) (header_len content_len used : ℕ) : Type 0 where
+pub record IsAtContent (limits : FrameLimits) (bytes rest piece : List ℕ)
+    (header_len content_len used : ℕ) : Type 0 where
   pub within : used ≤ length piece
   pub progress : 0 < used + (content_len - length bytes)
   pub room : length bytes ≤ content_len
@@ -50,8 +55,11 @@ pub record IsAtContent (limits : FrameLimits) (bytes rest piece : List ℕ) (hea
   pub small : content_len ≤ limits.content
 
 -- what a piece makes of a header part that may have ended before it
-abbrev pub TakesRestOfHeader : FrameLimits → List ℕ → List ℕ → List ℕ → Result HeaderTaken FrameFault → Type 0
-TakesRestOfHeader limits bytes rest piece (Ok (Unfinished scan)) = (bytes ≡ []) × GoesOn limits rest piece scan
+abbrev pub TakesRestOfHeader : FrameLimits → List ℕ → List ℕ → List ℕ
+    → Result HeaderTaken FrameFault → Type 0
+TakesRestOfHeader limits bytes rest piece (Ok (Unfinished scan)) = (bytes ≡ [])
+    × GoesOn limits rest piece scan
 TakesRestOfHeader limits bytes rest piece (Ok (Ended header_len content_len used)) =
     IsAtContent limits bytes rest piece header_len content_len used
-TakesRestOfHeader limits bytes rest piece (Err fault) = (bytes ≡ []) × ShowsInHeader limits rest piece fault
+TakesRestOfHeader limits bytes rest piece (Err fault) = (bytes ≡ [])
+    × ShowsInHeader limits rest piece fault

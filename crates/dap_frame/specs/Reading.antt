@@ -1,5 +1,6 @@
 -- What a framer is to its callers: the rest of a stream that it stands for, and what a call gives.
-use Rattle.std.specs.Prelude.{◌≡◌, ◌≢◌, ℕ, ◌<◌, ◌≤◌, List, [], ◌++◌, length, take, drop, Option, Some, None, Result, Ok, Err, MatchOption}
+use Rattle.std.specs.Prelude.{◌≡◌, ◌≢◌, ℕ, ◌<◌, ◌≤◌, List, [], ◌++◌, length, take, drop, Option}
+use Rattle.std.specs.Prelude.{Some, None, Result, Ok, Err, MatchOption}
 use Rattle.dap_frame.specs.declared.limits.FrameLimits.{FrameLimits}
 use Rattle.dap_frame.specs.declared.fault.FrameFault.{FrameFault}
 use Rattle.dap_frame.specs.declared.fault.FrameFault.TheVariants.{Memory}
@@ -28,9 +29,11 @@ HasFailed framer fault = framer.fault ≡ Some fault
 -- What is kept is that of the rest. It is that of many others too, since no byte of a header part
 -- is kept.
 abbrev pub IsKeptOf : FrameLimits → Progress → List ℕ → List ℕ → Type 0
-IsKeptOf limits (Header scan) bytes rest = (bytes ≡ []) × IsScanOf limits rest scan × (length rest < limits.header)
+IsKeptOf limits (Header scan) bytes rest = (bytes ≡ []) × IsScanOf limits rest scan
+    × (length rest < limits.header)
 IsKeptOf limits (Content header_len content_len) bytes rest =
-    BeginsWith limits rest header_len (Ok content_len) × (drop header_len rest ≡ bytes) × (length bytes < content_len)
+    BeginsWith limits rest header_len (Ok content_len) × (drop header_len rest ≡ bytes)
+    × (length bytes < content_len)
 
 -- The same of a framer that may have failed: after a fault it stands for no rest.
 abbrev pub IsKeptBy : FrameLimits → Option Progress → List ℕ → List ℕ → Type 0
@@ -52,7 +55,8 @@ GivesFed limits rest piece fed new = (fed.used ≤ length piece) × MatchOption 
 
 -- The fault that was told: that of memory, and the framer still stands for the rest; or one that
 -- the rest and the piece show.
-pub record GivesFault (limits : FrameLimits) (rest piece : List ℕ) (fault : FrameFault) (new : Reading) : Type 0 where
+pub record GivesFault (limits : FrameLimits) (rest piece : List ℕ) (fault : FrameFault)
+    (new : Reading) : Type 0 where
   pub memory : fault ≡ Memory → Stands new rest
   pub shown : fault ≢ Memory → (i : ℕ) × Shows limits (rest ++ piece) fault i
   pub failed : fault ≢ Memory → HasFailed new fault

@@ -1,5 +1,21 @@
 //! Frames read from the pieces of a stream.
-ghost use Rattle.std.specs.Prelude.{◌≡◌, ℕ, ◌≤◌, ◌+◌, ◌<◌, ◌↔◌, ◌++◌, List, [], length, Err, IsErrOf, IfErr, IsOk, IfOk};
+ghost use Rattle.std.specs.Prelude.{
+  ◌≡◌,
+  ℕ,
+  ◌≤◌,
+  ◌+◌,
+  ◌<◌,
+  ◌↔◌,
+  ◌++◌,
+  List,
+  [],
+  length,
+  Err,
+  IsErrOf,
+  IfErr,
+  IsOk,
+  IfOk,
+};
 ghost use Rattle.dap_frame.specs.Limits.{IsSound};
 ghost use Rattle.dap_frame.specs.Frame.{HasContentByte};
 ghost use Rattle.dap_frame.specs.Reading.{Stands, HasFailed, Gives, limits_of};
@@ -96,7 +112,8 @@ impl Framer {
 
         // What stands after a fault.
         ensures memory { IsErrOf result FrameFault.Memory → self.new ≡ self.old }
-        ensures memory_for_content { IsErrOf result FrameFault.Memory → (rest : List ℕ) → Stands self.old rest
+        ensures memory_for_content { IsErrOf result FrameFault.Memory → (rest : List ℕ)
+            → Stands self.old rest
             → HasContentByte (limits_of self.old) (rest ++ piece.now) }
         ensures failed { (fault : _) → HasFailed self.old fault
             → (result ≡ Err fault) × (self.new ≡ self.old) }

@@ -1,7 +1,7 @@
 //! A header part, scanned byte by byte. None of its bytes is kept.
 
 ghost use Rattle.std.specs.Prelude.{◌≡◌, ◌<◌, ℕ, List, []};
-ghost use Rattle.dap_frame.specs.Frame.{judged};
+ghost use Rattle.dap_frame.specs.Frame.{told_length};
 ghost use Rattle.dap_frame.specs.Findings.{AreFindings, with_line};
 ghost use Rattle.dap_frame.specs.HeaderScan.{header_step, IsScanOf};
 
@@ -50,7 +50,7 @@ impl Findings {
     /// The content's length or the fault, by all the lines.
     pub fn outcome(self) -> Result<usize, FrameFault>
         ensures { (limits : _) (lines : List (List ℕ)) → AreFindings limits lines self
-            → result ≡ judged limits lines }
+            → result ≡ told_length limits lines }
     {
         if self.are_fields {
             self.length

@@ -1,6 +1,20 @@
 //! How far a frame has come, and what of a piece belongs to it.
 
-ghost use Rattle.std.specs.Prelude.{◌≡◌, ◌<◌, ◌≤◌, ◌+◌, ◌-◌, ◌++◌, ℕ, List, length, take, min, OnErr, IfOk};
+ghost use Rattle.std.specs.Prelude.{
+  ◌≡◌,
+  ◌<◌,
+  ◌≤◌,
+  ◌+◌,
+  ◌-◌,
+  ◌++◌,
+  ℕ,
+  List,
+  length,
+  take,
+  min,
+  OnErr,
+  IfOk,
+};
 ghost use Rattle.dap_frame.specs.Limits.{IsSound};
 ghost use Rattle.dap_frame.specs.HeaderScan.{IsScanOf};
 ghost use Rattle.dap_frame.specs.Reading.{IsKeptOf};
@@ -103,7 +117,8 @@ pub fn take_content(
     content_len: usize,
 ) -> Result<usize, AllocError>
     requires { length bytes.old.items ≤ content_len }
-    ensures ok { IfOk result (λ n. (n ≡ min (content_len - length bytes.old.items) (length piece.now))
+    ensures ok { IfOk result
+        (λ n. (n ≡ min (content_len - length bytes.old.items) (length piece.now))
         × (bytes.new.items ≡ bytes.old.items ++ take n piece.now)) }
     ensures err { OnErr result (bytes.new.items ≡ bytes.old.items) }
     ensures refused { OnErr result (0 < length piece.now) }

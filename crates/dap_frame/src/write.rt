@@ -1,5 +1,22 @@
 //! Frames written.
-ghost use Rattle.std.specs.Prelude.{◌≡◌, ◌+◌, ◌^◌, ◌<◌, ◌≤◌, ◌⊎◌, ◌↔◌, ◌++◌, length, vec_len, vec_capacity, Err, IsOk, OnOk, OnErr, IfErr};
+ghost use Rattle.std.specs.Prelude.{
+  ◌≡◌,
+  ◌+◌,
+  ◌^◌,
+  ◌<◌,
+  ◌≤◌,
+  ◌⊎◌,
+  ◌↔◌,
+  ◌++◌,
+  length,
+  vec_len,
+  vec_capacity,
+  Err,
+  IsOk,
+  OnOk,
+  OnErr,
+  IfErr,
+};
 ghost use Rattle.std.specs.Io.{StartsWith};
 ghost use Rattle.dap_frame.specs.Limits.{IsSound};
 ghost use Rattle.dap_frame.specs.Frame.{frame_text};
@@ -38,7 +55,8 @@ pub fn write_frame(out: &mut Vec<u8>, content: &[u8], limits: FrameLimits) -> Re
     ensures err { OnErr result (out.new.items ≡ out.old.items) }
 
     // ContentTooLong comes exactly there, and the only other error is Memory.
-    ensures too_long { result ≡ Err FrameFault.ContentTooLong ↔ (limits.content < length content.now) }
+    ensures too_long { result ≡ Err FrameFault.ContentTooLong
+        ↔ (limits.content < length content.now) }
     ensures only { IfErr result (λ fault.
         (fault ≡ FrameFault.ContentTooLong) ⊎ (fault ≡ FrameFault.Memory)) }
 

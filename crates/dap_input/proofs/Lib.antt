@@ -4,4 +4,5 @@ pub mod InputLoop
 pub mod InputRefusals
 pub mod Outcomes
 pub mod ReadBounds
+pub mod Refusals
 pub mod Runs

@@ -1,13 +1,16 @@
--- Runs: bytes that are whole records, each judged behind the values before it. What is owed of values, and the laws of runs.
+-- Runs: bytes that are whole records, each judged behind the values before it. What is owed of
+-- values, and the laws of runs.
 use Rattle.std.proofs.Common.{◌≡◌, ◌⊎◌, ℕ, ◌+◌, ◌<◌, ◌≤◌, List, [], ◌∷◌, ◌++◌, length}
-use Rattle.std.proofs.Common.{refl, ap, arith, append_assoc, append-nil, length-append, add-zero, add_assoc}
+use Rattle.std.proofs.Common.{refl, ap, arith, append_assoc, append-nil, length-append, add-zero}
+use Rattle.std.proofs.Common.{add_assoc}
 use Rattle.std.proofs.lemmas.List.{append_cancel_left}
 use Rattle.dap_items.specs.Items.{IsItem}
 use Rattle.dap_items.proofs.Ends.{IsReadable, not_empty, one_item}
-use Rattle.dap_input.specs.Judging.{Judging}
+use Rattle.dap_input.specs.Judging.{Judging, Objection}
 
 -- A whole record stands in front, within the limit, and is judged to be this value.
-pub record PassesAt (j : Judging) (used : ℕ) (values : List j.Value) (front : List ℕ) (value : j.Value) : Type 0 where
+pub record PassesAt (j : Judging) (used : ℕ) (values : List j.Value) (front : List ℕ)
+    (value : j.Value) : Type 0 where
   pub held : j.Held
   pub is_record : IsItem j.records front held
   pub is_next : j.IsNext values held value
@@ -19,27 +22,33 @@ module _ (j : Judging) where
   Run before used bytes [] = bytes ≡ []
   Run before used bytes (value ∷ values) =
       (front : List ℕ) × (more : List ℕ) × (bytes ≡ front ++ more)
-      × PassesAt j used before front value × Run (before ++ value ∷ []) (used + length front) more values
+      × PassesAt j used before front value
+      × Run (before ++ value ∷ []) (used + length front) more values
 
 -- What a record holds is at most one value, or has one objection.
 pub record ValueLaws (j : Judging) : Type 0 where
   pub one_value : (values : List j.Value) (held : j.Held) (value other : j.Value)
       → j.IsNext values held value → j.IsNext values held other → value ≡ other
-  pub one_objection : (values : List j.Value) (held : j.Held) (why because : j.Objection)
+  pub one_objection : (values : List j.Value) (held : j.Held) (why because : Objection)
       → j.Objects values held why → j.Objects values held because → why ≡ because
-  pub next_not_objected : (values : List j.Value) (held : j.Held) (value : j.Value) (why : j.Objection)
+  pub next_not_objected : (values : List j.Value) (held : j.Held) (value : j.Value)
+      (why : Objection)
       → j.IsNext values held value → j.Objects values held why → ⊥
 
 -- What is owed of what records hold.
 pub record ValueFacts (j : Judging) : Type 0 where
   pub laws : ValueLaws j
-  pub some_judgement : (bytes : List ℕ) (values : List j.Value) → Run j [] 0 bytes values → (held : j.Held)
-      → ((value : j.Value) × j.IsNext values held value) ⊎ ((why : j.Objection) × j.Objects values held why)
+  pub some_judgement : (bytes : List ℕ) (values : List j.Value) → Run j [] 0 bytes values
+      → (held : j.Held)
+      → ((value : j.Value) × j.IsNext values held value)
+      ⊎ ((why : Objection) × j.Objects values held why)
 
 -- What is owed of accepted inputs: they are the runs.
 pub record AcceptedFacts (j : Judging) : Type 0 where
-  pub run_of_accepted : (bytes : List ℕ) (values : List j.Value) → j.IsAccepted bytes values → Run j [] 0 bytes values
-  pub accepted_of_run : (bytes : List ℕ) (values : List j.Value) → Run j [] 0 bytes values → j.IsAccepted bytes values
+  pub run_of_accepted : (bytes : List ℕ) (values : List j.Value) → j.IsAccepted bytes values
+      → Run j [] 0 bytes values
+  pub accepted_of_run : (bytes : List ℕ) (values : List j.Value) → Run j [] 0 bytes values
+      → j.IsAccepted bytes values
 
 module _ (j : Judging) where
   pub run_none : (before : List j.Value) (used : ℕ) → Run j before used [] []
@@ -47,8 +56,10 @@ module _ (j : Judging) where
   run_none before used = refl
 
   -- One more record that passes makes a longer run.
-  pub run_push : (before : List j.Value) (used : ℕ) (bytes : List ℕ) (values : List j.Value) (front : List ℕ) (value : j.Value)
-      → Run j before used bytes values → PassesAt j (used + length bytes) (before ++ values) front value
+  pub run_push : (before : List j.Value) (used : ℕ) (bytes : List ℕ) (values : List j.Value)
+      (front : List ℕ) (value : j.Value)
+      → Run j before used bytes values
+      → PassesAt j (used + length bytes) (before ++ values) front value
       → Run j before used (bytes ++ front) (values ++ value ∷ [])
   unfolding Run
   run_push before used bytes [] front value none passes =
@@ -68,15 +79,19 @@ module _ (j : Judging) where
   unfolding Run
   run_ends_within before used bytes [] none short = omega (arith, ap length none)
   run_ends_within before used bytes (value ∷ values) (front, more, is, passes, run) short =
-      let end = run_ends_within (before ++ value ∷ []) (used + length front) more values run passes.in_time in
+      let end = run_ends_within (before ++ value ∷ []) (used + length front) more values run
+      passes.in_time in
       omega (arith, ap length is, length-append front more)
 
   -- A whole run has no more bytes than are taken.
-  pub run_within : (bytes : List ℕ) (values : List j.Value) → Run j [] 0 bytes values → length bytes ≤ j.input
-  run_within bytes values run = let end = run_ends_within [] 0 bytes values run (omega arith) in omega arith
+  pub run_within : (bytes : List ℕ) (values : List j.Value) → Run j [] 0 bytes values
+      → length bytes ≤ j.input
+  run_within bytes values run = let end =
+      run_ends_within [] 0 bytes values run (omega arith) in omega arith
 
   -- A run over `other` has the bytes and values of one over `front`, and then more.
-  pub record GoesOn (before : List j.Value) (used : ℕ) (front : List ℕ) (values : List j.Value) (other : List ℕ) (others : List j.Value) : Type 0 where
+  pub record GoesOn (before : List j.Value) (used : ℕ) (front : List ℕ) (values : List j.Value)
+      (other : List ℕ) (others : List j.Value) : Type 0 where
     pub behind : List ℕ
     pub last : List j.Value
     pub bytes_are : other ≡ front ++ behind
@@ -85,7 +100,8 @@ module _ (j : Judging) where
 
   module _ (records : IsReadable j.records) where
     -- A record is not empty.
-    pub some_bytes : (front : List ℕ) (held : j.Held) → IsItem j.records front held → 0 < length front
+    pub some_bytes : (front : List ℕ) (held : j.Held) → IsItem j.records front held
+        → 0 < length front
     some_bytes [] held is = absurd (not_empty records held is)
     some_bytes (byte ∷ front) held is = omega arith
 
@@ -95,13 +111,16 @@ module _ (j : Judging) where
     unfolding Run
     no_values before used bytes [] run none = refl
     no_values before used bytes (value ∷ values) (front, more, is, passes, run) none =
-        let some = some_bytes front passes.held passes.is_record in absurd (omega (arith, ap length is, length-append front more))
+        let some = some_bytes front passes.held passes.is_record in absurd
+        (omega (arith, ap length is, length-append front more))
 
     module _ (judged : ValueLaws j) where
       -- Of two runs over the same bytes the longer goes on from the shorter.
-      pub run_goes_on : (before : List j.Value) (used : ℕ) (front other rest more : List ℕ) (values others : List j.Value)
+      pub run_goes_on : (before : List j.Value) (used : ℕ) (front other rest more : List ℕ)
+          (values others : List j.Value)
           → Run j before used front values → Run j before used other others
-          → front ++ rest ≡ other ++ more → length front ≤ length other → GoesOn before used front values other others
+          → front ++ rest ≡ other ++ more → length front ≤ length other
+          → GoesOn before used front values other others
       unfolding Run
       run_goes_on before used front other rest more [] others none run same le = record {
         behind = other;
@@ -111,18 +130,36 @@ module _ (j : Judging) where
         run = simp (none, append-nil, add-zero) run;
       }
       run_goes_on before used front other rest more (value ∷ values) [] run none same le =
-          absurd (let empty = no_values before used front (value ∷ values) run (omega (arith, ap length none)) in cc)
-      run_goes_on before used front other rest more (value ∷ values) (w ∷ others) (f, fs, front_is, passes, run) (g, gs, other_is, found, run_too) same le =
-          let split : f ++ (fs ++ rest) ≡ g ++ (gs ++ more) = cc (append_assoc f fs rest, append_assoc g gs more) in
-          let one = one_item records.grammar f g (fs ++ rest) (gs ++ more) passes.held found.held split passes.is_record found.is_record in
-          let is : w ≡ value = judged.one_value before found.held w value found.is_next (rw one.1 at passes.is_next) in
-          let behind : fs ++ rest ≡ gs ++ more = append_cancel_left f (fs ++ rest) (gs ++ more) (cc (split, one.0)) in
-          let run_on : Run j (before ++ value ∷ []) (used + length f) gs others = rw one.0 (rw is at run_too) in
+          absurd (let empty = no_values before used front (value ∷ values) run
+          (omega (arith, ap length none)) in cc)
+      run_goes_on before used front other rest more (value ∷ values) (w ∷ others)
+          (f, fs, front_is, passes, run) (g, gs, other_is, found, run_too) same le =
+          let split : f ++ (fs ++ rest) ≡ g ++ (gs ++ more) =
+          cc (append_assoc f fs rest, append_assoc g gs more) in
+          let one = one_item records.grammar f g (fs ++ rest) (gs ++ more) passes.held found.held
+          split passes.is_record found.is_record in
+          let is : w ≡ value =
+          judged.one_value before found.held w value found.is_next (rw one.1 at passes.is_next)
+          in
+          let behind : fs ++ rest ≡ gs ++ more =
+          append_cancel_left f (fs ++ rest) (gs ++ more) (cc (split, one.0)) in
+          let run_on : Run j (before ++ value ∷ []) (used + length f) gs others =
+          rw one.0 (rw is at run_too) in
           let shorter : length fs ≤ length gs =
-          omega (arith, ap length front_is, ap length other_is, ap length one.0, length-append f fs, length-append g gs) in
-          longer one.0 is (run_goes_on (before ++ value ∷ []) (used + length f) fs gs rest more values others run run_on behind shorter)
+          omega (
+            arith,
+            ap length front_is,
+            ap length other_is,
+            ap length one.0,
+            length-append f fs,
+            length-append g gs,
+          ) in
+          longer one.0 is
+          (run_goes_on (before ++ value ∷ []) (used + length f) fs gs rest more values others
+          run run_on behind shorter)
         where
-          longer : f ≡ g → w ≡ value → GoesOn (before ++ value ∷ []) (used + length f) fs values gs others
+          longer : f ≡ g → w ≡ value
+              → GoesOn (before ++ value ∷ []) (used + length f) fs values gs others
               → GoesOn before used front (value ∷ values) other (w ∷ others)
           longer start is on = record {
             behind = on.behind;
@@ -133,9 +170,12 @@ module _ (j : Judging) where
           }
 
       -- Two runs that use up the same bytes have the same values.
-      pub one_run : (bytes : List ℕ) (values others : List j.Value) → Run j [] 0 bytes values → Run j [] 0 bytes others → values ≡ others
+      pub one_run : (bytes : List ℕ) (values others : List j.Value) → Run j [] 0 bytes values
+          → Run j [] 0 bytes others → values ≡ others
       one_run bytes values others run other =
           let on = run_goes_on [] 0 bytes bytes [] [] values others run other refl (omega arith) in
-          let empty : length on.behind ≡ 0 = omega (arith, ap length on.bytes_are, length-append bytes on.behind) in
-          let none : on.last ≡ [] = no_values values (0 + length bytes) on.behind on.last on.run empty in
+          let empty : length on.behind ≡ 0 =
+          omega (arith, ap length on.bytes_are, length-append bytes on.behind) in
+          let none : on.last ≡ [] =
+          no_values values (0 + length bytes) on.behind on.last on.run empty in
           cc (on.values_are, none, append-nil values)

@@ -1,12 +1,14 @@
--- What an engine that reads its whole input before it writes answers, and what its devices then hold. Source: own.
--- `Gives` says what an input gives, and `IsRefused` what an input is refused for; one of the two alone can hold.
+-- What an engine that reads its whole input before it writes answers, and what its devices then
+-- hold. Source: own. `Gives` says what an input gives, and `IsRefused` what an input is refused
+-- for; one of the two alone can hold.
 use Rattle.std.specs.Prelude.{◌≡◌, ◌⊎◌, ℕ, ◌+◌, ◌≤◌, List, length, take, Option, Result, Ok, Err}
 use Rattle.std.specs.Io.KnownBytes.{Appends}
 use Rattle.dap_recording.specs.declared.record_fault.RecordCause.TheVariants.{Cut}
 use Rattle.dap_device.specs.declared.reading.Stop.{Stop}
 use Rattle.dap_device.specs.declared.reading.Stop.TheVariants.{End, Failed}
 use Rattle.dap_input.specs.declared.refused.Refused.{Refused}
-use Rattle.dap_input.specs.declared.refused.Refused.TheVariants.{Record, ReadFault, WriteFault, Memory}
+use Rattle.dap_input.specs.declared.refused.Refused.TheVariants.{Record, ReadFault, WriteFault}
+use Rattle.dap_input.specs.declared.refused.Refused.TheVariants.{Memory}
 use Rattle.dap_device.specs.Reading.{HasCome}
 
 -- An engine over a reader, by what this tells of its bytes and its failures.
@@ -26,10 +28,13 @@ module _ {R : Type 0} (left : R → Option (List ℕ)) (failures : R → ℕ) (i
     pub record FailsToRead (IsRefused : List ℕ → Refused → Type 0) (old new : R) : Type 0 where
       pub bytes : List ℕ
       pub came : Came old new bytes Failed
-      pub not_refused : ((given : T) × Gives bytes given) ⊎ ((n : ℕ) × IsRefused bytes (Record n Cut))
+      pub not_refused : ((given : T) × Gives bytes given)
+          ⊎ ((n : ℕ) × IsRefused bytes (Record n Cut))
 
-  -- What the reader gave is refused. That it ends too early is told only where the reader came to its end.
-  pub record RefusesInput (IsRefused : List ℕ → Refused → Type 0) (old new : R) (refused : Refused) : Type 0 where
+  -- What the reader gave is refused. That it ends too early is told only where the reader came to
+  -- its end.
+  pub record RefusesInput (IsRefused : List ℕ → Refused
+      → Type 0) (old new : R) (refused : Refused) : Type 0 where
     pub bytes : List ℕ
     pub stop : Stop
     pub came : Came old new bytes stop
@@ -37,7 +42,8 @@ module _ {R : Type 0} (left : R → Option (List ℕ)) (failures : R → ℕ) (i
     pub cut : (n : ℕ) → refused ≡ Record n Cut → stop ≡ End
 
 -- An engine over a reader and a writer, which writes the text that its input gives.
-module _ {R W : Type 0} (left : R → Option (List ℕ)) (read_failures : R → ℕ) (out : W → Option (List ℕ)) (write_failures : W → ℕ)
+module _ {R W : Type 0} (left : R → Option (List ℕ)) (read_failures : R → ℕ) (out : W
+    → Option (List ℕ)) (write_failures : W → ℕ)
     (input : ℕ) (Gives : List ℕ → List ℕ → Type 0) (IsRefused : List ℕ → Refused → Type 0) where
   -- All of the text went out, and neither device failed.
   pub record HasFinished (old new : R) (before after : W) : Type 0 where
@@ -58,7 +64,21 @@ module _ {R W : Type 0} (left : R → Option (List ℕ)) (read_failures : R → 
   -- On every other answer nothing was written.
   abbrev pub Answers : {U : Type 0} → R → R → W → W → Result U Refused → Type 0
   Answers old new before after (Ok done) = HasFinished old new before after
-  Answers old new before after (Err ReadFault) = FailsToRead left read_failures input Gives IsRefused old new × (after ≡ before)
+  Answers old new before after (Err ReadFault) =
+      FailsToRead left read_failures input Gives IsRefused old new × (after ≡ before)
   Answers old new before after (Err WriteFault) = HasNotWritten old new before after
   Answers old new before after (Err Memory) = after ≡ before
-  Answers old new before after (Err refused) = RefusesInput left read_failures input IsRefused old new refused × (after ≡ before)
+  Answers old new before after (Err refused) =
+      RefusesInput left read_failures input IsRefused old new refused × (after ≡ before)
+
+-- What an engine makes of the bytes that it has read, where reading stopped so: the text that they
+-- give; or the reader failed, and they are not refused but for where they end; or they are refused.
+module _ (Gives : List ℕ → List ℕ → Type 0) (IsRefused : List ℕ → Refused → Type 0) where
+  abbrev pub Judges : {T : Type 0} → (T → List ℕ) → List ℕ → Stop → Result T Refused → Type 0
+  Judges text_of bytes stop (Ok out) = (stop ≡ End) × Gives bytes (text_of out)
+  Judges text_of bytes stop (Err ReadFault) = (stop ≡ Failed)
+      × (((given : List ℕ) × Gives bytes given) ⊎ ((n : ℕ) × IsRefused bytes (Record n Cut)))
+  Judges text_of bytes stop (Err WriteFault) = ⊥
+  Judges text_of bytes stop (Err Memory) = Unit {0}
+  Judges text_of bytes stop (Err refused) = IsRefused bytes refused
+      × ((n : ℕ) → refused ≡ Record n Cut → stop ≡ End)

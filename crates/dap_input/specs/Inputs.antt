@@ -1,4 +1,5 @@
--- An input as it came, whatever its records are: where it is refused, and what stands before a record. Source: own.
+-- An input as it came, whatever its records are: where it is refused, and what stands before a
+-- record. Source: own.
 use Rattle.std.specs.Prelude.{◌≡◌, ◌≢◌, ◌⊎◌, ℕ, ◌+◌, Bool, true, false, List, ◌++◌, length}
 use Rattle.dap_input.specs.Judging.{Judging, Reason, cut, IsFirstRefusal}
 
@@ -7,19 +8,22 @@ pub record Input : Type 0 where
   pub bytes : List ℕ
   pub failed : Bool
 
-module _ (j : Judging) where
-  -- why an input is refused at a record: for what stands there, or because its reader failed
-  pub data Fault : Type 0 where
-    refused : Reason j → Fault
-    read_fault : Fault
+-- why an input is refused at a record: for what stands there, or because its reader failed
+pub data Fault : Type 0 where
+  refused : Reason → Fault
+  read_fault : Fault
 
+module _ (j : Judging) where
   -- The bytes end before this record or inside it, and nothing is wrong with those before.
   abbrev pub EndsAt : List ℕ → ℕ → Type 0
-  EndsAt bytes number = IsFirstRefusal j bytes number cut ⊎ ((values : List j.Value) × j.IsAccepted bytes values × (number ≡ length values + 1))
+  EndsAt bytes number = IsFirstRefusal j bytes number cut
+      ⊎ ((values : List j.Value) × j.IsAccepted bytes values × (number ≡ length values + 1))
 
-  -- The input is refused at this record: the first refusal of its bytes is there; but where the reader failed, that they only end there is its fault.
+  -- The input is refused at this record: the first refusal of its bytes is there; but where the
+  -- reader failed, that they only end there is its fault.
   abbrev pub IsRefusedAt : Input → ℕ → Fault → Type 0
-  IsRefusedAt input number (refused why) = IsFirstRefusal j input.bytes number why × (input.failed ≡ true → why ≢ cut)
+  IsRefusedAt input number (refused why) = IsFirstRefusal j input.bytes number why
+      × (input.failed ≡ true → why ≢ cut)
   IsRefusedAt input number read_fault = (input.failed ≡ true) × EndsAt input.bytes number
 
   abbrev pub IsNotRefusedAt : Input → ℕ → Type 0

@@ -3,3 +3,4 @@ pub mod Inputs
 pub mod Judging
 pub mod Limits
 pub mod ReadTo
+pub mod Refusals

@@ -1,12 +1,15 @@
 -- How far an input has been read that is judged record by record, as its bytes come. Source: own.
-use Rattle.std.specs.Prelude.{◌≡◌, ◌⊎◌, ℕ, ◌+◌, ◌≤◌, Bool, true, false, List, [], ◌++◌, length, Option, Some, None}
+use Rattle.std.specs.Prelude.{◌≡◌, ◌⊎◌, ℕ, ◌+◌, ◌≤◌, Bool, true, false, List, [], ◌++◌, length}
+use Rattle.std.specs.Prelude.{Option, Some, None}
 use Rattle.dap_device.specs.declared.reading.Stop.{Stop}
-use Rattle.dap_device.specs.declared.reading.Stop.TheVariants.{Failed}
+use Rattle.dap_device.specs.declared.reading.Stop.TheVariants.{End, Failed}
 use Rattle.dap_items.specs.Items.{IsItem, Shows}
+use Rattle.dap_recording.specs.declared.record_fault.RecordCause.{RecordCause}
 use Rattle.dap_input.specs.Inputs.{AcceptedBefore, EndsAt, Input}
 use Rattle.dap_input.specs.Judging.{Judging}
 
--- No more was read than this record asked for: without the last 65,536 bytes, at most, what came ends before it or inside it, and nothing is wrong with it.
+-- No more was read than this record asked for: without the last 65,536 bytes, at most, what came
+-- ends before it or inside it, and nothing is wrong with it.
 pub record IsReadTo (j : Judging) (bytes : List ℕ) (number : ℕ) : Type 0 where
   pub before : List ℕ
   pub last : List ℕ
@@ -23,9 +26,19 @@ has_failed stop = false
 abbrev pub so_far : List ℕ → Option Stop → Input
 so_far bytes stop = record { bytes = bytes; failed = has_failed stop }
 
--- At most 65,536 bytes were read past this record, if it is whole, and past the byte that shows a fault of it. The records before it are accepted.
+-- An input of which these bytes have come: all of it where the reader has ended or failed, and else
+-- a front of it, whatever comes behind.
+abbrev pub IsOf : List ℕ → Option Stop → Input → Type 0
+IsOf bytes (Some End) input = (input.bytes ≡ bytes) × (input.failed ≡ false)
+IsOf bytes (Some Failed) input = (input.bytes ≡ bytes) × (input.failed ≡ true)
+IsOf bytes stop input = (more : List ℕ) × (input.bytes ≡ bytes ++ more)
+
+-- At most 65,536 bytes were read past this record, if it is whole, and past the byte that shows a
+-- fault of it. The records before it are accepted.
 pub record IsBounded (j : Judging) (bytes : List ℕ) (number : ℕ) : Type 0 where
-  pub past_record : (before : AcceptedBefore j (so_far bytes None) number) (whole more : List ℕ) (held : j.Held) → before.rest ≡ whole ++ more → IsItem j.records whole held
+  pub past_record : (before : AcceptedBefore j (so_far bytes None) number) (whole more : List ℕ)
+      (held : j.Held) → before.rest ≡ whole ++ more → IsItem j.records whole held
       → length bytes ≤ length before.front + length whole + 65536
-  pub past_fault : (before : AcceptedBefore j (so_far bytes None) number) (cause : j.Cause) (place : ℕ) → Shows j.records before.rest cause place
+  pub past_fault : (before : AcceptedBefore j (so_far bytes None) number) (cause : RecordCause)
+      (place : ℕ) → Shows j.records before.rest cause place
       → length bytes ≤ length before.front + place + 65536

@@ -1,4 +1,5 @@
-//! Inputs that are judged record by record: limits, refusals, and what holds of first refusals whatever a record is.
+//! Inputs that are judged record by record: limits, refusals, and what holds of first refusals
+//! whatever a record is.
 #![tactic(auto)]
 
 mod limits;

@@ -3,7 +3,8 @@ use dap_frame::FrameLimits;
 
 /// The limits of an engine.
 ///
-/// Calls that take them ask that `frame` is sound, `ids` at most 2,147,483,647 and `input` at most 2^62.
+/// Calls that take them ask that `frame` is sound, `ids` at most 2,147,483,647 and `input` at most
+/// 2^62.
 #[derive(Clone, Copy, Debug, PartialEq, Eq)]
 pub struct Limits {
     /// How long a header part and a content may be, in bytes.

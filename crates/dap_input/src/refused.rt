@@ -4,8 +4,8 @@ use dap_recording::{RecordCause, RecorderFault, TraceCause};
 use dap_session::Rule;
 use thiserror::Error;
 
-/// Why an engine gave up, and at which record or piece of a trace, counted from 1. The fault inside it is never for want
-/// of memory.
+/// Why an engine gave up, and at which record or piece of a trace, counted from 1. The fault inside
+/// it is never for want of memory.
 ///
 /// The text is what the program prints behind `dapnorm: `.
 #[derive(Clone, Copy, Debug, PartialEq, Eq, Error)]
@@ -34,7 +34,8 @@ pub enum Refused {
     /// With this record, the text to be written would pass a limit.
     #[error("record {0}: Grew")]
     Grew(u64),
-    /// The recording is accepted, and so many requests of the client and of the adapter have no response.
+    /// The recording is accepted, and so many requests of the client and of the adapter have no
+    /// response.
     #[error("incomplete: {0} client, {1} adapter")]
     Incomplete(usize, usize),
     /// The byte past the input limit stands in this piece.
@@ -43,7 +44,8 @@ pub enum Refused {
     /// The bytes of this piece are no piece of a trace.
     #[error("piece {0}: {1}")]
     Trace(u64, TraceCause),
-    /// In this piece a frame of a side is faulty; or it is the last piece, and a frame of a side has not ended.
+    /// In this piece a frame of a side is faulty; or it is the last piece, and a frame of a side
+    /// has not ended.
     #[error("piece {0}: {1}")]
     Recorder(u64, RecorderFault),
     /// The reader failed.

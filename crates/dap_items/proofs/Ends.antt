@@ -1,6 +1,9 @@
 -- Bytes begin with one item, or show one fault, or are open; and a fault stays where it is.
-use Rattle.std.proofs.Common.{◌<◌, [], ◌∷◌, ◌≡◌, ℕ, suc, ◌+◌, ◌-◌, ◌≤◌, ◌⊎◌, inl, inr, List, ◌++◌, length, take, drop, get_or, Result, Ok, Err, refl, sym, ap, ◌∙◌, subst, arith}
-use Rattle.std.proofs.lemmas.List.{append_assoc, append-nil, length-append, length-take-le, take_at, take-append-le, take-append-drop}
+use Rattle.std.proofs.Common.{◌<◌, [], ◌∷◌, ◌≡◌, ℕ, suc, ◌+◌, ◌-◌, ◌≤◌, ◌⊎◌, inl, inr, List, ◌++◌}
+use Rattle.std.proofs.Common.{length, take, drop, get_or, Result, Ok, Err, refl, sym, ap, ◌∙◌}
+use Rattle.std.proofs.Common.{subst, arith}
+use Rattle.std.proofs.lemmas.List.{append_assoc, append-nil, length-append, length-take-le, take_at}
+use Rattle.std.proofs.lemmas.List.{take-append-le, take-append-drop}
 use Rattle.std.proofs.lemmas.Bool.{cases_lt}
 use Rattle.std.proofs.Math.Seq.{drop-cons}
 use Rattle.dap_items.specs.Items.{Items, IsItem, IsGrammar, NoEmptyItem, HasItem, Shows}
@@ -8,13 +11,17 @@ use Rattle.dap_items.proofs.Fronts.{shorter_front}
 
 -- what is true of all bytes
 abbrev pub Outcome : {Value Fault : Type 0} → Items Value Fault → List ℕ → Type 0
-Outcome {Value = Value} {Fault = Fault} g bytes = HasItem g bytes ⊎ (((fault : Fault) × (i : ℕ) × Shows g bytes fault i) ⊎ g.IsOpen bytes)
+Outcome {Value = Value} {Fault = Fault} g bytes = HasItem g bytes
+    ⊎ (((fault : Fault) × (i : ℕ) × Shows g bytes fault i) ⊎ g.IsOpen bytes)
 
 module _ {Value Fault : Type 0} {g : Items Value Fault} where
-  pub shown_within : (bytes : List ℕ) (fault : Fault) (i : ℕ) → Shows g bytes fault i → i ≤ length bytes
-  shown_within bytes fault i shows = omega (arith, shows.place, ap length shows.bytes_are, length-append shows.front shows.more)
+  pub shown_within : (bytes : List ℕ) (fault : Fault) (i : ℕ) → Shows g bytes fault i
+      → i ≤ length bytes
+  shown_within bytes fault i shows =
+      omega (arith, shows.place, ap length shows.bytes_are, length-append shows.front shows.more)
 
-  pub fault_stays : (bytes more : List ℕ) (fault : Fault) (i : ℕ) → Shows g bytes fault i → Shows g (bytes ++ more) fault i
+  pub fault_stays : (bytes more : List ℕ) (fault : Fault) (i : ℕ) → Shows g bytes fault i
+      → Shows g (bytes ++ more) fault i
   fault_stays bytes more fault i shows = record {
     front = shows.front;
     more = shows.more ++ more;
@@ -23,10 +30,12 @@ module _ {Value Fault : Type 0} {g : Items Value Fault} where
     place = shows.place;
   }
 
-  pub fault_early : (bytes more : List ℕ) (fault : Fault) (i : ℕ) → Shows g (bytes ++ more) fault i → i ≤ length bytes → Shows g bytes fault i
+  pub fault_early : (bytes more : List ℕ) (fault : Fault) (i : ℕ) → Shows g (bytes ++ more) fault i
+      → i ≤ length bytes → Shows g bytes fault i
   fault_early bytes more fault i shows within =
       let front : take i bytes ≡ shows.front =
-      sym (take-append-le i bytes more within) ∙ ap (take i) shows.bytes_are ∙ take_at shows.front shows.more i (sym shows.place) in
+      sym (take-append-le i bytes more within) ∙ ap (take i) shows.bytes_are
+      ∙ take_at shows.front shows.more i (sym shows.place) in
       record {
         front = shows.front;
         more = drop i bytes;
@@ -46,7 +55,8 @@ module _ {Value Fault : Type 0} {g : Items Value Fault} where
   }
 
 -- The byte behind open bytes that shows a fault, and what stands before it, which is open.
-pub record IsShownByByte {Value Fault : Type 0} (g : Items Value Fault) (bytes more : List ℕ) (fault : Fault) (i : ℕ) : Type 0 where
+pub record IsShownByByte {Value Fault : Type 0} (g : Items Value Fault) (bytes more : List ℕ)
+    (fault : Fault) (i : ℕ) : Type 0 where
   pub front : List ℕ
   pub byte : ℕ
   pub behind : List ℕ
@@ -55,28 +65,43 @@ pub record IsShownByByte {Value Fault : Type 0} (g : Items Value Fault) (bytes m
   pub shows : Shows g ((bytes ++ front) ++ byte ∷ []) fault i
 
 module _ {Value Fault : Type 0} {g : Items Value Fault} (is : IsGrammar g) where
-  pub one_item : (f h y z : List ℕ) (v w : Value) → f ++ y ≡ h ++ z → IsItem g f v → IsItem g h w → (f ≡ h) × (v ≡ w)
+  pub one_item : (f h y z : List ℕ) (v w : Value) → f ++ y ≡ h ++ z → IsItem g f v → IsItem g h w
+      → (f ≡ h) × (v ≡ w)
   one_item f h y z v w e p q = let one = is.one_end f h y z (Ok v) (Ok w) e p q in (one.0, cc)
 
-  pub one_fault : (bytes : List ℕ) (f h : Fault) (i j : ℕ) → Shows g bytes f i → Shows g bytes h j → (f ≡ h) × (i ≡ j)
+  pub one_fault : (bytes : List ℕ) (f h : Fault) (i j : ℕ) → Shows g bytes f i → Shows g bytes h j
+      → (f ≡ h) × (i ≡ j)
   one_fault bytes f h i j p q =
-      let one = is.one_end p.front q.front p.more q.more (Err f) (Err h) (sym p.bytes_are ∙ q.bytes_are) p.ends q.ends in
+      let one = is.one_end p.front q.front p.more q.more (Err f) (Err h) (sym p.bytes_are
+      ∙ q.bytes_are) p.ends q.ends in
       (cc, p.place ∙ ap length one.0 ∙ sym q.place)
 
-  pub item_not_faulty : (item more : List ℕ) (value : Value) (fault : Fault) (i : ℕ) → IsItem g item value → Shows g (item ++ more) fault i → ⊥
+  pub item_not_faulty : (item more : List ℕ) (value : Value) (fault : Fault) (i : ℕ)
+      → IsItem g item value → Shows g (item ++ more) fault i → ⊥
   item_not_faulty item more value fault i p q =
-      let one = is.one_end item q.front more q.more (Ok value) (Err fault) q.bytes_are p q.ends in cc
+      let one = is.one_end item q.front more q.more (Ok value) (Err fault) q.bytes_are p q.ends in
+      cc
 
-  pub item_not_open : (item more : List ℕ) (value : Value) → IsItem g item value → g.IsOpen (item ++ more) → ⊥
+  pub item_not_open : (item more : List ℕ) (value : Value) → IsItem g item value
+      → g.IsOpen (item ++ more) → ⊥
   item_not_open item more value = is.end_not_open item more (Ok value)
 
-  pub open_not_faulty : (bytes : List ℕ) (fault : Fault) (i : ℕ) → g.IsOpen bytes → Shows g bytes fault i → ⊥
+  pub open_not_faulty : (bytes : List ℕ) (fault : Fault) (i : ℕ) → g.IsOpen bytes
+      → Shows g bytes fault i → ⊥
   open_not_faulty bytes fault i is_open shows =
-      is.end_not_open shows.front shows.more (Err fault) shows.ends (subst g.IsOpen shows.bytes_are is_open)
+      is.end_not_open shows.front shows.more (Err fault) shows.ends
+      (subst g.IsOpen shows.bytes_are is_open)
 
-  by_end : (bytes front more : List ℕ) (result : Result Value Fault) → bytes ≡ front ++ more → g.Ends front result → Outcome g bytes
-  by_end bytes front more (Ok value) e item = inl (record { item = front; more = more; value = value; bytes_are = e; is_item = item })
-  by_end bytes front more (Err fault) e shown = inr (inl (fault, length front, record { front = front; more = more; bytes_are = e; ends = shown; place = refl }))
+  by_end : (bytes front more : List ℕ) (result : Result Value Fault) → bytes ≡ front ++ more
+      → g.Ends front result → Outcome g bytes
+  by_end bytes front more (Ok value) e item =
+      inl (record { item = front; more = more; value = value; bytes_are = e; is_item = item })
+  by_end bytes front more (Err fault) e shown =
+      inr (inl (
+        fault,
+        length front,
+        record { front = front; more = more; bytes_are = e; ends = shown; place = refl },
+      ))
 
   pub some_outcome : (bytes : List ℕ) → Outcome g bytes
   some_outcome bytes =
@@ -86,84 +111,141 @@ module _ {Value Fault : Type 0} {g : Items Value Fault} (is : IsGrammar g) where
       ]
 
   -- an open front of bytes that begin with an item is shorter than it
-  pub open_shorter : (bytes rest item more : List ℕ) (value : Value) → g.IsOpen bytes → bytes ++ rest ≡ item ++ more → IsItem g item value → length bytes < length item
+  pub open_shorter : (bytes rest item more : List ℕ) (value : Value) → g.IsOpen bytes
+      → bytes ++ rest ≡ item ++ more → IsItem g item value → length bytes < length item
   open_shorter bytes rest item more value is_open same is_item =
       elim (cases_lt (length bytes) (length item)) [
         | inl less ↦ less
-        | inr long ↦ absurd (item_not_open item (drop (length item) bytes) value is_item (subst g.IsOpen (shorter_front bytes item rest more same long) is_open))
+        | inr long ↦ absurd
+            (item_not_open item (drop (length item) bytes) value is_item
+            (subst g.IsOpen (shorter_front bytes item rest more same long) is_open))
       ]
 
   -- with a byte more, what is open is an item, or shows a fault, or is open
-  pub one_more : (bytes : List ℕ) (byte : ℕ) → g.IsOpen bytes → let more : List ℕ = bytes ++ byte ∷ [] in
-      ((value : Value) × IsItem g more value) ⊎ (((fault : Fault) × (i : ℕ) × Shows g more fault i) ⊎ g.IsOpen more)
+  pub one_more : (bytes : List ℕ) (byte : ℕ) → g.IsOpen bytes
+      → let more : List ℕ = bytes ++ byte ∷ [] in
+      ((value : Value) × IsItem g more value)
+      ⊎ (((fault : Fault) × (i : ℕ) × Shows g more fault i) ⊎ g.IsOpen more)
   one_more bytes byte is_open =
       elim (some_outcome (bytes ++ byte ∷ [])) [
-        | inl has ↦ inl (has.value, subst (λ xs. IsItem g xs has.value) (all has has.more refl) has.is_item)
+        | inl has ↦ inl
+            (has.value, subst (λ xs. IsItem g xs has.value) (all has has.more refl) has.is_item)
         | inr other ↦ inr other
       ]
     where
-      all : (has : HasItem g (bytes ++ byte ∷ [])) (more : List ℕ) → has.more ≡ more → has.item ≡ bytes ++ byte ∷ []
+      all : (has : HasItem g (bytes ++ byte ∷ [])) (more : List ℕ) → has.more ≡ more
+          → has.item ≡ bytes ++ byte ∷ []
       all has [] none = sym (has.bytes_are ∙ ap (λ xs. has.item ++ xs) none ∙ append-nil has.item)
       all has (b ∷ more) some =
-          let less = open_shorter bytes (byte ∷ []) has.item has.more has.value is_open has.bytes_are has.is_item in
-          absurd (omega (arith, less, ap length has.bytes_are, length-append has.item has.more, length-append bytes (byte ∷ []), ap length some))
+          let less = open_shorter bytes (byte ∷ []) has.item has.more has.value is_open
+          has.bytes_are has.is_item in
+          absurd (omega (
+            arith,
+            less,
+            ap length has.bytes_are,
+            length-append has.item has.more,
+            length-append bytes (byte ∷ []),
+            ap length some,
+          ))
 
   -- what is open has no item at its front, and neither has what shows a fault
   pub open_has_no_item : (rest : List ℕ) → g.IsOpen rest → HasItem g rest → ⊥
-  open_has_no_item rest is_open has = item_not_open has.item has.more has.value has.is_item (subst g.IsOpen has.bytes_are is_open)
+  open_has_no_item rest is_open has =
+      item_not_open has.item has.more has.value has.is_item (subst g.IsOpen has.bytes_are is_open)
 
-  pub faulty_has_no_item : (rest : List ℕ) (fault : Fault) (i : ℕ) → Shows g rest fault i → HasItem g rest → ⊥
+  pub faulty_has_no_item : (rest : List ℕ) (fault : Fault) (i : ℕ) → Shows g rest fault i
+      → HasItem g rest → ⊥
   faulty_has_no_item rest fault i shows has =
-      item_not_faulty has.item has.more has.value fault i has.is_item (subst (λ xs. Shows g xs fault i) has.bytes_are shows)
+      item_not_faulty has.item has.more has.value fault i has.is_item
+      (subst (λ xs. Shows g xs fault i) has.bytes_are shows)
 
   -- a fault is shown by a byte behind those that were open, and so by one of the bytes
-  pub shown_later : (bytes more : List ℕ) (fault : Fault) (i : ℕ) → g.IsOpen bytes → Shows g (bytes ++ more) fault i → length bytes < i
+  pub shown_later : (bytes more : List ℕ) (fault : Fault) (i : ℕ) → g.IsOpen bytes
+      → Shows g (bytes ++ more) fault i → length bytes < i
   shown_later bytes more fault i is_open shows =
       elim (cases_lt (length bytes) i) [
         | inl later ↦ later
-        | inr early ↦ absurd (open_not_faulty bytes fault i is_open (fault_early bytes more fault i shows early))
+        | inr early ↦ absurd
+            (open_not_faulty bytes fault i is_open (fault_early bytes more fault i shows early))
       ]
 
   -- and the bytes before it were open
-  pub open_before : (bytes more : List ℕ) (fault : Fault) (i : ℕ) → length bytes < i → Shows g (bytes ++ more) fault i → g.IsOpen bytes
+  pub open_before : (bytes more : List ℕ) (fault : Fault) (i : ℕ) → length bytes < i
+      → Shows g (bytes ++ more) fault i → g.IsOpen bytes
   open_before bytes more fault i later shows =
       elim (is.some_end bytes) [
-        | inl has ↦ (let same = is.one_end has.front shows.front (has.more ++ more) shows.more has.result (Err fault)
-            (cc (append_assoc has.front has.more more, has.bytes_are, shows.bytes_are)) has.ends shows.ends in
-            absurd (omega (arith, ap length same.0, shows.place, later, ap length has.bytes_are, length-append has.front has.more)))
+        | inl has ↦
+            (let same = is.one_end has.front shows.front (has.more ++ more) shows.more has.result
+            (Err fault)
+            (cc (append_assoc has.front has.more more, has.bytes_are, shows.bytes_are)) has.ends
+            shows.ends in
+            absurd (omega (
+              arith,
+              ap length same.0,
+              shows.place,
+              later,
+              ap length has.bytes_are,
+              length-append has.front has.more,
+            )))
         | inr is_open ↦ is_open
       ]
 
-  pub shown_by_byte : (bytes more : List ℕ) (fault : Fault) (i : ℕ) → g.IsOpen bytes → Shows g (bytes ++ more) fault i → IsShownByByte g bytes more fault i
+  pub shown_by_byte : (bytes more : List ℕ) (fault : Fault) (i : ℕ) → g.IsOpen bytes
+      → Shows g (bytes ++ more) fault i → IsShownByByte g bytes more fault i
   shown_by_byte bytes more fault i is_open shows =
       let later = shown_later bytes more fault i is_open shows in
       let n : ℕ = i - 1 - length bytes in
-      let inside : n < length more = omega (arith, later, shown_within (bytes ++ more) fault i shows, length-append bytes more) in
+      let inside : n < length more =
+      omega (arith, later, shown_within (bytes ++ more) fault i shows, length-append bytes more)
+      in
       let front : List ℕ = bytes ++ take n more in
       let byte : ℕ = get_or more n 0 in
       let behind : List ℕ = drop (suc n) more in
-      let split : more ≡ take n more ++ byte ∷ behind = sym (take-append-drop n more) ∙ ap (λ xs. take n more ++ xs) (drop-cons more n 0 inside) in
-      let shown : Shows g (front ++ byte ∷ behind) fault i = subst (λ xs. Shows g xs fault i) (ap (λ xs. bytes ++ xs) split ∙ sym (append_assoc bytes (take n more) (byte ∷ behind))) shows in
-      let at : i ≡ length front + 1 = omega (arith, later, length-append bytes (take n more), length-take-le n more (omega arith)) in
+      let split : more ≡ take n more ++ byte ∷ behind =
+      sym (take-append-drop n more)
+      ∙ ap (λ xs. take n more ++ xs) (drop-cons more n 0 inside) in
+      let shown : Shows g (front ++ byte ∷ behind) fault i =
+      subst (λ xs. Shows g xs fault i) (ap (λ xs. bytes ++ xs) split
+      ∙ sym (append_assoc bytes (take n more) (byte ∷ behind))) shows in
+      let at : i ≡ length front + 1 =
+      omega (
+        arith,
+        later,
+        length-append bytes (take n more),
+        length-take-le n more (omega arith),
+      ) in
       record {
         front = take n more;
         byte = byte;
         behind = behind;
         split = split;
         is_open = open_before front (byte ∷ behind) fault i (omega arith) shown;
-        shows = fault_early (front ++ byte ∷ []) behind fault i (subst (λ xs. Shows g xs fault i) (sym (append_assoc front (byte ∷ []) behind)) shown)
+        shows = fault_early (front ++ byte ∷ []) behind fault i
+            (subst (λ xs. Shows g xs fault i) (sym (append_assoc front (byte ∷ []) behind)) shown)
             (omega (arith, at, length-append front (byte ∷ [])));
       }
 
   -- no item ends before the last byte of an item
-  pub no_item_before : (bytes more : List ℕ) (byte : ℕ) (value : Value) → IsItem g (bytes ++ byte ∷ more) value → HasItem g bytes → ⊥
+  pub no_item_before : (bytes more : List ℕ) (byte : ℕ) (value : Value)
+      → IsItem g (bytes ++ byte ∷ more) value → HasItem g bytes → ⊥
   no_item_before bytes more byte value item has =
-      let same = is.one_end has.item (bytes ++ byte ∷ more) (has.more ++ byte ∷ more) [] (Ok has.value) (Ok value)
-      (cc (has.bytes_are, append_assoc has.item has.more (byte ∷ more), append-nil (bytes ++ byte ∷ more))) has.is_item item in
-      omega (arith, ap length same.0, ap length has.bytes_are, length-append has.item has.more, length-append bytes (byte ∷ more))
+      let same = is.one_end has.item (bytes ++ byte ∷ more) (has.more ++ byte ∷ more) []
+      (Ok has.value) (Ok value)
+      (cc (
+        has.bytes_are,
+        append_assoc has.item has.more (byte ∷ more),
+        append-nil (bytes ++ byte ∷ more),
+      )) has.is_item item in
+      omega (
+        arith,
+        ap length same.0,
+        ap length has.bytes_are,
+        length-append has.item has.more,
+        length-append bytes (byte ∷ more),
+      )
 
--- What is owed of items that are read: the words are a grammar, and no bytes are open, so that each item
--- and each fault has a byte.
+-- What is owed of items that are read: the words are a grammar, and no bytes are open, so that each
+-- item and each fault has a byte.
 pub record IsReadable {Value Fault : Type 0} (g : Items Value Fault) : Type 0 where
   pub grammar : IsGrammar g
   pub open_none : g.IsOpen []
@@ -172,5 +254,7 @@ module _ {Value Fault : Type 0} {g : Items Value Fault} (is : IsReadable g) wher
   pub not_empty : NoEmptyItem g
   not_empty value item = item_not_open is.grammar [] [] value item is.open_none
 
-  pub shown_inside : (bytes : List ℕ) (fault : Fault) (i : ℕ) → Shows g bytes fault i → (0 < i) × (i ≤ length bytes)
-  shown_inside bytes fault i shows = (shown_later is.grammar [] bytes fault i is.open_none shows, shown_within bytes fault i shows)
+  pub shown_inside : (bytes : List ℕ) (fault : Fault) (i : ℕ) → Shows g bytes fault i
+      → (0 < i) × (i ≤ length bytes)
+  shown_inside bytes fault i shows =
+      (shown_later is.grammar [] bytes fault i is.open_none shows, shown_within bytes fault i shows)

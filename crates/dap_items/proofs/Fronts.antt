@@ -3,14 +3,18 @@ use Rattle.std.proofs.Common.{◌≡◌, ℕ, ◌≤◌, List, ◌++◌, length,
 use Rattle.std.proofs.lemmas.List.{take-append-le, take-append-drop, take_at}
 
 -- those that are as long are the same
-pub same_front : (front other rest more : List ℕ) → front ++ rest ≡ other ++ more → length front ≡ length other → front ≡ other
+pub same_front : (front other rest more : List ℕ) → front ++ rest ≡ other ++ more
+    → length front ≡ length other → front ≡ other
 same_front front other rest more same len =
-    sym (take_at front rest (length other) len) ∙ ap (take (length other)) same ∙ take_at other more (length other) refl
+    sym (take_at front rest (length other) len) ∙ ap (take (length other)) same
+    ∙ take_at other more (length other) refl
 
 -- the shorter is a front of the longer
-pub shorter_front : (long short rest more : List ℕ) → long ++ rest ≡ short ++ more → length short ≤ length long
+pub shorter_front : (long short rest more : List ℕ) → long ++ rest ≡ short ++ more
+    → length short ≤ length long
     → long ≡ short ++ drop (length short) long
 shorter_front long short rest more same le =
     let n : ℕ = length short in
-    let front : take n long ≡ short = sym (take-append-le n long rest le) ∙ ap (take n) same ∙ take_at short more n refl in
+    let front : take n long ≡ short =
+    sym (take-append-le n long rest le) ∙ ap (take n) same ∙ take_at short more n refl in
     sym (take-append-drop n long) ∙ ap (λ t. t ++ drop n long) front

@@ -7,18 +7,24 @@ use Rattle.dap_items.specs.Feeding.{Calls, Feeds, begun, next_piece, fed_on, ref
 use Rattle.dap_items.proofs.Ends.{open_has_no_item}
 use Rattle.dap_items.proofs.Streams.{items_append, faulty_stream}
 
--- What is owed of a reader, where `Stands state values rest` says that behind items with these values
--- it stands for this rest.
-pub record IsReader {State Fed Value Fault : Type 0} (g : Items Value Fault) (calls : Calls State Fed Value) (Stands : State → List Value → List ℕ → Type 0) : Type 0 where
-  pub is_open : (state : State) (values : List Value) (rest : List ℕ) → Stands state values rest → g.IsOpen rest
-  pub takes : (old new : State) (values : List Value) (rest piece : List ℕ) (fed : Fed) → Stands old values rest → calls.Took old piece fed new
+-- What is owed of a reader, where `Stands state values rest` says that behind items with these
+-- values it stands for this rest.
+pub record IsReader {State Fed Value Fault : Type 0} (g : Items Value Fault)
+    (calls : Calls State Fed Value) (Stands : State → List Value → List ℕ → Type 0) : Type 0 where
+  pub is_open : (state : State) (values : List Value) (rest : List ℕ) → Stands state values rest
+      → g.IsOpen rest
+  pub takes : (old new : State) (values : List Value) (rest piece : List ℕ) (fed : Fed)
+      → Stands old values rest → calls.Took old piece fed new
       → (items : List ℕ) × (behind : List ℕ) × AreItems g items (calls.given fed)
-      × (rest ++ take (calls.used fed) piece ≡ items ++ behind) × Stands new (values ++ calls.given fed) behind
-  pub refuses : (old new : State) (values : List Value) (rest piece : List ℕ) → Stands old values rest → calls.Refused old piece new → Stands new values rest
+      × (rest ++ take (calls.used fed) piece ≡ items ++ behind)
+      × Stands new (values ++ calls.given fed) behind
+  pub refuses : (old new : State) (values : List Value) (rest piece : List ℕ)
+      → Stands old values rest → calls.Refused old piece new → Stands new values rest
 
--- Of the whole, all but the pieces that are left is items with these values, and a rest for which the
--- state stands.
-pub record ReadSoFar {State Value Fault : Type 0} (g : Items Value Fault) (Stands : State → List Value → List ℕ → Type 0)
+-- Of the whole, all but the pieces that are left is items with these values, and a rest for which
+-- the state stands.
+pub record ReadSoFar {State Value Fault : Type 0} (g : Items Value Fault) (Stands : State
+    → List Value → List ℕ → Type 0)
     (whole : List ℕ) (values : List Value) (left : List (List ℕ)) (state : State) : Type 0 where
   pub front : List ℕ
   pub rest : List ℕ
@@ -26,15 +32,26 @@ pub record ReadSoFar {State Value Fault : Type 0} (g : Items Value Fault) (Stand
   pub whole_is : whole ≡ front ++ (rest ++ concat left)
   pub stands : Stands state values rest
 
-module _ {State Fed Value Fault : Type 0} {g : Items Value Fault} (is : IsGrammar g) {calls : Calls State Fed Value}
+module _ {State Fed Value Fault : Type 0} {g : Items Value Fault} (is : IsGrammar g)
+    {calls : Calls State Fed Value}
     {Stands : State → List Value → List ℕ → Type 0} (reader : IsReader g calls Stands) where
-  pub read_so_far : (first : State) (held : List ℕ) (pieces : List (List ℕ)) (values : List Value) (left : List (List ℕ)) (state : State)
-      → Stands first [] held → Feeds calls first pieces values left state → ReadSoFar g Stands (held ++ concat pieces) values left state
-  read_so_far first held pieces _ _ _ stands begun = record { front = []; rest = held; items = refl; whole_is = refl; stands = stands }
+  pub read_so_far : (first : State) (held : List ℕ) (pieces : List (List ℕ)) (values : List Value)
+      (left : List (List ℕ)) (state : State)
+      → Stands first [] held → Feeds calls first pieces values left state
+      → ReadSoFar g Stands (held ++ concat pieces) values left state
+  read_so_far first held pieces _ _ _ stands begun =
+      record { front = []; rest = held; items = refl; whole_is = refl; stands = stands }
   read_so_far first held pieces values left state stands (next_piece feeds) =
       let was = read_so_far first held pieces values ([] ∷ left) state stands feeds in
-      record { front = was.front; rest = was.rest; items = was.items; whole_is = was.whole_is; stands = was.stands }
-  read_so_far first held pieces _ _ new stands (fed_on {values = values} {left = left} {state = state} piece fed feeds took) =
+      record {
+        front = was.front;
+        rest = was.rest;
+        items = was.items;
+        whole_is = was.whole_is;
+        stands = was.stands;
+      }
+  read_so_far first held pieces _ _ new stands
+      (fed_on {values = values} {left = left} {state = state} piece fed feeds took) =
       let was = read_so_far first held pieces values (piece ∷ left) state stands feeds in
       let goes = reader.takes state new values was.rest piece fed was.stands took in
       let used : ℕ = calls.used fed in
@@ -44,18 +61,29 @@ module _ {State Fed Value Fault : Type 0} {g : Items Value Fault} (is : IsGramma
         rest = goes.1;
         items = items_append g was.front goes.0 values (calls.given fed) was.items goes.2;
         whole_is = was.whole_is
-            ∙ ap (λ xs. was.front ++ (was.rest ++ (xs ++ concat left))) (sym (take-append-drop used piece))
-            ∙ ap (λ xs. was.front ++ (was.rest ++ xs)) (append_assoc (take used piece) (drop used piece) (concat left))
-            ∙ ap (λ xs. was.front ++ xs) (sym (append_assoc was.rest (take used piece) behind) ∙ ap (λ xs. xs ++ behind) goes.3 ∙ append_assoc goes.0 goes.1 behind)
+            ∙ ap (λ xs. was.front ++ (was.rest ++ (xs ++ concat left)))
+            (sym (take-append-drop used piece))
+            ∙ ap (λ xs. was.front ++ (was.rest ++ xs))
+            (append_assoc (take used piece) (drop used piece) (concat left))
+            ∙ ap (λ xs. was.front ++ xs) (sym (append_assoc was.rest (take used piece) behind)
+            ∙ ap (λ xs. xs ++ behind) goes.3 ∙ append_assoc goes.0 goes.1 behind)
             ∙ sym (append_assoc was.front goes.0 (goes.1 ++ behind));
         stands = goes.4;
       }
-  read_so_far first held pieces values _ new stands (refused {left = left} {state = state} piece feeds again) =
+  read_so_far first held pieces values _ new stands
+      (refused {left = left} {state = state} piece feeds again) =
       let was = read_so_far first held pieces values (piece ∷ left) state stands feeds in
-      record { front = was.front; rest = was.rest; items = was.items; whole_is = was.whole_is; stands = reader.refuses state new values was.rest piece was.stands again }
+      record {
+        front = was.front;
+        rest = was.rest;
+        items = was.items;
+        whole_is = was.whole_is;
+        stands = reader.refuses state new values was.rest piece was.stands again;
+      }
 
   -- once the pieces are used up
-  pub any_pieces : (first last : State) (held : List ℕ) (pieces : List (List ℕ)) (values : List Value)
+  pub any_pieces : (first last : State) (held : List ℕ) (pieces : List (List ℕ))
+      (values : List Value)
       → Stands first [] held → Feeds calls first pieces values [] last
       → (rest : List ℕ) × IsStream g (held ++ concat pieces) values rest × Stands last values rest
   any_pieces first last held pieces values stands feeds =
@@ -71,8 +99,11 @@ module _ {State Fed Value Fault : Type 0} {g : Items Value Fault} (is : IsGramma
       )
 
   -- where the rest and the next piece show a fault
-  pub fault_in_any_pieces : (whole piece : List ℕ) (values : List Value) (left : List (List ℕ)) (state : State) (fault : Fault) (i : ℕ)
-      → (was : ReadSoFar g Stands whole values (piece ∷ left) state) → Shows g (was.rest ++ piece) fault i
+  pub fault_in_any_pieces : (whole piece : List ℕ) (values : List Value) (left : List (List ℕ))
+      (state : State) (fault : Fault) (i : ℕ)
+      → (was : ReadSoFar g Stands whole values (piece ∷ left) state)
+      → Shows g (was.rest ++ piece) fault i
       → (rest : List ℕ) × IsStream g whole values rest × Shows g rest fault i
   fault_in_any_pieces whole piece values left state fault i was =
-      faulty_stream is whole was.front was.rest piece (concat left) values fault i was.items was.whole_is
+      faulty_stream is whole was.front was.rest piece (concat left) values fault i was.items
+      was.whole_is

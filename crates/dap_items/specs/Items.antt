@@ -24,8 +24,10 @@ module _ {Value Fault : Type 0} (g : Items Value Fault) where
   -- What makes the words a grammar: what has ended goes on in no way, and all other bytes are open.
   pub record IsGrammar : Type 0 where
     pub one_end : (front other rest more : List ℕ) (a b : Result Value Fault)
-        → front ++ rest ≡ other ++ more → g.Ends front a → g.Ends other b → (front ≡ other) × (a ≡ b)
-    pub end_not_open : (front more : List ℕ) (a : Result Value Fault) → g.Ends front a → g.IsOpen (front ++ more) → ⊥
+        → front ++ rest ≡ other ++ more → g.Ends front a → g.Ends other b
+        → (front ≡ other) × (a ≡ b)
+    pub end_not_open : (front more : List ℕ) (a : Result Value Fault) → g.Ends front a
+        → g.IsOpen (front ++ more) → ⊥
     pub some_end : (bytes : List ℕ) → HasEnd bytes ⊎ g.IsOpen bytes
 
   -- No item is empty.
@@ -52,9 +54,11 @@ module _ {Value Fault : Type 0} (g : Items Value Fault) where
   abbrev pub AreItems : List ℕ → List Value → Type 0
   AreItems bytes [] = bytes ≡ []
   AreItems bytes (value ∷ values) =
-      (item : List ℕ) × (more : List ℕ) × IsItem item value × (bytes ≡ item ++ more) × AreItems more values
+      (item : List ℕ) × (more : List ℕ) × IsItem item value × (bytes ≡ item ++ more)
+      × AreItems more values
 
-  -- The bytes are items with these values, in order, and then the rest, no front of which is an item.
+  -- The bytes are items with these values, in order, and then the rest, no front of which is an
+  -- item.
   pub record IsStream (bytes : List ℕ) (values : List Value) (rest : List ℕ) : Type 0 where
     pub front : List ℕ
     pub items : AreItems front values

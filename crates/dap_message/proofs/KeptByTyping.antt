@@ -1,5 +1,9 @@
--- What marks and capabilities keep of a document: that it is sound, and that no id is a variables reference of 0.
-use Rattle.dap_tree.specs.Doc.{Doc, null, boolean, whole, text, list, object, id, Items, no_items, item, Members, no_members, member, change_child, change_items, fits, items_fit, members_fit, is_sound, is_plain, all_plain, items_plain, members_plain}
+-- What marks and capabilities keep of a document: that it is sound, and that no id is a variables
+-- reference of 0.
+use Rattle.dap_tree.specs.Doc.{Doc, null, boolean, whole, text, list, object, id, Items, no_items}
+use Rattle.dap_tree.specs.Doc.{item, Members, no_members, member, change_child, change_items, fits}
+use Rattle.dap_tree.specs.Doc.{items_fit, members_fit, is_sound, is_plain, all_plain, items_plain}
+use Rattle.dap_tree.specs.Doc.{members_plain}
 use Rattle.dap_tree.specs.declared.side.Side.{Side}
 use Rattle.dap_tree.specs.declared.sort.Sort.{Sort}
 use Rattle.dap_tree.specs.declared.sort.Sort.TheVariants.{ClientSeq, AdapterSeq, Frame, Reference}
@@ -7,7 +11,8 @@ use Rattle.dap_tree.proofs.Booleans.{and_left, and_right, and_both}
 use Rattle.dap_tree.proofs.Depths.{fits_is}
 use Rattle.dap_tree.proofs.WithoutIds.{plain_parts}
 use Rattle.dap_tree.specs.Ids.{ids, items_ids, members_ids}
-use Rattle.std.proofs.Common.{◌≡◌, ℕ, ◌-◌, ℤ, pos, Bool, true, false, cond, not, ◌&&◌, List, [], ◌∷◌, ◌++◌, Option, Some, None, codes, refl, sym, ◌∙◌, ap, ap₂, ltb}
+use Rattle.std.proofs.Common.{◌≡◌, ℕ, ◌-◌, ℤ, pos, Bool, true, false, cond, not, ◌&&◌, List, []}
+use Rattle.std.proofs.Common.{◌∷◌, ◌++◌, Option, Some, None, codes, refl, sym, ◌∙◌, ap, ap₂, ltb}
 use Rattle.std.specs.Option.{option_map_or}
 use Rattle.std.proofs.lemmas.List.Folds.{list_all-append}
 use Rattle.std.specs.List.{list_all}
@@ -16,11 +21,13 @@ use Rattle.dap_message.specs.Places.{PlaceStep, named, each}
 use Rattle.dap_message.specs.Rows.{ProfileRow, is_asked, is_id_number}
 use Rattle.dap_message.specs.Profile.{profile}
 use Rattle.dap_message.specs.Marks.{is_id_of, marked, edit, mark_rows, mark_row, sort_of, mark}
-use Rattle.dap_message.specs.Capabilities.{default_to, false_at, capabilities, with_capabilities, filled, tells_capabilities}
+use Rattle.dap_message.specs.Capabilities.{default_to, false_at, capabilities, with_capabilities}
+use Rattle.dap_message.specs.Capabilities.{filled, tells_capabilities}
 use Rattle.dap_message.specs.Numbers.{is_proper, are_proper, is_proper_number}
 use Rattle.dap_message.specs.Message.{message_of}
 use Rattle.dap_message.proofs.Edits.{by_bool}
-use Rattle.dap_message.proofs.PartTests.{PartTest, DocTest, nameless, member_changed, items_changed, member_defaulted, members_false, passes-message}
+use Rattle.dap_message.proofs.PartTests.{PartTest, DocTest, nameless, member_changed, items_changed}
+use Rattle.dap_message.proofs.PartTests.{member_defaulted, members_false, passes-message}
 
 -- ---- how deep, and in range
 
@@ -30,7 +37,8 @@ Fits n d = fits n d ≡ true
 abbrev fits_parts : ℕ → PartTest
 fits_parts n = nameless (fits n) (members_fit n) (items_fit n) refl (λ k d ms. refl) (λ d ds. refl)
 
-fits-change : (n : ℕ) (k : List ℕ) (f : Doc → Doc) → ((m : ℕ) (e : Doc) → Fits m e → Fits m (f e)) → (d : Doc) → Fits n d → Fits n (change_child k f d)
+fits-change : (n : ℕ) (k : List ℕ) (f : Doc → Doc) → ((m : ℕ) (e : Doc) → Fits m e → Fits m (f e))
+    → (d : Doc) → Fits n d → Fits n (change_child k f d)
 fits-change n k f step null h = h
 fits-change n k f step (boolean b) h = h
 fits-change n k f step (whole z) h = h
@@ -41,7 +49,8 @@ fits-change n k f step (object ms) h =
     (member_changed (fits_parts (n - 1)) k f (step (n - 1)) ms (and_right (ltb 0 n) _ h))
 fits-change n k f step (id s z) h = h
 
-fits-items : (n : ℕ) (f : Doc → Doc) → ((m : ℕ) (e : Doc) → Fits m e → Fits m (f e)) → (d : Doc) → Fits n d → Fits n (change_items f d)
+fits-items : (n : ℕ) (f : Doc → Doc) → ((m : ℕ) (e : Doc) → Fits m e → Fits m (f e)) → (d : Doc)
+    → Fits n d → Fits n (change_items f d)
 fits-items n f step null h = h
 fits-items n f step (boolean b) h = h
 fits-items n f step (whole z) h = h
@@ -61,24 +70,31 @@ fits-marked s n (list ds) h = h
 fits-marked s n (object ms) h = h
 fits-marked s n (id r z) h = h
 
-fits-edit : (ps : List PlaceStep) (s : Sort) (n : ℕ) (d : Doc) → Fits n d → Fits n (edit ps (marked s) d)
+fits-edit : (ps : List PlaceStep) (s : Sort) (n : ℕ) (d : Doc) → Fits n d
+    → Fits n (edit ps (marked s) d)
 fits-edit [] s n d h = fits-marked s n d h
-fits-edit (named k ∷ ps) s n d h = fits-change n k (edit ps (marked s)) (λ m e j. fits-edit ps s m e j) d h
-fits-edit (each ∷ ps) s n d h = fits-items n (edit ps (marked s)) (λ m e j. fits-edit ps s m e j) d h
+fits-edit (named k ∷ ps) s n d h =
+    fits-change n k (edit ps (marked s)) (λ m e j. fits-edit ps s m e j) d h
+fits-edit (each ∷ ps) s n d h =
+    fits-items n (edit ps (marked s)) (λ m e j. fits-edit ps s m e j) d h
 
-fits-mark_row : (r : ProfileRow) (side : Side) (n : ℕ) (d : Doc) → Fits n d → Fits n (mark_row r side d)
+fits-mark_row : (r : ProfileRow) (side : Side) (n : ℕ) (d : Doc) → Fits n d
+    → Fits n (mark_row r side d)
 fits-mark_row r side n d h = go (sort_of side r.want) (is_asked r.kind r.name d)
   where
-    go : (o : Option Sort) (b : Bool) → Fits n (option_map_or (λ s. cond b (edit r.place (marked s) d) d) o d)
+    go : (o : Option Sort) (b : Bool)
+        → Fits n (option_map_or (λ s. cond b (edit r.place (marked s) d) d) o d)
     go None b = h
     go (Some s) true = fits-edit r.place s n d h
     go (Some s) false = h
 
-fits-mark : (rs : List ProfileRow) (side : Side) (n : ℕ) (d : Doc) → Fits n d → Fits n (mark_rows rs side d)
+fits-mark : (rs : List ProfileRow) (side : Side) (n : ℕ) (d : Doc) → Fits n d
+    → Fits n (mark_rows rs side d)
 fits-mark [] side n d h = h
 fits-mark (r ∷ rs) side n d h = fits-mark rs side n (mark_row r side d) (fits-mark_row r side n d h)
 
-fits-default : (k : List ℕ) (n : ℕ) (e d : Doc) → Fits (n - 1) e → Fits n d → Fits n (default_to k e d)
+fits-default : (k : List ℕ) (n : ℕ) (e d : Doc) → Fits (n - 1) e → Fits n d
+    → Fits n (default_to k e d)
 fits-default k n e null j h = h
 fits-default k n e (boolean b) j h = h
 fits-default k n e (whole z) j h = h
@@ -107,18 +123,21 @@ fits-false ks n (id s z) h = h
 fits-capabilities : (d : Doc) → Fits 127 d → Fits 127 (with_capabilities d)
 unfolding with_capabilities
 fits-capabilities d h =
-    fits-change 127 (codes "body") (false_at capabilities) (λ m e j. fits-false capabilities m e j) (default_to (codes "body") (object no_members) d)
+    fits-change 127 (codes "body") (false_at capabilities) (λ m e j. fits-false capabilities m e j)
+    (default_to (codes "body") (object no_members) d)
     (fits-default (codes "body") 127 (object no_members) d refl h)
 
 fits-if : (b : Bool) (d : Doc) → Fits 127 d → Fits 127 (cond b (with_capabilities d) d)
 fits-if true d h = fits-capabilities d h
 fits-if false d h = h
 
-pub sound-message : (side : Side) (d : Doc) → is_plain d ≡ true → is_sound (mark side (filled side d)) ≡ true
+pub sound-message : (side : Side) (d : Doc) → is_plain d ≡ true
+    → is_sound (mark side (filled side d)) ≡ true
 unfolding mark
 sound-message side d h =
     sym (fits_is 127 (mark_rows profile side (filled side d)))
-    ∙ fits-mark profile side 127 (filled side d) (fits-if (tells_capabilities side d) d (fits_is 127 d ∙ and_left (is_sound d) _ h))
+    ∙ fits-mark profile side 127 (filled side d)
+    (fits-if (tells_capabilities side d) d (fits_is 127 d ∙ and_left (is_sound d) _ h))
 
 -- ---- no reference 0 among the ids
 
@@ -131,10 +150,13 @@ members_proper ms = are_proper (members_ids ms)
 abbrev items_proper : Items → Bool
 items_proper ds = are_proper (items_ids ds)
 
-members_proper-member : (k : List ℕ) (d : Doc) (ms : Members) → members_proper (member k d ms) ≡ (is_proper d && members_proper ms)
-members_proper-member k d ms = list_all-append (λ i. is_proper_number i.0 i.1) (ids d) (members_ids ms)
+members_proper-member : (k : List ℕ) (d : Doc) (ms : Members)
+    → members_proper (member k d ms) ≡ (is_proper d && members_proper ms)
+members_proper-member k d ms =
+    list_all-append (λ i. is_proper_number i.0 i.1) (ids d) (members_ids ms)
 
-items_proper-item : (d : Doc) (ds : Items) → items_proper (item d ds) ≡ (is_proper d && items_proper ds)
+items_proper-item : (d : Doc) (ds : Items)
+    → items_proper (item d ds) ≡ (is_proper d && items_proper ds)
 items_proper-item d ds = list_all-append (λ i. is_proper_number i.0 i.1) (ids d) (items_ids ds)
 
 mutual
@@ -149,11 +171,15 @@ mutual
 
   no_items_ids-plain : (ds : Items) → items_plain ds ≡ true → items_ids ds ≡ []
   no_items_ids-plain no_items h = refl
-  no_items_ids-plain (item d ds) h = ap₂ (λ a b. a ++ b) (no_ids-plain d (and_left (all_plain d) (items_plain ds) h)) (no_items_ids-plain ds (and_right (all_plain d) (items_plain ds) h))
+  no_items_ids-plain (item d ds) h =
+      ap₂ (λ a b. a ++ b) (no_ids-plain d (and_left (all_plain d) (items_plain ds) h))
+      (no_items_ids-plain ds (and_right (all_plain d) (items_plain ds) h))
 
   no_members_ids-plain : (ms : Members) → members_plain ms ≡ true → members_ids ms ≡ []
   no_members_ids-plain no_members h = refl
-  no_members_ids-plain (member k d ms) h = ap₂ (λ a b. a ++ b) (no_ids-plain d (and_left (all_plain d) (members_plain ms) h)) (no_members_ids-plain ms (and_right (all_plain d) (members_plain ms) h))
+  no_members_ids-plain (member k d ms) h =
+      ap₂ (λ a b. a ++ b) (no_ids-plain d (and_left (all_plain d) (members_plain ms) h))
+      (no_members_ids-plain ms (and_right (all_plain d) (members_plain ms) h))
 
 proper-plain : (d : Doc) → all_plain d ≡ true → Proper d
 proper-plain d h = ap are_proper (no_ids-plain d h)
@@ -168,7 +194,17 @@ proper-id Frame z h = refl
 proper-id Reference z h = and_right (is_id_number z) (not (int_eq z (pos 0))) h
 
 abbrev proper_test : DocTest
-proper_test = record { parts = nameless is_proper members_proper items_proper refl members_proper-member items_proper-item; of_object = λ ms. refl; of_list = λ ds. refl; of_false = refl }
+proper_test =
+    record {
+      parts = nameless is_proper members_proper items_proper refl members_proper-member
+          items_proper-item;
+      of_object = λ ms. refl;
+      of_list = λ ds. refl;
+      of_false = refl;
+    }
 
-pub proper-message : (side : Side) (d : Doc) → is_plain d ≡ true → is_proper (message_of side d) ≡ true
-proper-message side d h = passes-message proper_test (λ s z is. one_proper s z (proper-id s z is)) side d refl refl (proper-plain d (plain_parts d h))
+pub proper-message : (side : Side) (d : Doc) → is_plain d ≡ true
+    → is_proper (message_of side d) ≡ true
+proper-message side d h =
+    passes-message proper_test (λ s z is. one_proper s z (proper-id s z is)) side d refl refl
+    (proper-plain d (plain_parts d h))

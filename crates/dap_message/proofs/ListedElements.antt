@@ -4,36 +4,47 @@ use Rattle.dap_tree.specs.Ids.{skeleton, with_ids, without_ids}
 use Rattle.dap_tree.specs.declared.side.Side.{Side}
 use Rattle.dap_tree.proofs.Booleans.{and_both, and_left, and_right}
 use Rattle.dap_tree.proofs.IdNumbers.{skeleton-with}
-use Rattle.std.proofs.Common.{◌≡◌, ℕ, ℤ, Bool, true, false, cond, ◌&&◌, List, [], ◌∷◌, ◌++◌, map, filter_map, Option, Some, None, option_map, option_and_then, codes, refl, sym, ◌∙◌, ap, ap₂, subst}
+use Rattle.std.proofs.Common.{◌≡◌, ℕ, ℤ, Bool, true, false, cond, ◌&&◌, List, [], ◌∷◌, ◌++◌, map}
+use Rattle.std.proofs.Common.{filter_map, Option, Some, None, option_map, option_and_then, codes}
+use Rattle.std.proofs.Common.{refl, sym, ◌∙◌, ap, ap₂, subst}
 use Rattle.std.specs.List.{list_all, flat_map, cons_option}
 use Rattle.std.specs.Option.{is_some, option_or, option_map_or, unwrap_or}
 use Rattle.dap_message.specs.Envelope.{text_value}
 use Rattle.dap_message.specs.Faults.{Fits, has_kind, row_broken}
 use Rattle.dap_message.specs.Message.{IsTyped, IsTypedContent}
-use Rattle.dap_message.specs.Places.{PlaceStep, named, each, found, is_object, list_of}
+use Rattle.dap_message.specs.Places.{PlaceStep, named, each, parts_at, is_object, list_of}
 use Rattle.dap_message.specs.Profile.{profile}
-use Rattle.dap_message.specs.Rows.{ProfileRow, is_asked, is_id_number, judged, first_cause, broken_at, of_row, row_fault, first_fault}
-use Rattle.dap_message.specs.Views.{number_value, reference_value, frame_from, scope_from, variable_from, frame_of, scope_of, variable_of, frames_of, scopes_of, variables_of, listed, listed_frames, listed_scopes, listed_variables, are_frames, are_scopes, are_variables, shows_all}
+use Rattle.dap_message.specs.Rows.{ProfileRow, is_asked, is_id_number, cause_against, first_cause}
+use Rattle.dap_message.specs.Rows.{broken_at, of_row, row_fault, first_fault}
+use Rattle.dap_message.specs.Views.{number_value, reference_value, frame_from, scope_from}
+use Rattle.dap_message.specs.Views.{variable_from, frame_of, scope_of, variable_of, frames_of}
+use Rattle.dap_message.specs.Views.{scopes_of, variables_of, listed, listed_frames, listed_scopes}
+use Rattle.dap_message.specs.Views.{listed_variables, are_frames, are_scopes, are_variables}
+use Rattle.dap_message.specs.Views.{shows_all}
 use Rattle.dap_message.specs.declared.broken_rows.Cause.{Cause}
 use Rattle.dap_message.specs.declared.broken_rows.Cause.TheVariants.{WrongType}
 use Rattle.dap_message.specs.declared.fault.MessageFault.TheVariants.{NotObject, UnknownType}
 use Rattle.dap_message.specs.declared.profile.Kind.TheVariants.{Response}
 use Rattle.dap_message.specs.declared.profile.Want.{Want}
-use Rattle.dap_message.specs.declared.profile.Want.TheVariants.{Whole, Text, Object, Frame, Reference}
+use Rattle.dap_message.specs.declared.profile.Want.TheVariants.{Whole, Text, Object, Frame}
+use Rattle.dap_message.specs.declared.profile.Want.TheVariants.{Reference}
 use Rattle.dap_tree.proofs.Outcomes.{read_is_plain}
 use Rattle.dap_message.proofs.Contents.{own_again}
 use Rattle.dap_message.proofs.Edits.{by_bool}
-use Rattle.dap_message.proofs.Envelopes.{fault_free, fault_parts, free_at, free_cause, one_cause, rows_free}
+use Rattle.dap_message.proofs.Envelopes.{fault_free, fault_parts, free_at, free_cause, one_cause}
+use Rattle.dap_message.proofs.Envelopes.{rows_free}
 use Rattle.dap_message.proofs.Shapes.{KeepsShape, asked-shape, skeleton_keeps, without_keeps}
 
 -- ---- the elements of a list, with the ids as numbers or without their numbers
 
 module _ (h : Doc → Doc) (keeps : KeepsShape h) where
-  list-shape : (o : Option Doc) → option_and_then list_of (option_map h o) ≡ option_map (map h) (option_and_then list_of o)
+  list-shape : (o : Option Doc)
+      → option_and_then list_of (option_map h o) ≡ option_map (map h) (option_and_then list_of o)
   list-shape None = refl
   list-shape (Some d) = keeps.list d
 
-  inside-shape : (k : List ℕ) (o : Option Doc) → option_and_then (get k) (option_map h o) ≡ option_map h (option_and_then (get k) o)
+  inside-shape : (k : List ℕ) (o : Option Doc)
+      → option_and_then (get k) (option_map h o) ≡ option_map h (option_and_then (get k) o)
   inside-shape k None = refl
   inside-shape k (Some d) = keeps.member k d
 
@@ -45,21 +56,28 @@ module _ (h : Doc → Doc) (keeps : KeepsShape h) where
   if_asked true ds = refl
   if_asked false ds = refl
 
-  listed-shape : (command name : List ℕ) (d : Doc) → listed command name (h d) ≡ map h (listed command name d)
+  listed-shape : (command name : List ℕ) (d : Doc)
+      → listed command name (h d) ≡ map h (listed command name d)
   listed-shape command name d =
       let body = get (codes "body") d in
       let inner = option_and_then (get name) body in
-      let lists : option_and_then list_of (option_and_then (get name) (get (codes "body") (h d))) ≡ option_map (map h) (option_and_then list_of inner) =
-      ap (λ o. option_and_then list_of (option_and_then (get name) o)) (keeps.member (codes "body") d)
+      let lists : option_and_then list_of (option_and_then (get name) (get (codes "body") (h d)))
+      ≡ option_map (map h) (option_and_then list_of inner) =
+      ap (λ o. option_and_then list_of (option_and_then (get name) o))
+      (keeps.member (codes "body") d)
       ∙ ap (option_and_then list_of) (inside-shape name body)
       ∙ list-shape inner in
-      ap₂ (λ b o. cond b (unwrap_or o []) []) (asked-shape h keeps d (Some Response) (Some command)) lists
-      ∙ ap (λ ds. cond (is_asked (Some Response) (Some command) d) ds []) (or_none (option_and_then list_of inner))
-      ∙ if_asked (is_asked (Some Response) (Some command) d) (unwrap_or (option_and_then list_of inner) [])
+      ap₂ (λ b o. cond b (unwrap_or o []) []) (asked-shape h keeps d (Some Response) (Some command))
+      lists
+      ∙ ap (λ ds. cond (is_asked (Some Response) (Some command) d) ds [])
+      (or_none (option_and_then list_of inner))
+      ∙ if_asked (is_asked (Some Response) (Some command) d)
+      (unwrap_or (option_and_then list_of inner) [])
 
 -- ---- what is shown is there, whatever the numbers of the ids
 
-name-skeleton : (o : Option Doc) → is_some (text_value (option_map skeleton o)) ≡ is_some (text_value o)
+name-skeleton : (o : Option Doc)
+    → is_some (text_value (option_map skeleton o)) ≡ is_some (text_value o)
 name-skeleton None = refl
 name-skeleton (Some null) = refl
 name-skeleton (Some (boolean b)) = refl
@@ -69,7 +87,8 @@ name-skeleton (Some (list ds)) = refl
 name-skeleton (Some (object ms)) = refl
 name-skeleton (Some (id s z)) = refl
 
-number-skeleton : (o : Option Doc) → is_some (number_value (option_map skeleton o)) ≡ is_some (number_value o)
+number-skeleton : (o : Option Doc)
+    → is_some (number_value (option_map skeleton o)) ≡ is_some (number_value o)
 number-skeleton None = refl
 number-skeleton (Some null) = refl
 number-skeleton (Some (boolean b)) = refl
@@ -79,7 +98,8 @@ number-skeleton (Some (list ds)) = refl
 number-skeleton (Some (object ms)) = refl
 number-skeleton (Some (id s z)) = refl
 
-reference-skeleton : (o : Option Doc) → is_some (reference_value (option_map skeleton o)) ≡ is_some (reference_value o)
+reference-skeleton : (o : Option Doc)
+    → is_some (reference_value (option_map skeleton o)) ≡ is_some (reference_value o)
 reference-skeleton None = refl
 reference-skeleton (Some null) = refl
 reference-skeleton (Some (boolean b)) = refl
@@ -90,52 +110,78 @@ reference-skeleton (Some (object ms)) = refl
 reference-skeleton (Some (id s z)) = refl
 
 -- what is shown is there where each part of it is
-frame_parts : (a : Option ℤ) (b : Option (List ℕ)) (c d : Option ℤ) → is_some (frame_from a b c d) ≡ is_some a && is_some b && is_some c && is_some d
+frame_parts : (a : Option ℤ) (b : Option (List ℕ)) (c d : Option ℤ)
+    → is_some (frame_from a b c d) ≡ is_some a && is_some b && is_some c && is_some d
 frame_parts (Some i) (Some n) (Some l) (Some c) = refl
 frame_parts (Some i) (Some n) (Some l) None = refl
 frame_parts (Some i) (Some n) None d = refl
 frame_parts (Some i) None c d = refl
 frame_parts None b c d = refl
 
-scope_parts : (a : Option (List ℕ)) (b : Option ℤ) → is_some (scope_from a b) ≡ is_some a && is_some b
+scope_parts : (a : Option (List ℕ)) (b : Option ℤ)
+    → is_some (scope_from a b) ≡ is_some a && is_some b
 scope_parts (Some n) (Some r) = refl
 scope_parts (Some n) None = refl
 scope_parts None b = refl
 
-variable_parts : (a b : Option (List ℕ)) (c : Option ℤ) → is_some (variable_from a b c) ≡ is_some a && is_some b && is_some c
+variable_parts : (a b : Option (List ℕ)) (c : Option ℤ)
+    → is_some (variable_from a b c) ≡ is_some a && is_some b && is_some c
 variable_parts (Some n) (Some v) (Some r) = refl
 variable_parts (Some n) (Some v) None = refl
 variable_parts (Some n) None c = refl
 variable_parts None b c = refl
 
-name_at-skeleton : (k : List ℕ) (d : Doc) → is_some (text_value (get k (skeleton d))) ≡ is_some (text_value (get k d))
-name_at-skeleton k d = ap (λ o. is_some (text_value o)) (skeleton_keeps.member k d) ∙ name-skeleton (get k d)
+name_at-skeleton : (k : List ℕ) (d : Doc)
+    → is_some (text_value (get k (skeleton d))) ≡ is_some (text_value (get k d))
+name_at-skeleton k d =
+    ap (λ o. is_some (text_value o)) (skeleton_keeps.member k d) ∙ name-skeleton (get k d)
 
-number_at-skeleton : (k : List ℕ) (d : Doc) → is_some (number_value (get k (skeleton d))) ≡ is_some (number_value (get k d))
-number_at-skeleton k d = ap (λ o. is_some (number_value o)) (skeleton_keeps.member k d) ∙ number-skeleton (get k d)
+number_at-skeleton : (k : List ℕ) (d : Doc)
+    → is_some (number_value (get k (skeleton d))) ≡ is_some (number_value (get k d))
+number_at-skeleton k d =
+    ap (λ o. is_some (number_value o)) (skeleton_keeps.member k d) ∙ number-skeleton (get k d)
 
-reference_at-skeleton : (k : List ℕ) (d : Doc) → is_some (reference_value (get k (skeleton d))) ≡ is_some (reference_value (get k d))
-reference_at-skeleton k d = ap (λ o. is_some (reference_value o)) (skeleton_keeps.member k d) ∙ reference-skeleton (get k d)
+reference_at-skeleton : (k : List ℕ) (d : Doc)
+    → is_some (reference_value (get k (skeleton d))) ≡ is_some (reference_value (get k d))
+reference_at-skeleton k d =
+    ap (λ o. is_some (reference_value o)) (skeleton_keeps.member k d) ∙ reference-skeleton (get k d)
 
 frame-skeleton : (d : Doc) → is_some (frame_of (skeleton d)) ≡ is_some (frame_of d)
 frame-skeleton d =
-    frame_parts (reference_value (get (codes "id") (skeleton d))) (text_value (get (codes "name") (skeleton d))) (number_value (get (codes "line") (skeleton d))) (number_value (get (codes "column") (skeleton d)))
-    ∙ ap₂ (λ a b. a && b) (ap₂ (λ a b. a && b) (ap₂ (λ a b. a && b) (reference_at-skeleton (codes "id") d) (name_at-skeleton (codes "name") d)) (number_at-skeleton (codes "line") d)) (number_at-skeleton (codes "column") d)
-    ∙ sym (frame_parts (reference_value (get (codes "id") d)) (text_value (get (codes "name") d)) (number_value (get (codes "line") d)) (number_value (get (codes "column") d)))
+    frame_parts (reference_value (get (codes "id") (skeleton d)))
+    (text_value (get (codes "name") (skeleton d)))
+    (number_value (get (codes "line") (skeleton d)))
+    (number_value (get (codes "column") (skeleton d)))
+    ∙ ap₂ (λ a b. a && b)
+    (ap₂ (λ a b. a && b)
+    (ap₂ (λ a b. a && b) (reference_at-skeleton (codes "id") d)
+    (name_at-skeleton (codes "name") d)) (number_at-skeleton (codes "line") d))
+    (number_at-skeleton (codes "column") d)
+    ∙ sym (frame_parts (reference_value (get (codes "id") d)) (text_value (get (codes "name") d))
+    (number_value (get (codes "line") d)) (number_value (get (codes "column") d)))
 
 scope-skeleton : (d : Doc) → is_some (scope_of (skeleton d)) ≡ is_some (scope_of d)
 scope-skeleton d =
-    scope_parts (text_value (get (codes "name") (skeleton d))) (reference_value (get (codes "variablesReference") (skeleton d)))
-    ∙ ap₂ (λ a b. a && b) (name_at-skeleton (codes "name") d) (reference_at-skeleton (codes "variablesReference") d)
-    ∙ sym (scope_parts (text_value (get (codes "name") d)) (reference_value (get (codes "variablesReference") d)))
+    scope_parts (text_value (get (codes "name") (skeleton d)))
+    (reference_value (get (codes "variablesReference") (skeleton d)))
+    ∙ ap₂ (λ a b. a && b) (name_at-skeleton (codes "name") d)
+    (reference_at-skeleton (codes "variablesReference") d)
+    ∙ sym (scope_parts (text_value (get (codes "name") d))
+    (reference_value (get (codes "variablesReference") d)))
 
 variable-skeleton : (d : Doc) → is_some (variable_of (skeleton d)) ≡ is_some (variable_of d)
 variable-skeleton d =
-    variable_parts (text_value (get (codes "name") (skeleton d))) (text_value (get (codes "value") (skeleton d))) (reference_value (get (codes "variablesReference") (skeleton d)))
-    ∙ ap₂ (λ a b. a && b) (ap₂ (λ a b. a && b) (name_at-skeleton (codes "name") d) (name_at-skeleton (codes "value") d)) (reference_at-skeleton (codes "variablesReference") d)
-    ∙ sym (variable_parts (text_value (get (codes "name") d)) (text_value (get (codes "value") d)) (reference_value (get (codes "variablesReference") d)))
+    variable_parts (text_value (get (codes "name") (skeleton d)))
+    (text_value (get (codes "value") (skeleton d)))
+    (reference_value (get (codes "variablesReference") (skeleton d)))
+    ∙ ap₂ (λ a b. a && b)
+    (ap₂ (λ a b. a && b) (name_at-skeleton (codes "name") d)
+    (name_at-skeleton (codes "value") d)) (reference_at-skeleton (codes "variablesReference") d)
+    ∙ sym (variable_parts (text_value (get (codes "name") d)) (text_value (get (codes "value") d))
+    (reference_value (get (codes "variablesReference") d)))
 
-all_alike : (p : Doc → Bool) (h : Doc → Doc) → ((d : Doc) → p (h d) ≡ p d) → (ds : List Doc) → list_all p (map h ds) ≡ list_all p ds
+all_alike : (p : Doc → Bool) (h : Doc → Doc) → ((d : Doc) → p (h d) ≡ p d) → (ds : List Doc)
+    → list_all p (map h ds) ≡ list_all p ds
 all_alike p h same [] = refl
 all_alike p h same (d ∷ ds) = ap₂ (λ a b. a && b) (same d) (all_alike p h same ds)
 
@@ -143,9 +189,14 @@ shows_all-skeleton : (d : Doc) → shows_all (skeleton d) ≡ shows_all d
 shows_all-skeleton d =
     ap₂ (λ a b. a && b)
     (ap₂ (λ a b. a && b)
-    (ap are_frames (listed-shape skeleton skeleton_keeps (codes "stackTrace") (codes "stackFrames") d) ∙ all_alike (λ e. is_some (frame_of e)) skeleton frame-skeleton (listed_frames d))
-    (ap are_scopes (listed-shape skeleton skeleton_keeps (codes "scopes") (codes "scopes") d) ∙ all_alike (λ e. is_some (scope_of e)) skeleton scope-skeleton (listed_scopes d)))
-    (ap are_variables (listed-shape skeleton skeleton_keeps (codes "variables") (codes "variables") d) ∙ all_alike (λ e. is_some (variable_of e)) skeleton variable-skeleton (listed_variables d))
+    (ap are_frames
+    (listed-shape skeleton skeleton_keeps (codes "stackTrace") (codes "stackFrames") d)
+    ∙ all_alike (λ e. is_some (frame_of e)) skeleton frame-skeleton (listed_frames d))
+    (ap are_scopes (listed-shape skeleton skeleton_keeps (codes "scopes") (codes "scopes") d)
+    ∙ all_alike (λ e. is_some (scope_of e)) skeleton scope-skeleton (listed_scopes d)))
+    (ap are_variables
+    (listed-shape skeleton skeleton_keeps (codes "variables") (codes "variables") d)
+    ∙ all_alike (λ e. is_some (variable_of e)) skeleton variable-skeleton (listed_variables d))
 
 -- documents of one skeleton show their elements alike
 pub shows_all-alike : (m n : Doc) → skeleton n ≡ skeleton m → shows_all n ≡ shows_all m
@@ -157,7 +208,8 @@ shows_all-with d ns = shows_all-alike d (with_ids d ns) (skeleton-with d ns)
 
 -- ---- what is shown is there, once it is there with the ids as numbers
 
-name-without : (o : Option Doc) → is_some (text_value (option_map without_ids o)) ≡ true → is_some (text_value o) ≡ true
+name-without : (o : Option Doc) → is_some (text_value (option_map without_ids o)) ≡ true
+    → is_some (text_value o) ≡ true
 name-without None h = h
 name-without (Some null) h = h
 name-without (Some (boolean b)) h = h
@@ -167,7 +219,8 @@ name-without (Some (list ds)) h = h
 name-without (Some (object ms)) h = h
 name-without (Some (id s z)) h = cc
 
-number-without : (o : Option Doc) → is_some (number_value (option_map without_ids o)) ≡ true → is_some (number_value o) ≡ true
+number-without : (o : Option Doc) → is_some (number_value (option_map without_ids o)) ≡ true
+    → is_some (number_value o) ≡ true
 number-without None h = h
 number-without (Some null) h = h
 number-without (Some (boolean b)) h = h
@@ -177,7 +230,8 @@ number-without (Some (list ds)) h = h
 number-without (Some (object ms)) h = h
 number-without (Some (id s z)) h = refl
 
-reference-without : (o : Option Doc) → is_some (reference_value (option_map without_ids o)) ≡ true → is_some (reference_value o) ≡ true
+reference-without : (o : Option Doc) → is_some (reference_value (option_map without_ids o)) ≡ true
+    → is_some (reference_value o) ≡ true
 reference-without None h = h
 reference-without (Some null) h = h
 reference-without (Some (boolean b)) h = h
@@ -190,7 +244,7 @@ reference-without (Some (id s z)) h = refl
 -- ---- what the rows ask of each element
 
 -- what a needed place judges well is there and has the type
-text_well : (o : Option Doc) → judged Text true o ≡ None → is_some (text_value o) ≡ true
+text_well : (o : Option Doc) → cause_against Text true o ≡ None → is_some (text_value o) ≡ true
 text_well None h = cc
 text_well (Some null) h = cc
 text_well (Some (boolean b)) h = cc
@@ -200,7 +254,7 @@ text_well (Some (list ds)) h = cc
 text_well (Some (object ms)) h = cc
 text_well (Some (id s z)) h = cc
 
-whole_well : (o : Option Doc) → judged Whole true o ≡ None → is_some (number_value o) ≡ true
+whole_well : (o : Option Doc) → cause_against Whole true o ≡ None → is_some (number_value o) ≡ true
 whole_well None h = cc
 whole_well (Some null) h = cc
 whole_well (Some (boolean b)) h = cc
@@ -210,11 +264,13 @@ whole_well (Some (list ds)) h = cc
 whole_well (Some (object ms)) h = cc
 whole_well (Some (id s z)) h = refl
 
-in_range_well : (b : Bool) (z : ℤ) → cond b None (Some WrongType) ≡ None → is_some (cond b (Some z) None) ≡ true
+in_range_well : (b : Bool) (z : ℤ) → cond b None (Some WrongType) ≡ None
+    → is_some (cond b (Some z) None) ≡ true
 in_range_well true z h = refl
 in_range_well false z h = cc
 
-object_well : (o : Option Doc) → judged Object true o ≡ None → option_map_or is_object o false ≡ true
+object_well : (o : Option Doc) → cause_against Object true o ≡ None
+    → option_map_or is_object o false ≡ true
 object_well None h = cc
 object_well (Some null) h = cc
 object_well (Some (boolean b)) h = cc
@@ -224,7 +280,8 @@ object_well (Some (list ds)) h = cc
 object_well (Some (object ms)) h = refl
 object_well (Some (id s z)) h = cc
 
-frame_well : (o : Option Doc) → judged Frame true o ≡ None → is_some (reference_value o) ≡ true
+frame_well : (o : Option Doc) → cause_against Frame true o ≡ None
+    → is_some (reference_value o) ≡ true
 frame_well None h = cc
 frame_well (Some null) h = cc
 frame_well (Some (boolean b)) h = cc
@@ -234,7 +291,8 @@ frame_well (Some (list ds)) h = cc
 frame_well (Some (object ms)) h = cc
 frame_well (Some (id s z)) h = cc
 
-reference_well : (o : Option Doc) → judged Reference true o ≡ None → is_some (reference_value o) ≡ true
+reference_well : (o : Option Doc) → cause_against Reference true o ≡ None
+    → is_some (reference_value o) ≡ true
 reference_well None h = cc
 reference_well (Some null) h = cc
 reference_well (Some (boolean b)) h = cc
@@ -244,81 +302,133 @@ reference_well (Some (list ds)) h = cc
 reference_well (Some (object ms)) h = cc
 reference_well (Some (id s z)) h = cc
 
--- each of the documents is judged well at a place in it
+-- each of the documents is cause_against well at a place in it
 abbrev AllWell : List PlaceStep → Want → List Doc → Type 0
 AllWell ps w [] = Unit {0}
 AllWell ps w (d ∷ ds) = (broken_at ps w true d ≡ None) × AllWell ps w ds
 
-first_cause-append : (f : Option Doc → Option Cause) (xs ys : List (Option Doc)) → first_cause (map f (xs ++ ys)) ≡ None → (first_cause (map f xs) ≡ None) × (first_cause (map f ys) ≡ None)
+first_cause-append : (f : Option Doc → Option Cause) (xs ys : List (Option Doc))
+    → first_cause (map f (xs ++ ys)) ≡ None
+    → (first_cause (map f xs) ≡ None) × (first_cause (map f ys) ≡ None)
 first_cause-append f [] ys h = (refl, h)
 first_cause-append f (x ∷ xs) ys h =
     let p = fault_free (f x) (first_cause (map f (xs ++ ys))) h in
     let q = first_cause-append f xs ys p.1 in
     (ap (λ o. option_or o (first_cause (map f xs))) p.0 ∙ q.0, q.1)
 
-all_well : (ps : List PlaceStep) (w : Want) (ds : List Doc) → first_cause (map (judged w true) (flat_map (found ps) ds)) ≡ None → AllWell ps w ds
+all_well : (ps : List PlaceStep) (w : Want) (ds : List Doc)
+    → first_cause (map (cause_against w true) (flat_map (parts_at ps) ds)) ≡ None → AllWell ps w ds
 all_well ps w [] h = tt
 all_well ps w (d ∷ ds) h =
-    let p = first_cause-append (judged w true) (found ps d) (flat_map (found ps) ds) h in
+    let p = first_cause-append (cause_against w true) (parts_at ps d) (flat_map (parts_at ps) ds) h
+    in
     (p.0, all_well ps w ds p.1)
 
 -- a place in each element of a list of the body
 found_each : (ps : List PlaceStep) (name : List ℕ) (body : Option Doc)
-    → option_map_or (found (named name ∷ each ∷ ps)) body [] ≡ flat_map (found ps) (unwrap_or (option_and_then list_of (option_and_then (get name) body)) [])
+    → option_map_or (parts_at (named name ∷ each ∷ ps)) body []
+    ≡ flat_map (parts_at ps)
+    (unwrap_or (option_and_then list_of (option_and_then (get name) body)) [])
 found_each ps name None = refl
 found_each ps name (Some b) = go (get name b)
   where
-    inner : (o : Option (List Doc)) → option_map_or (flat_map (found ps)) o [] ≡ flat_map (found ps) (unwrap_or o [])
+    inner : (o : Option (List Doc))
+        → option_map_or (flat_map (parts_at ps)) o [] ≡ flat_map (parts_at ps) (unwrap_or o [])
     inner None = refl
     inner (Some ds) = refl
 
-    go : (o : Option Doc) → option_map_or (found (each ∷ ps)) o [] ≡ flat_map (found ps) (unwrap_or (option_and_then list_of o) [])
+    go : (o : Option Doc)
+        → option_map_or (parts_at (each ∷ ps)) o []
+        ≡ flat_map (parts_at ps) (unwrap_or (option_and_then list_of o) [])
     go None = refl
     go (Some e) = inner (list_of e)
 
 -- a needed row of each element of a list of the body
 abbrev row_of_each : ℕ → List ℕ → List ℕ → List PlaceStep → Want → ProfileRow
-row_of_each n command name ps w = record { number = n; kind = Some Response; name = Some command; place = named (codes "body") ∷ named name ∷ each ∷ ps; want = w; needed = true }
+row_of_each n command name ps w =
+    record {
+      number = n;
+      kind = Some Response;
+      name = Some command;
+      place = named (codes "body")
+          ∷ named name ∷ each ∷ ps;
+      want = w;
+      needed = true;
+    }
 
-each_well : (n : ℕ) (command name : List ℕ) (ps : List PlaceStep) (w : Want) (d : Doc) → is_asked (Some Response) (Some command) d ≡ true → row_fault (row_of_each n command name ps w) d ≡ None
-    → AllWell ps w (unwrap_or (option_and_then list_of (option_and_then (get name) (get (codes "body") d))) [])
+each_well : (n : ℕ) (command name : List ℕ) (ps : List PlaceStep) (w : Want) (d : Doc)
+    → is_asked (Some Response) (Some command) d ≡ true
+    → row_fault (row_of_each n command name ps w) d ≡ None
+    → AllWell ps w
+    (unwrap_or (option_and_then list_of (option_and_then (get name) (get (codes "body") d))) [])
 each_well n command name ps w d asked free =
     let p : List PlaceStep = named (codes "body") ∷ named name ∷ each ∷ ps in
     let a : option_map (of_row n) (broken_at p w true d) ≡ None = rw asked at free in
     let b : broken_at p w true d ≡ None = free_cause n (broken_at p w true d) a in
-    all_well ps w _ (ap (λ os. first_cause (map (judged w true) os)) (sym (found_each ps name (get (codes "body") d))) ∙ b)
+    all_well ps w _
+    (ap (λ os. first_cause (map (cause_against w true) os))
+    (sym (found_each ps name (get (codes "body") d))) ∙ b)
 
--- the elements of a message's list are judged well with their ids as numbers, where its row is not broken
-listed_well : (n : ℕ) (command name : List ℕ) (ps : List PlaceStep) (w : Want) (m : Doc) → is_asked (Some Response) (Some command) (without_ids m) ≡ true
-    → row_fault (row_of_each n command name ps w) (without_ids m) ≡ None → AllWell ps w (map without_ids (listed command name m))
+-- the elements of a message's list are cause_against well with their ids as numbers, where its row
+-- is not broken
+listed_well : (n : ℕ) (command name : List ℕ) (ps : List PlaceStep) (w : Want) (m : Doc)
+    → is_asked (Some Response) (Some command) (without_ids m) ≡ true
+    → row_fault (row_of_each n command name ps w) (without_ids m) ≡ None
+    → AllWell ps w (map without_ids (listed command name m))
 listed_well n command name ps w m asked free =
-    let ds = unwrap_or (option_and_then list_of (option_and_then (get name) (get (codes "body") (without_ids m)))) [] in
-    subst (AllWell ps w) (sym (ap (λ b. cond b ds []) asked) ∙ listed-shape without_ids without_keeps command name m) (each_well n command name ps w (without_ids m) asked free)
+    let ds = unwrap_or
+    (option_and_then list_of (option_and_then (get name) (get (codes "body") (without_ids m))))
+    [] in
+    subst (AllWell ps w) (sym (ap (λ b. cond b ds []) asked)
+    ∙ listed-shape without_ids without_keeps command name m)
+    (each_well n command name ps w (without_ids m) asked free)
 
-member_well : (k : List ℕ) (w : Want) (d : Doc) → is_object (without_ids d) ≡ true → broken_at (named k ∷ []) w true (without_ids d) ≡ None → judged w true (option_map without_ids (get k d)) ≡ None
+member_well : (k : List ℕ) (w : Want) (d : Doc) → is_object (without_ids d) ≡ true
+    → broken_at (named k ∷ []) w true (without_ids d) ≡ None
+    → cause_against w true (option_map without_ids (get k d)) ≡ None
 member_well k w d ob h =
-    let one : first_cause (judged w true (get k (without_ids d)) ∷ []) ≡ None = rw ob at h in
-    ap (judged w true) (sym (without_keeps.member k d)) ∙ one_cause (judged w true (get k (without_ids d))) one
+    let one : first_cause (cause_against w true (get k (without_ids d)) ∷ []) ≡ None = rw ob at h in
+    ap (cause_against w true) (sym (without_keeps.member k d))
+    ∙ one_cause (cause_against w true (get k (without_ids d))) one
 
-text_there : (k : List ℕ) (d : Doc) → is_object (without_ids d) ≡ true → broken_at (named k ∷ []) Text true (without_ids d) ≡ None → is_some (text_value (get k d)) ≡ true
-text_there k d ob h = name-without (get k d) (text_well (option_map without_ids (get k d)) (member_well k Text d ob h))
+text_there : (k : List ℕ) (d : Doc) → is_object (without_ids d) ≡ true
+    → broken_at (named k ∷ []) Text true (without_ids d) ≡ None
+    → is_some (text_value (get k d)) ≡ true
+text_there k d ob h =
+    name-without (get k d)
+    (text_well (option_map without_ids (get k d)) (member_well k Text d ob h))
 
-whole_there : (k : List ℕ) (d : Doc) → is_object (without_ids d) ≡ true → broken_at (named k ∷ []) Whole true (without_ids d) ≡ None → is_some (number_value (get k d)) ≡ true
-whole_there k d ob h = number-without (get k d) (whole_well (option_map without_ids (get k d)) (member_well k Whole d ob h))
+whole_there : (k : List ℕ) (d : Doc) → is_object (without_ids d) ≡ true
+    → broken_at (named k ∷ []) Whole true (without_ids d) ≡ None
+    → is_some (number_value (get k d)) ≡ true
+whole_there k d ob h =
+    number-without (get k d)
+    (whole_well (option_map without_ids (get k d)) (member_well k Whole d ob h))
 
-frame_there : (k : List ℕ) (d : Doc) → is_object (without_ids d) ≡ true → broken_at (named k ∷ []) Frame true (without_ids d) ≡ None → is_some (reference_value (get k d)) ≡ true
-frame_there k d ob h = reference-without (get k d) (frame_well (option_map without_ids (get k d)) (member_well k Frame d ob h))
+frame_there : (k : List ℕ) (d : Doc) → is_object (without_ids d) ≡ true
+    → broken_at (named k ∷ []) Frame true (without_ids d) ≡ None
+    → is_some (reference_value (get k d)) ≡ true
+frame_there k d ob h =
+    reference-without (get k d)
+    (frame_well (option_map without_ids (get k d)) (member_well k Frame d ob h))
 
-reference_there : (k : List ℕ) (d : Doc) → is_object (without_ids d) ≡ true → broken_at (named k ∷ []) Reference true (without_ids d) ≡ None → is_some (reference_value (get k d)) ≡ true
-reference_there k d ob h = reference-without (get k d) (reference_well (option_map without_ids (get k d)) (member_well k Reference d ob h))
+reference_there : (k : List ℕ) (d : Doc) → is_object (without_ids d) ≡ true
+    → broken_at (named k ∷ []) Reference true (without_ids d) ≡ None
+    → is_some (reference_value (get k d)) ≡ true
+reference_there k d ob h =
+    reference-without (get k d)
+    (reference_well (option_map without_ids (get k d)) (member_well k Reference d ob h))
 
 object_there : (d : Doc) → broken_at [] Object true d ≡ None → is_object d ≡ true
-object_there d h = object_well (Some d) (one_cause (judged Object true (Some d)) h)
+object_there d h = object_well (Some d) (one_cause (cause_against Object true (Some d)) h)
 
 -- ---- all elements
 
-frames_there : (ds : List Doc) → AllWell [] Object (map without_ids ds) → AllWell (named (codes "id") ∷ []) Frame (map without_ids ds) → AllWell (named (codes "name") ∷ []) Text (map without_ids ds)
-    → AllWell (named (codes "line") ∷ []) Whole (map without_ids ds) → AllWell (named (codes "column") ∷ []) Whole (map without_ids ds) → are_frames ds ≡ true
+frames_there : (ds : List Doc) → AllWell [] Object (map without_ids ds)
+    → AllWell (named (codes "id") ∷ []) Frame (map without_ids ds)
+    → AllWell (named (codes "name") ∷ []) Text (map without_ids ds)
+    → AllWell (named (codes "line") ∷ []) Whole (map without_ids ds)
+    → AllWell (named (codes "column") ∷ []) Whole (map without_ids ds) → are_frames ds ≡ true
 frames_there [] o i n l c = refl
 frames_there (d ∷ ds) o i n l c =
     let ob = object_there (without_ids d) o.0 in
@@ -328,11 +438,16 @@ frames_there (d ∷ ds) o i n l c =
     let f = number_value (get (codes "column") d) in
     let parts : (is_some a && is_some b && is_some e && is_some f) ≡ true =
     and_both (is_some a && is_some b && is_some e) (is_some f)
-    (and_both (is_some a && is_some b) (is_some e) (and_both (is_some a) (is_some b) (frame_there (codes "id") d ob i.0) (text_there (codes "name") d ob n.0)) (whole_there (codes "line") d ob l.0))
+    (and_both (is_some a && is_some b) (is_some e)
+    (and_both (is_some a) (is_some b) (frame_there (codes "id") d ob i.0)
+    (text_there (codes "name") d ob n.0)) (whole_there (codes "line") d ob l.0))
     (whole_there (codes "column") d ob c.0) in
-    and_both (is_some (frame_of d)) (are_frames ds) (frame_parts a b e f ∙ parts) (frames_there ds o.1 i.1 n.1 l.1 c.1)
+    and_both (is_some (frame_of d)) (are_frames ds) (frame_parts a b e f ∙ parts)
+    (frames_there ds o.1 i.1 n.1 l.1 c.1)
 
-scopes_there : (ds : List Doc) → AllWell [] Object (map without_ids ds) → AllWell (named (codes "name") ∷ []) Text (map without_ids ds) → AllWell (named (codes "variablesReference") ∷ []) Reference (map without_ids ds)
+scopes_there : (ds : List Doc) → AllWell [] Object (map without_ids ds)
+    → AllWell (named (codes "name") ∷ []) Text (map without_ids ds)
+    → AllWell (named (codes "variablesReference") ∷ []) Reference (map without_ids ds)
     → are_scopes ds ≡ true
 scopes_there [] o n r = refl
 scopes_there (d ∷ ds) o n r =
@@ -340,11 +455,16 @@ scopes_there (d ∷ ds) o n r =
     let a = text_value (get (codes "name") d) in
     let b = reference_value (get (codes "variablesReference") d) in
     and_both (is_some (scope_of d)) (are_scopes ds)
-    (scope_parts a b ∙ and_both (is_some a) (is_some b) (text_there (codes "name") d ob n.0) (reference_there (codes "variablesReference") d ob r.0))
+    (scope_parts a b
+    ∙ and_both (is_some a) (is_some b) (text_there (codes "name") d ob n.0)
+    (reference_there (codes "variablesReference") d ob r.0))
     (scopes_there ds o.1 n.1 r.1)
 
-variables_there : (ds : List Doc) → AllWell [] Object (map without_ids ds) → AllWell (named (codes "name") ∷ []) Text (map without_ids ds) → AllWell (named (codes "value") ∷ []) Text (map without_ids ds)
-    → AllWell (named (codes "variablesReference") ∷ []) Reference (map without_ids ds) → are_variables ds ≡ true
+variables_there : (ds : List Doc) → AllWell [] Object (map without_ids ds)
+    → AllWell (named (codes "name") ∷ []) Text (map without_ids ds)
+    → AllWell (named (codes "value") ∷ []) Text (map without_ids ds)
+    → AllWell (named (codes "variablesReference") ∷ []) Reference (map without_ids ds)
+    → are_variables ds ≡ true
 variables_there [] o n v r = refl
 variables_there (d ∷ ds) o n v r =
     let ob = object_there (without_ids d) o.0 in
@@ -353,83 +473,129 @@ variables_there (d ∷ ds) o n v r =
     let e = reference_value (get (codes "variablesReference") d) in
     and_both (is_some (variable_of d)) (are_variables ds)
     (variable_parts a b e
-    ∙ and_both (is_some a && is_some b) (is_some e) (and_both (is_some a) (is_some b) (text_there (codes "name") d ob n.0) (text_there (codes "value") d ob v.0)) (reference_there (codes "variablesReference") d ob r.0))
+    ∙ and_both (is_some a && is_some b) (is_some e)
+    (and_both (is_some a) (is_some b) (text_there (codes "name") d ob n.0)
+    (text_there (codes "value") d ob v.0))
+    (reference_there (codes "variablesReference") d ob r.0))
     (variables_there ds o.1 n.1 v.1 r.1)
 
 -- a list of which nothing is asked is empty
-none_listed : (p : Doc → Bool) (command name : List ℕ) (m : Doc) → is_asked (Some Response) (Some command) m ≡ false → list_all p (listed command name m) ≡ true
-none_listed p command name m h = ap (λ b. list_all p (cond b (unwrap_or (option_and_then list_of (option_and_then (get name) (get (codes "body") m))) []) [])) h
+none_listed : (p : Doc → Bool) (command name : List ℕ) (m : Doc)
+    → is_asked (Some Response) (Some command) m ≡ false → list_all p (listed command name m) ≡ true
+none_listed p command name m h =
+    ap (λ b. list_all p
+    (cond b (unwrap_or (option_and_then list_of (option_and_then (get name) (get (codes "body") m)))
+    []) [])) h
 
--- where the message with its ids as numbers breaks no row, each element of the list passes, if it does where it is asked
-all_listed : (p : Doc → Bool) (command name : List ℕ) (m : Doc) → (is_asked (Some Response) (Some command) (without_ids m) ≡ true → list_all p (listed command name m) ≡ true) → list_all p (listed command name m) ≡ true
+-- where the message with its ids as numbers breaks no row, each element of the list passes, if it
+-- does where it is asked
+all_listed : (p : Doc → Bool) (command name : List ℕ) (m : Doc)
+    → (is_asked (Some Response) (Some command) (without_ids m) ≡ true
+    → list_all p (listed command name m) ≡ true) → list_all p (listed command name m) ≡ true
 all_listed p command name m asked =
     by_bool (is_asked (Some Response) (Some command) (without_ids m)) asked
-    (λ no. none_listed p command name m (sym (asked-shape without_ids without_keeps m (Some Response) (Some command)) ∙ no))
+    (λ no. none_listed p command name m
+    (sym (asked-shape without_ids without_keeps m (Some Response) (Some command)) ∙ no))
 
-frames_listed : (m : Doc) → first_fault profile (without_ids m) ≡ None → are_frames (listed_frames m) ≡ true
+frames_listed : (m : Doc) → first_fault profile (without_ids m) ≡ None
+    → are_frames (listed_frames m) ≡ true
 frames_listed m h =
     let command = codes "stackTrace" in
     let name = codes "stackFrames" in
     let e = without_ids m in
     all_listed (λ d. is_some (frame_of d)) command name m
     (λ asked. frames_there (listed_frames m)
-    (listed_well 61 command name [] Object m asked (free_at 60 profile (row_of_each 61 command name [] Object) e h refl))
-    (listed_well 62 command name (named (codes "id") ∷ []) Frame m asked (free_at 61 profile (row_of_each 62 command name (named (codes "id") ∷ []) Frame) e h refl))
-    (listed_well 63 command name (named (codes "name") ∷ []) Text m asked (free_at 62 profile (row_of_each 63 command name (named (codes "name") ∷ []) Text) e h refl))
-    (listed_well 64 command name (named (codes "line") ∷ []) Whole m asked (free_at 63 profile (row_of_each 64 command name (named (codes "line") ∷ []) Whole) e h refl))
-    (listed_well 65 command name (named (codes "column") ∷ []) Whole m asked (free_at 64 profile (row_of_each 65 command name (named (codes "column") ∷ []) Whole) e h refl)))
+    (listed_well 61 command name [] Object m asked
+    (free_at 60 profile (row_of_each 61 command name [] Object) e h refl))
+    (listed_well 62 command name (named (codes "id") ∷ []) Frame m asked
+    (free_at 61 profile (row_of_each 62 command name (named (codes "id") ∷ []) Frame) e h refl))
+    (listed_well 63 command name (named (codes "name") ∷ []) Text m asked
+    (free_at 62 profile (row_of_each 63 command name (named (codes "name") ∷ []) Text) e h
+    refl))
+    (listed_well 64 command name (named (codes "line") ∷ []) Whole m asked
+    (free_at 63 profile (row_of_each 64 command name (named (codes "line") ∷ []) Whole) e h
+    refl))
+    (listed_well 65 command name (named (codes "column") ∷ []) Whole m asked
+    (free_at 64 profile (row_of_each 65 command name (named (codes "column") ∷ []) Whole) e h
+    refl)))
 
-scopes_listed : (m : Doc) → first_fault profile (without_ids m) ≡ None → are_scopes (listed_scopes m) ≡ true
+scopes_listed : (m : Doc) → first_fault profile (without_ids m) ≡ None
+    → are_scopes (listed_scopes m) ≡ true
 scopes_listed m h =
     let command = codes "scopes" in
     let name = codes "scopes" in
     let e = without_ids m in
     all_listed (λ d. is_some (scope_of d)) command name m
     (λ asked. scopes_there (listed_scopes m)
-    (listed_well 69 command name [] Object m asked (free_at 68 profile (row_of_each 69 command name [] Object) e h refl))
-    (listed_well 70 command name (named (codes "name") ∷ []) Text m asked (free_at 69 profile (row_of_each 70 command name (named (codes "name") ∷ []) Text) e h refl))
-    (listed_well 71 command name (named (codes "variablesReference") ∷ []) Reference m asked (free_at 70 profile (row_of_each 71 command name (named (codes "variablesReference") ∷ []) Reference) e h refl)))
+    (listed_well 69 command name [] Object m asked
+    (free_at 68 profile (row_of_each 69 command name [] Object) e h refl))
+    (listed_well 70 command name (named (codes "name") ∷ []) Text m asked
+    (free_at 69 profile (row_of_each 70 command name (named (codes "name") ∷ []) Text) e h
+    refl))
+    (listed_well 71 command name (named (codes "variablesReference") ∷ []) Reference m asked
+    (free_at 70 profile
+    (row_of_each 71 command name (named (codes "variablesReference") ∷ []) Reference) e h
+    refl)))
 
-variables_listed : (m : Doc) → first_fault profile (without_ids m) ≡ None → are_variables (listed_variables m) ≡ true
+variables_listed : (m : Doc) → first_fault profile (without_ids m) ≡ None
+    → are_variables (listed_variables m) ≡ true
 variables_listed m h =
     let command = codes "variables" in
     let name = codes "variables" in
     let e = without_ids m in
     all_listed (λ d. is_some (variable_of d)) command name m
     (λ asked. variables_there (listed_variables m)
-    (listed_well 74 command name [] Object m asked (free_at 73 profile (row_of_each 74 command name [] Object) e h refl))
-    (listed_well 75 command name (named (codes "name") ∷ []) Text m asked (free_at 74 profile (row_of_each 75 command name (named (codes "name") ∷ []) Text) e h refl))
-    (listed_well 76 command name (named (codes "value") ∷ []) Text m asked (free_at 75 profile (row_of_each 76 command name (named (codes "value") ∷ []) Text) e h refl))
-    (listed_well 77 command name (named (codes "variablesReference") ∷ []) Reference m asked (free_at 76 profile (row_of_each 77 command name (named (codes "variablesReference") ∷ []) Reference) e h refl)))
+    (listed_well 74 command name [] Object m asked
+    (free_at 73 profile (row_of_each 74 command name [] Object) e h refl))
+    (listed_well 75 command name (named (codes "name") ∷ []) Text m asked
+    (free_at 74 profile (row_of_each 75 command name (named (codes "name") ∷ []) Text) e h
+    refl))
+    (listed_well 76 command name (named (codes "value") ∷ []) Text m asked
+    (free_at 75 profile (row_of_each 76 command name (named (codes "value") ∷ []) Text) e h
+    refl))
+    (listed_well 77 command name (named (codes "variablesReference") ∷ []) Reference m asked
+    (free_at 76 profile
+    (row_of_each 77 command name (named (codes "variablesReference") ∷ []) Reference) e h
+    refl)))
 
 fits_shows : (m : Doc) → Fits (without_ids m) → shows_all m ≡ true
 fits_shows m h =
     let e = without_ids m in
     let p = fault_parts (is_object e) (has_kind e) (row_broken e) UnknownType NotObject h in
     let free = rows_free e p.2 in
-    and_both (are_frames (listed_frames m) && are_scopes (listed_scopes m)) (are_variables (listed_variables m))
-    (and_both (are_frames (listed_frames m)) (are_scopes (listed_scopes m)) (frames_listed m free) (scopes_listed m free)) (variables_listed m free)
+    and_both (are_frames (listed_frames m) && are_scopes (listed_scopes m))
+    (are_variables (listed_variables m))
+    (and_both (are_frames (listed_frames m)) (are_scopes (listed_scopes m)) (frames_listed m free)
+    (scopes_listed m free)) (variables_listed m free)
 
 -- a message shows each element of its list
-pub shows_all-typed : (side : Side) (d m : Doc) → is_plain d ≡ true → IsTyped side d m → shows_all m ≡ true
+pub shows_all-typed : (side : Side) (d m : Doc) → is_plain d ≡ true → IsTyped side d m
+    → shows_all m ≡ true
 shows_all-typed side d m plain h = fits_shows m (own_again side d m plain h).0
 
-pub content_shows : (side : Side) (bytes : List ℕ) (m : Doc) → IsTypedContent side bytes m → shows_all m ≡ true
+pub content_shows : (side : Side) (bytes : List ℕ) (m : Doc) → IsTypedContent side bytes m
+    → shows_all m ≡ true
 content_shows side bytes m (d, reads, h) = shows_all-typed side d m (read_is_plain bytes d reads) h
 
 -- ---- nothing is passed over
 
-passed_over : {A : Type 0} (o : Option A) (xs : List A) (os : List (Option A)) → is_some o ≡ true → map Some xs ≡ os → map Some (cons_option o xs) ≡ o ∷ os
+passed_over : {A : Type 0} (o : Option A) (xs : List A) (os : List (Option A)) → is_some o ≡ true
+    → map Some xs ≡ os → map Some (cons_option o xs) ≡ o ∷ os
 passed_over None xs os e later = cc
 passed_over (Some x) xs os e later = ap (λ ys. Some x ∷ ys) later
 
-pub none_passed : {A : Type 0} (f : Doc → Option A) (ds : List Doc) → list_all (λ d. is_some (f d)) ds ≡ true → map Some (filter_map f ds) ≡ map f ds
+pub none_passed : {A : Type 0} (f : Doc → Option A) (ds : List Doc)
+    → list_all (λ d. is_some (f d)) ds ≡ true → map Some (filter_map f ds) ≡ map f ds
 none_passed f [] h = refl
 none_passed f (d ∷ ds) h =
-    passed_over (f d) (filter_map f ds) (map f ds) (and_left (is_some (f d)) (list_all (λ d. is_some (f d)) ds) h) (none_passed f ds (and_right (is_some (f d)) (list_all (λ d. is_some (f d)) ds) h))
+    passed_over (f d) (filter_map f ds) (map f ds)
+    (and_left (is_some (f d)) (list_all (λ d. is_some (f d)) ds) h)
+    (none_passed f ds (and_right (is_some (f d)) (list_all (λ d. is_some (f d)) ds) h))
 
 pub each_shown : (m : Doc) → shows_all m ≡ true
-    → (map Some (frames_of m) ≡ map frame_of (listed_frames m)) × (map Some (scopes_of m) ≡ map scope_of (listed_scopes m)) × (map Some (variables_of m) ≡ map variable_of (listed_variables m))
+    → (map Some (frames_of m) ≡ map frame_of (listed_frames m))
+    × (map Some (scopes_of m) ≡ map scope_of (listed_scopes m))
+    × (map Some (variables_of m) ≡ map variable_of (listed_variables m))
 each_shown m h =
     let a = are_frames (listed_frames m) in
     let b = are_scopes (listed_scopes m) in

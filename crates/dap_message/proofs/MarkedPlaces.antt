@@ -1,10 +1,16 @@
--- Marks as a list of places with their sorts: what it makes of a list, of an object and of a number, and that the rows' places of different sorts never meet.
-use Rattle.dap_tree.specs.Doc.{Doc, null, boolean, whole, text, list, object, id, Items, no_items, item, Members, no_members, member, change_member, map_items}
-use Rattle.dap_tree.specs.Ids.{ids, items_ids, members_ids, id_count, with_ids, items_with_ids, members_with_ids, without_ids, items_without_ids, members_without_ids}
+-- Marks as a list of places with their sorts: what it makes of a list, of an object and of a
+-- number, and that the rows' places of different sorts never meet.
+use Rattle.dap_tree.specs.Doc.{Doc, null, boolean, whole, text, list, object, id, Items, no_items}
+use Rattle.dap_tree.specs.Doc.{item, Members, no_members, member, change_member, map_items}
+use Rattle.dap_tree.specs.Ids.{ids, items_ids, members_ids, id_count, with_ids, items_with_ids}
+use Rattle.dap_tree.specs.Ids.{members_with_ids, without_ids, items_without_ids}
+use Rattle.dap_tree.specs.Ids.{members_without_ids}
 use Rattle.dap_tree.specs.declared.sort.Sort.{Sort}
 use Rattle.dap_tree.specs.declared.sort.Sort.TheVariants.{ClientSeq, AdapterSeq, Frame, Reference}
 use Rattle.dap_tree.proofs.Booleans.{and_left, and_right, and_both}
-use Rattle.std.proofs.Common.{◌≡◌, ℕ, ℤ, pos, negsuc, Bool, true, false, cond, not, ◌&&◌, List, [], ◌∷◌, ◌++◌, drop, get_or, nat_cmp, refl, sym, ◌∙◌, ap, ap₂, bytes_eq, arith}
+use Rattle.std.proofs.Common.{◌≡◌, ℕ, ℤ, pos, negsuc, Bool, true, false, cond, not, ◌&&◌, List, []}
+use Rattle.std.proofs.Common.{◌∷◌, ◌++◌, drop, get_or, nat_cmp, refl, sym, ◌∙◌, ap, ap₂, bytes_eq}
+use Rattle.std.proofs.Common.{arith}
 use Rattle.std.proofs.lemmas.Bool.Decides.{nat_tests, Decides-int_eq}
 use Rattle.std.proofs.lemmas.List.Folds.{list_all-append}
 use Rattle.std.proofs.lemmas.Map.Text.{is_eq-slice_cmp}
@@ -37,7 +43,8 @@ for_items (mark_at s [] es) = for_items es
 for_items (mark_at s (named k ∷ ps) es) = for_items es
 for_items (mark_at s (each ∷ ps) es) = mark_at s ps (for_items es)
 
-map_items-map_items : (f g : Doc → Doc) (ds : Items) → map_items g (map_items f ds) ≡ map_items (λ d. g (f d)) ds
+map_items-map_items : (f g : Doc → Doc) (ds : Items)
+    → map_items g (map_items f ds) ≡ map_items (λ d. g (f d)) ds
 map_items-map_items f g no_items = refl
 map_items-map_items f g (item d ds) = ap (item (g (f d))) (map_items-map_items f g ds)
 
@@ -45,11 +52,14 @@ map_items-itself : (ds : Items) → map_items (λ d. d) ds ≡ ds
 map_items-itself no_items = refl
 map_items-itself (item d ds) = ap (item d) (map_items-itself ds)
 
-edits-list : (es : Pending) (ds : Items) → edits es (list ds) ≡ list (map_items (edits (for_items es)) ds)
+edits-list : (es : Pending) (ds : Items)
+    → edits es (list ds) ≡ list (map_items (edits (for_items es)) ds)
 edits-list done ds = sym (ap list (map_items-itself ds))
 edits-list (mark_at s [] es) ds = edits-list es ds
 edits-list (mark_at s (named k ∷ ps) es) ds = edits-list es ds
-edits-list (mark_at s (each ∷ ps) es) ds = edits-list es (map_items (edit ps (marked s)) ds) ∙ ap list (map_items-map_items (edit ps (marked s)) (edits (for_items es)) ds)
+edits-list (mark_at s (each ∷ ps) es) ds =
+    edits-list es (map_items (edit ps (marked s)) ds)
+    ∙ ap list (map_items-map_items (edit ps (marked s)) (edits (for_items es)) ds)
 
 -- ---- the members of an object
 
@@ -57,47 +67,66 @@ edits-list (mark_at s (each ∷ ps) es) ds = edits-list es (map_items (edit ps (
 abbrev for_member : List ℕ → Pending → Pending
 for_member l done = done
 for_member l (mark_at s [] es) = for_member l es
-for_member l (mark_at s (named k ∷ ps) es) = cond (bytes_eq k l) (mark_at s ps (for_member l es)) (for_member l es)
+for_member l (mark_at s (named k ∷ ps) es) =
+    cond (bytes_eq k l) (mark_at s ps (for_member l es)) (for_member l es)
 for_member l (mark_at s (each ∷ ps) es) = for_member l es
 
 abbrev for_others : List ℕ → Pending → Pending
 for_others l done = done
 for_others l (mark_at s [] es) = for_others l es
-for_others l (mark_at s (named k ∷ ps) es) = cond (bytes_eq k l) (for_others l es) (mark_at s (named k ∷ ps) (for_others l es))
+for_others l (mark_at s (named k ∷ ps) es) =
+    cond (bytes_eq k l) (for_others l es) (mark_at s (named k ∷ ps) (for_others l es))
 for_others l (mark_at s (each ∷ ps) es) = for_others l es
 
 abbrev members_edits : Pending → Members → Members
 members_edits done ms = ms
 members_edits (mark_at s [] es) ms = members_edits es ms
-members_edits (mark_at s (named k ∷ ps) es) ms = members_edits es (change_member k (edit ps (marked s)) ms)
+members_edits (mark_at s (named k ∷ ps) es) ms =
+    members_edits es (change_member k (edit ps (marked s)) ms)
 members_edits (mark_at s (each ∷ ps) es) ms = members_edits es ms
 
 edits-object : (es : Pending) (ms : Members) → edits es (object ms) ≡ object (members_edits es ms)
 edits-object done ms = refl
 edits-object (mark_at s [] es) ms = edits-object es ms
-edits-object (mark_at s (named k ∷ ps) es) ms = edits-object es (change_member k (edit ps (marked s)) ms)
+edits-object (mark_at s (named k ∷ ps) es) ms =
+    edits-object es (change_member k (edit ps (marked s)) ms)
 edits-object (mark_at s (each ∷ ps) es) ms = edits-object es ms
 
-change_member-here : (k l : List ℕ) (f : Doc → Doc) (d : Doc) (ms : Members) → bytes_eq k l ≡ true → change_member k f (member l d ms) ≡ member l (f d) ms
-change_member-here k l f d ms h = equal_at (slice_cmp nat_cmp k l) (member l d (change_member k f ms)) (member l (f d) ms) (is_eq-slice_cmp k l ∙ h)
+change_member-here : (k l : List ℕ) (f : Doc → Doc) (d : Doc) (ms : Members) → bytes_eq k l ≡ true
+    → change_member k f (member l d ms) ≡ member l (f d) ms
+change_member-here k l f d ms h =
+    equal_at (slice_cmp nat_cmp k l) (member l d (change_member k f ms)) (member l (f d) ms)
+    (is_eq-slice_cmp k l ∙ h)
 
-change_member-later : (k l : List ℕ) (f : Doc → Doc) (d : Doc) (ms : Members) → bytes_eq k l ≡ false → change_member k f (member l d ms) ≡ member l d (change_member k f ms)
-change_member-later k l f d ms h = other_at (slice_cmp nat_cmp k l) (member l d (change_member k f ms)) (member l (f d) ms) (is_eq-slice_cmp k l ∙ h)
+change_member-later : (k l : List ℕ) (f : Doc → Doc) (d : Doc) (ms : Members) → bytes_eq k l ≡ false
+    → change_member k f (member l d ms) ≡ member l d (change_member k f ms)
+change_member-later k l f d ms h =
+    other_at (slice_cmp nat_cmp k l) (member l d (change_member k f ms)) (member l (f d) ms)
+    (is_eq-slice_cmp k l ∙ h)
 
 abbrev SplitsMember : Pending → List ℕ → Doc → Members → Type 0
-SplitsMember es l d ms = members_edits es (member l d ms) ≡ member l (edits (for_member l es) d) (members_edits (for_others l es) ms)
+SplitsMember es l d ms =
+    members_edits es (member l d ms)
+    ≡ member l (edits (for_member l es) d) (members_edits (for_others l es) ms)
 
-named_step : (k l : List ℕ) (s : Sort) (ps : List PlaceStep) (es : Pending) (d : Doc) (ms : Members) (b : Bool) → bytes_eq k l ≡ b
+named_step : (k l : List ℕ) (s : Sort) (ps : List PlaceStep) (es : Pending) (d : Doc) (ms : Members)
+    (b : Bool) → bytes_eq k l ≡ b
     → ((e : Doc) (os : Members) → SplitsMember es l e os)
     → members_edits es (change_member k (edit ps (marked s)) (member l d ms))
-    ≡ member l (edits (cond b (mark_at s ps (for_member l es)) (for_member l es)) d) (members_edits (cond b (for_others l es) (mark_at s (named k ∷ ps) (for_others l es))) ms)
-named_step k l s ps es d ms true h later = ap (members_edits es) (change_member-here k l (edit ps (marked s)) d ms h) ∙ later (edit ps (marked s) d) ms
-named_step k l s ps es d ms false h later = ap (members_edits es) (change_member-later k l (edit ps (marked s)) d ms h) ∙ later d (change_member k (edit ps (marked s)) ms)
+    ≡ member l (edits (cond b (mark_at s ps (for_member l es)) (for_member l es)) d)
+    (members_edits (cond b (for_others l es) (mark_at s (named k ∷ ps) (for_others l es))) ms)
+named_step k l s ps es d ms true h later =
+    ap (members_edits es) (change_member-here k l (edit ps (marked s)) d ms h)
+    ∙ later (edit ps (marked s) d) ms
+named_step k l s ps es d ms false h later =
+    ap (members_edits es) (change_member-later k l (edit ps (marked s)) d ms h)
+    ∙ later d (change_member k (edit ps (marked s)) ms)
 
 members_edits-member : (es : Pending) (l : List ℕ) (d : Doc) (ms : Members) → SplitsMember es l d ms
 members_edits-member done l d ms = refl
 members_edits-member (mark_at s [] es) l d ms = members_edits-member es l d ms
-members_edits-member (mark_at s (named k ∷ ps) es) l d ms = named_step k l s ps es d ms (bytes_eq k l) refl (λ e os. members_edits-member es l e os)
+members_edits-member (mark_at s (named k ∷ ps) es) l d ms =
+    named_step k l s ps es d ms (bytes_eq k l) refl (λ e os. members_edits-member es l e os)
 members_edits-member (mark_at s (each ∷ ps) es) l d ms = members_edits-member es l d ms
 
 -- ---- places of different sorts do not meet
@@ -117,7 +146,8 @@ abbrev pub Agree : Pending → Type 0
 Agree done = Unit {0}
 Agree (mark_at s ps es) = AgreeWith s ps es × Agree es
 
-agree_with_items : (s : Sort) (ps : List PlaceStep) (es : Pending) → AgreeWith s (each ∷ ps) es → AgreeWith s ps (for_items es)
+agree_with_items : (s : Sort) (ps : List PlaceStep) (es : Pending) → AgreeWith s (each ∷ ps) es
+    → AgreeWith s ps (for_items es)
 agree_with_items s ps done h = tt
 agree_with_items s ps (mark_at t [] es) h = agree_with_items s ps es h.1
 agree_with_items s ps (mark_at t (named k ∷ qs) es) h = agree_with_items s ps es h.1
@@ -130,20 +160,29 @@ agree_items (mark_at s (named k ∷ ps) es) h = agree_items es h.1
 agree_items (mark_at s (each ∷ ps) es) h = (agree_with_items s ps es h.0, agree_items es h.1)
 
 one_name : (k j l : List ℕ) → bytes_eq k l ≡ true → bytes_eq j l ≡ true → bytes_eq k j ≡ true
-one_name k j l h g = (bytes_eq-Decides k j).1 ((bytes_eq-Decides k l).0 h ∙ sym ((bytes_eq-Decides j l).0 g))
+one_name k j l h g =
+    (bytes_eq-Decides k j).1 ((bytes_eq-Decides k l).0 h ∙ sym ((bytes_eq-Decides j l).0 g))
 
-agree_with_named : (k j l : List ℕ) (s t : Sort) (ps qs : List PlaceStep) (es : Pending) → bytes_eq k l ≡ true → (meet (named k ∷ ps) (named j ∷ qs) ≡ true → s ≡ t) → (c : Bool) → bytes_eq j l ≡ c
-    → AgreeWith s ps (for_member l es) → AgreeWith s ps (cond c (mark_at t qs (for_member l es)) (for_member l es))
-agree_with_named k j l s t ps qs es b h true c rest = (λ m. h (and_both (bytes_eq k j) (meet ps qs) (one_name k j l b c) m), rest)
+agree_with_named : (k j l : List ℕ) (s t : Sort) (ps qs : List PlaceStep) (es : Pending)
+    → bytes_eq k l ≡ true → (meet (named k ∷ ps) (named j ∷ qs) ≡ true → s ≡ t) → (c : Bool)
+    → bytes_eq j l ≡ c
+    → AgreeWith s ps (for_member l es)
+    → AgreeWith s ps (cond c (mark_at t qs (for_member l es)) (for_member l es))
+agree_with_named k j l s t ps qs es b h true c rest =
+    (λ m. h (and_both (bytes_eq k j) (meet ps qs) (one_name k j l b c) m), rest)
 agree_with_named k j l s t ps qs es b h false c rest = rest
 
-agree_with_member : (k l : List ℕ) (s : Sort) (ps : List PlaceStep) (es : Pending) → bytes_eq k l ≡ true → AgreeWith s (named k ∷ ps) es → AgreeWith s ps (for_member l es)
+agree_with_member : (k l : List ℕ) (s : Sort) (ps : List PlaceStep) (es : Pending)
+    → bytes_eq k l ≡ true → AgreeWith s (named k ∷ ps) es → AgreeWith s ps (for_member l es)
 agree_with_member k l s ps done b h = tt
 agree_with_member k l s ps (mark_at t [] es) b h = agree_with_member k l s ps es b h.1
-agree_with_member k l s ps (mark_at t (named j ∷ qs) es) b h = agree_with_named k j l s t ps qs es b h.0 (bytes_eq j l) refl (agree_with_member k l s ps es b h.1)
+agree_with_member k l s ps (mark_at t (named j ∷ qs) es) b h =
+    agree_with_named k j l s t ps qs es b h.0 (bytes_eq j l) refl
+    (agree_with_member k l s ps es b h.1)
 agree_with_member k l s ps (mark_at t (each ∷ qs) es) b h = agree_with_member k l s ps es b h.1
 
-agree_named : (k l : List ℕ) (s : Sort) (ps : List PlaceStep) (es : Pending) → AgreeWith s (named k ∷ ps) es → (c : Bool) → bytes_eq k l ≡ c → Agree (for_member l es)
+agree_named : (k l : List ℕ) (s : Sort) (ps : List PlaceStep) (es : Pending)
+    → AgreeWith s (named k ∷ ps) es → (c : Bool) → bytes_eq k l ≡ c → Agree (for_member l es)
     → Agree (cond c (mark_at s ps (for_member l es)) (for_member l es))
 agree_named k l s ps es h true c rest = (agree_with_member k l s ps es c h, rest)
 agree_named k l s ps es h false c rest = rest
@@ -151,27 +190,35 @@ agree_named k l s ps es h false c rest = rest
 agree_member : (l : List ℕ) (es : Pending) → Agree es → Agree (for_member l es)
 agree_member l done h = tt
 agree_member l (mark_at s [] es) h = agree_member l es h.1
-agree_member l (mark_at s (named k ∷ ps) es) h = agree_named k l s ps es h.0 (bytes_eq k l) refl (agree_member l es h.1)
+agree_member l (mark_at s (named k ∷ ps) es) h =
+    agree_named k l s ps es h.0 (bytes_eq k l) refl (agree_member l es h.1)
 agree_member l (mark_at s (each ∷ ps) es) h = agree_member l es h.1
 
-kept_with : (c : Bool) (s t : Sort) (ps qs : List PlaceStep) (es : Pending) → (meet ps qs ≡ true → s ≡ t) → AgreeWith s ps es → AgreeWith s ps (cond c es (mark_at t qs es))
+kept_with : (c : Bool) (s t : Sort) (ps qs : List PlaceStep) (es : Pending)
+    → (meet ps qs ≡ true → s ≡ t) → AgreeWith s ps es → AgreeWith s ps (cond c es (mark_at t qs es))
 kept_with true s t ps qs es h rest = rest
 kept_with false s t ps qs es h rest = (h, rest)
 
-agree_with_others : (l : List ℕ) (s : Sort) (ps : List PlaceStep) (es : Pending) → AgreeWith s ps es → AgreeWith s ps (for_others l es)
+agree_with_others : (l : List ℕ) (s : Sort) (ps : List PlaceStep) (es : Pending) → AgreeWith s ps es
+    → AgreeWith s ps (for_others l es)
 agree_with_others l s ps done h = tt
 agree_with_others l s ps (mark_at t [] es) h = agree_with_others l s ps es h.1
-agree_with_others l s ps (mark_at t (named k ∷ qs) es) h = kept_with (bytes_eq k l) s t ps (named k ∷ qs) (for_others l es) h.0 (agree_with_others l s ps es h.1)
+agree_with_others l s ps (mark_at t (named k ∷ qs) es) h =
+    kept_with (bytes_eq k l) s t ps (named k ∷ qs) (for_others l es) h.0
+    (agree_with_others l s ps es h.1)
 agree_with_others l s ps (mark_at t (each ∷ qs) es) h = agree_with_others l s ps es h.1
 
-kept : (c : Bool) (s : Sort) (ps : List PlaceStep) (es : Pending) → AgreeWith s ps es → Agree es → Agree (cond c es (mark_at s ps es))
+kept : (c : Bool) (s : Sort) (ps : List PlaceStep) (es : Pending) → AgreeWith s ps es → Agree es
+    → Agree (cond c es (mark_at s ps es))
 kept true s ps es h rest = rest
 kept false s ps es h rest = (h, rest)
 
 agree_others : (l : List ℕ) (es : Pending) → Agree es → Agree (for_others l es)
 agree_others l done h = tt
 agree_others l (mark_at s [] es) h = agree_others l es h.1
-agree_others l (mark_at s (named k ∷ ps) es) h = kept (bytes_eq k l) s (named k ∷ ps) (for_others l es) (agree_with_others l s (named k ∷ ps) es h.0) (agree_others l es h.1)
+agree_others l (mark_at s (named k ∷ ps) es) h =
+    kept (bytes_eq k l) s (named k ∷ ps) (for_others l es)
+    (agree_with_others l s (named k ∷ ps) es h.0) (agree_others l es h.1)
 agree_others l (mark_at s (each ∷ ps) es) h = agree_others l es h.1
 
 -- ---- a number
@@ -186,11 +233,14 @@ same_sorts : (s t : Sort) (y z : ℤ) → id s y ≡ id t z → s ≡ t
 same_sorts s t y z h = cc
 
 -- a place that may make ids of a number which a later one makes an id, makes ids of the same sort
-agreed : (t : Sort) (es : Pending) (s : Sort) (z : ℤ) → AgreeWith t [] es → edits es (whole z) ≡ id s z → t ≡ s
+agreed : (t : Sort) (es : Pending) (s : Sort) (z : ℤ) → AgreeWith t [] es
+    → edits es (whole z) ≡ id s z → t ≡ s
 agreed t done s z a h = cc
 agreed t (mark_at u [] es) s z a h =
     by_bool (is_id_of u z)
-    (λ e. a.0 refl ∙ same_sorts u s z z (sym (edits-id es u z) ∙ ap (λ b. edits es (cond b (id u z) (whole z))) (sym e) ∙ h))
+    (λ e. a.0 refl
+    ∙ same_sorts u s z z (sym (edits-id es u z)
+    ∙ ap (λ b. edits es (cond b (id u z) (whole z))) (sym e) ∙ h))
     (λ e. agreed t es s z a.1 (ap (λ b. edits es (cond b (id u z) (whole z))) (sym e) ∙ h))
 agreed t (mark_at u (named k ∷ ps) es) s z a h = agreed t es s z a.1 h
 agreed t (mark_at u (each ∷ ps) es) s z a h = agreed t es s z a.1 h
@@ -201,21 +251,25 @@ small_number (negsuc n) h = cc
 
 not_zero : (z : ℤ) → is_small z ≡ true → not (int_eq z (pos 0)) ≡ true
 not_zero (pos n) h =
-    by_bool (int_eq (pos n) (pos 0)) (λ e. let zero : is_small (pos 0) ≡ true = ap is_small (sym ((Decides-int_eq (pos n) (pos 0)).0 e)) ∙ h in cc) (λ e. ap not e)
+    by_bool (int_eq (pos n) (pos 0)) (λ e. let zero : is_small (pos 0)
+    ≡ true = ap is_small (sym ((Decides-int_eq (pos n) (pos 0)).0 e)) ∙ h in cc) (λ e. ap not e)
 not_zero (negsuc n) h = cc
 
 pub small_id : (s : Sort) (z : ℤ) → is_small z ≡ true → is_id_of s z ≡ true
 small_id ClientSeq z h = small_number z h
 small_id AdapterSeq z h = small_number z h
 small_id Frame z h = small_number z h
-small_id Reference z h = and_both (is_id_number z) (not (int_eq z (pos 0))) (small_number z h) (not_zero z h)
+small_id Reference z h =
+    and_both (is_id_number z) (not (int_eq z (pos 0))) (small_number z h) (not_zero z h)
 
 -- places that make one number an id of a sort make any small number one
-edits-small : (es : Pending) (s : Sort) (z y : ℤ) → Agree es → is_small y ≡ true → edits es (whole z) ≡ id s z → edits es (whole y) ≡ id s y
+edits-small : (es : Pending) (s : Sort) (z y : ℤ) → Agree es → is_small y ≡ true
+    → edits es (whole z) ≡ id s z → edits es (whole y) ≡ id s y
 edits-small done s z y a small h = cc
 edits-small (mark_at t [] es) s z y a small h =
     let same : t ≡ s = agreed t (mark_at t [] es) s z ((λ m. refl), a.0) h in
-    ap (λ b. edits es (cond b (id t y) (whole y))) (small_id t y small) ∙ edits-id es t y ∙ ap (λ r. id r y) same
+    ap (λ b. edits es (cond b (id t y) (whole y))) (small_id t y small) ∙ edits-id es t y
+    ∙ ap (λ r. id r y) same
 edits-small (mark_at t (named k ∷ ps) es) s z y a small h = edits-small es s z y a.1 small h
 edits-small (mark_at t (each ∷ ps) es) s z y a small h = edits-small es s z y a.1 small h
 
@@ -225,10 +279,14 @@ abbrev pub SmallIds : List (Sort × ℤ) → Type 0
 SmallIds is = list_all (λ i. is_small i.1) is ≡ true
 
 pub small_left : (xs ys : List (Sort × ℤ)) → SmallIds (xs ++ ys) → SmallIds xs
-small_left xs ys h = and_left (list_all (λ i. is_small i.1) xs) (list_all (λ i. is_small i.1) ys) (sym (list_all-append (λ i. is_small i.1) xs ys) ∙ h)
+small_left xs ys h =
+    and_left (list_all (λ i. is_small i.1) xs) (list_all (λ i. is_small i.1) ys)
+    (sym (list_all-append (λ i. is_small i.1) xs ys) ∙ h)
 
 pub small_right : (xs ys : List (Sort × ℤ)) → SmallIds (xs ++ ys) → SmallIds ys
-small_right xs ys h = and_right (list_all (λ i. is_small i.1) xs) (list_all (λ i. is_small i.1) ys) (sym (list_all-append (λ i. is_small i.1) xs ys) ∙ h)
+small_right xs ys h =
+    and_right (list_all (λ i. is_small i.1) xs) (list_all (λ i. is_small i.1) ys)
+    (sym (list_all-append (λ i. is_small i.1) xs ys) ∙ h)
 
 same_lists : (ds es : Items) → list ds ≡ list es → ds ≡ es
 same_lists ds es h = cc
@@ -245,38 +303,59 @@ later_items d e ds es h = cc
 first_member : (k l : List ℕ) (d e : Doc) (ms os : Members) → member k d ms ≡ member l e os → d ≡ e
 first_member k l d e ms os h = cc
 
-later_members : (k l : List ℕ) (d e : Doc) (ms os : Members) → member k d ms ≡ member l e os → ms ≡ os
+later_members : (k l : List ℕ) (d e : Doc) (ms os : Members) → member k d ms ≡ member l e os
+    → ms ≡ os
 later_members k l d e ms os h = cc
 
 -- the places that give a document its ids give it the same ids with other small numbers
 mutual
-  pub edits-again : (es : Pending) → Agree es → (m : Doc) (ns : List ℤ) → SmallIds (ids (with_ids m ns)) → edits es (without_ids m) ≡ m → edits es (without_ids (with_ids m ns)) ≡ with_ids m ns
+  pub edits-again : (es : Pending) → Agree es → (m : Doc) (ns : List ℤ)
+      → SmallIds (ids (with_ids m ns)) → edits es (without_ids m) ≡ m
+      → edits es (without_ids (with_ids m ns)) ≡ with_ids m ns
   edits-again es a null ns small h = h
   edits-again es a (boolean b) ns small h = h
   edits-again es a (whole z) ns small h = h
   edits-again es a (text s) ns small h = h
   edits-again es a (list ds) ns small h =
       edits-list es (items_without_ids (items_with_ids ds ns))
-      ∙ ap list (items-again (for_items es) (agree_items es a) ds ns small (same_lists _ _ (sym (edits-list es (items_without_ids ds)) ∙ h)))
+      ∙ ap list (items-again (for_items es) (agree_items es a) ds ns small
+      (same_lists _ _ (sym (edits-list es (items_without_ids ds)) ∙ h)))
   edits-again es a (object ms) ns small h =
-      edits-object es (members_without_ids (members_with_ids ms ns)) ∙ ap object (members-again es a ms ns small (same_objects _ _ (sym (edits-object es (members_without_ids ms)) ∙ h)))
-  edits-again es a (id s z) ns small h = edits-small es s z (get_or ns 0 z) a (and_left (is_small (get_or ns 0 z)) true small) h
+      edits-object es (members_without_ids (members_with_ids ms ns))
+      ∙ ap object
+      (members-again es a ms ns small
+      (same_objects _ _ (sym (edits-object es (members_without_ids ms)) ∙ h)))
+  edits-again es a (id s z) ns small h =
+      edits-small es s z (get_or ns 0 z) a (and_left (is_small (get_or ns 0 z)) true small) h
 
-  items-again : (es : Pending) → Agree es → (ds : Items) (ns : List ℤ) → SmallIds (items_ids (items_with_ids ds ns)) → map_items (edits es) (items_without_ids ds) ≡ ds
+  items-again : (es : Pending) → Agree es → (ds : Items) (ns : List ℤ)
+      → SmallIds (items_ids (items_with_ids ds ns))
+      → map_items (edits es) (items_without_ids ds) ≡ ds
       → map_items (edits es) (items_without_ids (items_with_ids ds ns)) ≡ items_with_ids ds ns
   items-again es a no_items ns small h = refl
   items-again es a (item d ds) ns small h =
       let later = drop (id_count d) ns in
-      ap₂ item (edits-again es a d ns (small_left (ids (with_ids d ns)) (items_ids (items_with_ids ds later)) small) (first_item _ _ _ _ h))
-      (items-again es a ds later (small_right (ids (with_ids d ns)) (items_ids (items_with_ids ds later)) small) (later_items _ _ _ _ h))
+      ap₂ item (edits-again es a d ns
+      (small_left (ids (with_ids d ns)) (items_ids (items_with_ids ds later)) small)
+      (first_item _ _ _ _ h))
+      (items-again es a ds later
+      (small_right (ids (with_ids d ns)) (items_ids (items_with_ids ds later)) small)
+      (later_items _ _ _ _ h))
 
-  members-again : (es : Pending) → Agree es → (ms : Members) (ns : List ℤ) → SmallIds (members_ids (members_with_ids ms ns)) → members_edits es (members_without_ids ms) ≡ ms
+  members-again : (es : Pending) → Agree es → (ms : Members) (ns : List ℤ)
+      → SmallIds (members_ids (members_with_ids ms ns))
+      → members_edits es (members_without_ids ms) ≡ ms
       → members_edits es (members_without_ids (members_with_ids ms ns)) ≡ members_with_ids ms ns
   members-again es a no_members ns small h = h
   members-again es a (member k d ms) ns small h =
       let later = drop (id_count d) ns in
       let split = sym (members_edits-member es k (without_ids d) (members_without_ids ms)) ∙ h in
-      members_edits-member es k (without_ids (with_ids d ns)) (members_without_ids (members_with_ids ms later))
+      members_edits-member es k (without_ids (with_ids d ns))
+      (members_without_ids (members_with_ids ms later))
       ∙ ap₂ (member k)
-      (edits-again (for_member k es) (agree_member k es a) d ns (small_left (ids (with_ids d ns)) (members_ids (members_with_ids ms later)) small) (first_member _ _ _ _ _ _ split))
-      (members-again (for_others k es) (agree_others k es a) ms later (small_right (ids (with_ids d ns)) (members_ids (members_with_ids ms later)) small) (later_members _ _ _ _ _ _ split))
+      (edits-again (for_member k es) (agree_member k es a) d ns
+      (small_left (ids (with_ids d ns)) (members_ids (members_with_ids ms later)) small)
+      (first_member _ _ _ _ _ _ split))
+      (members-again (for_others k es) (agree_others k es a) ms later
+      (small_right (ids (with_ids d ns)) (members_ids (members_with_ids ms later)) small)
+      (later_members _ _ _ _ _ _ split))

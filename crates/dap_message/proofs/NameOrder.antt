@@ -1,5 +1,6 @@
 -- Which way a choice by the order of two names goes.
-use Rattle.std.proofs.Common.{◌≡◌, ℕ, true, false, List, Ordering, Less, Equal, Greater, nat_cmp, refl, ◌∙◌, is_eq}
+use Rattle.std.proofs.Common.{◌≡◌, ℕ, true, false, List, Ordering, Less, Equal, Greater, nat_cmp}
+use Rattle.std.proofs.Common.{refl, ◌∙◌, is_eq}
 use Rattle.std.proofs.lemmas.Map.Text.{is_eq-slice_cmp}
 use Rattle.std.proofs.lemmas.Slice.Eq.{bytes_eq-Decides}
 use Rattle.std.specs.Cmp.Lexicographic.{slice_cmp}

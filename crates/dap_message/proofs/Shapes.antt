@@ -1,13 +1,19 @@
--- Maps of a document that keep its shape: what members, lists and places look like in the document that they make.
-use Rattle.dap_tree.specs.Doc.{Doc, null, boolean, whole, text, list, object, id, Items, no_items, item, Members, no_members, member, get, get_member}
-use Rattle.dap_tree.specs.Ids.{ids, items_ids, members_ids, skeleton, items_skeleton, members_skeleton, without_ids, items_without_ids, members_without_ids}
-use Rattle.std.proofs.Common.{◌≡◌, ℕ, Bool, true, false, cond, ◌&&◌, List, [], ◌∷◌, ◌++◌, map, Option, Some, None, option_map, Ordering, Less, Equal, Greater, nat_cmp, codes, refl, sym, ◌∙◌, ap, ap₂}
+-- Maps of a document that keep its shape: what members, lists and places look like in the document
+-- that they make.
+use Rattle.dap_tree.specs.Doc.{Doc, null, boolean, whole, text, list, object, id, Items, no_items}
+use Rattle.dap_tree.specs.Doc.{item, Members, no_members, member, get, get_member}
+use Rattle.dap_tree.specs.Ids.{ids, items_ids, members_ids, skeleton, items_skeleton}
+use Rattle.dap_tree.specs.Ids.{members_skeleton, without_ids, items_without_ids}
+use Rattle.dap_tree.specs.Ids.{members_without_ids}
+use Rattle.std.proofs.Common.{◌≡◌, ℕ, Bool, true, false, cond, ◌&&◌, List, [], ◌∷◌, ◌++◌, map}
+use Rattle.std.proofs.Common.{Option, Some, None, option_map, Ordering, Less, Equal, Greater}
+use Rattle.std.proofs.Common.{nat_cmp, codes, refl, sym, ◌∙◌, ap, ap₂}
 use Rattle.std.specs.Cmp.Lexicographic.{slice_cmp}
 use Rattle.std.specs.List.{flat_map}
 use Rattle.std.specs.Option.{option_map_or}
 use Rattle.std.specs.Ordering.{match_ordering}
 use Rattle.dap_message.specs.Capabilities.{is_given}
-use Rattle.dap_message.specs.Places.{PlaceStep, named, each, found, is_object, list_of, elements}
+use Rattle.dap_message.specs.Places.{PlaceStep, named, each, parts_at, is_object, list_of, elements}
 use Rattle.dap_message.specs.Rows.{is_text, is_true, is_asked, may_have_body, type_name, name_key}
 use Rattle.dap_message.specs.declared.profile.Kind.{Kind}
 use Rattle.dap_message.specs.declared.profile.Kind.TheVariants.{Request, Response, Event}
@@ -28,54 +34,78 @@ pub record KeepsShape (h : Doc → Doc) : Type 0 where
   pub given : (o : Option Doc) → is_given (option_map h o) ≡ is_given o
 
 module _ (h : Doc → Doc) (keeps : KeepsShape h) where
-  found_member : (b : Bool) (o : Option Doc) → cond b (option_map h o ∷ []) [] ≡ map (option_map h) (cond b (o ∷ []) [])
+  found_member : (b : Bool) (o : Option Doc)
+      → cond b (option_map h o ∷ []) [] ≡ map (option_map h) (cond b (o ∷ []) [])
   found_member true o = refl
   found_member false o = refl
 
-  found_below : (ps : List PlaceStep) → ((e : Doc) → found ps (h e) ≡ map (option_map h) (found ps e)) → (o : Option Doc)
-      → option_map_or (found ps) (option_map h o) [] ≡ map (option_map h) (option_map_or (found ps) o [])
+  found_below : (ps : List PlaceStep)
+      → ((e : Doc) → parts_at ps (h e) ≡ map (option_map h) (parts_at ps e)) → (o : Option Doc)
+      → option_map_or (parts_at ps) (option_map h o) []
+      ≡ map (option_map h) (option_map_or (parts_at ps) o [])
   found_below ps same None = refl
   found_below ps same (Some e) = same e
 
-  found_each : (ps : List PlaceStep) → ((e : Doc) → found ps (h e) ≡ map (option_map h) (found ps e)) → (ds : List Doc)
-      → flat_map (found ps) (map h ds) ≡ map (option_map h) (flat_map (found ps) ds)
+  found_each : (ps : List PlaceStep)
+      → ((e : Doc) → parts_at ps (h e) ≡ map (option_map h) (parts_at ps e)) → (ds : List Doc)
+      → flat_map (parts_at ps) (map h ds) ≡ map (option_map h) (flat_map (parts_at ps) ds)
   found_each ps same [] = refl
-  found_each ps same (d ∷ ds) = ap₂ (λ a b. a ++ b) (same d) (found_each ps same ds) ∙ sym (map_append (option_map h) (found ps d) (flat_map (found ps) ds))
+  found_each ps same (d ∷ ds) =
+      ap₂ (λ a b. a ++ b) (same d) (found_each ps same ds)
+      ∙ sym (map_append (option_map h) (parts_at ps d) (flat_map (parts_at ps) ds))
 
-  found_list : (ps : List PlaceStep) → ((e : Doc) → found ps (h e) ≡ map (option_map h) (found ps e)) → (o : Option (List Doc))
-      → option_map_or (flat_map (found ps)) (option_map (map h) o) [] ≡ map (option_map h) (option_map_or (flat_map (found ps)) o [])
+  found_list : (ps : List PlaceStep)
+      → ((e : Doc) → parts_at ps (h e) ≡ map (option_map h) (parts_at ps e))
+      → (o : Option (List Doc))
+      → option_map_or (flat_map (parts_at ps)) (option_map (map h) o) []
+      ≡ map (option_map h) (option_map_or (flat_map (parts_at ps)) o [])
   found_list ps same None = refl
   found_list ps same (Some ds) = found_each ps same ds
 
-  pub found-shape : (ps : List PlaceStep) (d : Doc) → found ps (h d) ≡ map (option_map h) (found ps d)
+  pub found-shape : (ps : List PlaceStep) (d : Doc)
+      → parts_at ps (h d) ≡ map (option_map h) (parts_at ps d)
   found-shape [] d = refl
-  found-shape (named k ∷ []) d = ap₂ (λ b o. cond b (o ∷ []) []) (keeps.is_object d) (keeps.member k d) ∙ found_member (is_object d) (get k d)
-  found-shape (named k ∷ p ∷ ps) d = ap (λ o. option_map_or (found (p ∷ ps)) o []) (keeps.member k d) ∙ found_below (p ∷ ps) (λ e. found-shape (p ∷ ps) e) (get k d)
-  found-shape (each ∷ ps) d = ap (λ o. option_map_or (flat_map (found ps)) o []) (keeps.list d) ∙ found_list ps (λ e. found-shape ps e) (list_of d)
+  found-shape (named k ∷ []) d =
+      ap₂ (λ b o. cond b (o ∷ []) []) (keeps.is_object d) (keeps.member k d)
+      ∙ found_member (is_object d) (get k d)
+  found-shape (named k ∷ p ∷ ps) d =
+      ap (λ o. option_map_or (parts_at (p ∷ ps)) o []) (keeps.member k d)
+      ∙ found_below (p ∷ ps) (λ e. found-shape (p ∷ ps) e) (get k d)
+  found-shape (each ∷ ps) d =
+      ap (λ o. option_map_or (flat_map (parts_at ps)) o []) (keeps.list d)
+      ∙ found_list ps (λ e. found-shape ps e) (list_of d)
 
   pub text-shape : (w k : List ℕ) (d : Doc) → is_text w (get k (h d)) ≡ is_text w (get k d)
   text-shape w k d = ap (is_text w) (keeps.member k d) ∙ keeps.text w (get k d)
 
   body-shape : (k : Kind) (d : Doc) → may_have_body k (h d) ≡ may_have_body k d
   body-shape Request d = refl
-  body-shape Response d = ap is_true (keeps.member (codes "success") d) ∙ keeps.boolean (get (codes "success") d)
+  body-shape Response d =
+      ap is_true (keeps.member (codes "success") d) ∙ keeps.boolean (get (codes "success") d)
   body-shape Event d = refl
 
   pub asked-shape : (d : Doc) → AskedAlike d (h d)
   asked-shape d None n = refl
   asked-shape d (Some k) None = text-shape (type_name k) (codes "type") d
-  asked-shape d (Some k) (Some n) = ap₂ (λ a b. a && b) (ap₂ (λ a b. a && b) (text-shape (type_name k) (codes "type") d) (text-shape n (name_key k) d)) (body-shape k d)
+  asked-shape d (Some k) (Some n) =
+      ap₂ (λ a b. a && b)
+      (ap₂ (λ a b. a && b) (text-shape (type_name k) (codes "type") d)
+      (text-shape n (name_key k) d)) (body-shape k d)
 
 -- ---- the ids as numbers
 
-at_without : (o : Ordering) (d : Doc) (a b : Option Doc) → a ≡ option_map without_ids b → match_ordering o a (Some (without_ids d)) a ≡ option_map without_ids (match_ordering o b (Some d) b)
+at_without : (o : Ordering) (d : Doc) (a b : Option Doc) → a ≡ option_map without_ids b
+    → match_ordering o a (Some (without_ids d)) a
+    ≡ option_map without_ids (match_ordering o b (Some d) b)
 at_without Less d a b h = h
 at_without Equal d a b h = refl
 at_without Greater d a b h = h
 
-get_member-without : (k : List ℕ) (ms : Members) → get_member k (members_without_ids ms) ≡ option_map without_ids (get_member k ms)
+get_member-without : (k : List ℕ) (ms : Members)
+    → get_member k (members_without_ids ms) ≡ option_map without_ids (get_member k ms)
 get_member-without k no_members = refl
-get_member-without k (member l d ms) = at_without (slice_cmp nat_cmp k l) d _ _ (get_member-without k ms)
+get_member-without k (member l d ms) =
+    at_without (slice_cmp nat_cmp k l) d _ _ (get_member-without k ms)
 
 get-without : (k : List ℕ) (d : Doc) → get k (without_ids d) ≡ option_map without_ids (get k d)
 get-without k null = refl
@@ -139,18 +169,29 @@ given-without (Some (object ms)) = refl
 given-without (Some (id s z)) = refl
 
 pub without_keeps : KeepsShape without_ids
-without_keeps = record { member = get-without; is_object = object-without; list = list-without; text = text-without; boolean = true-without; given = given-without }
+without_keeps =
+    record {
+      member = get-without;
+      is_object = object-without;
+      list = list-without;
+      text = text-without;
+      boolean = true-without;
+      given = given-without;
+    }
 
 -- ---- the skeleton
 
-at_skeleton : (o : Ordering) (d : Doc) (a b : Option Doc) → a ≡ option_map skeleton b → match_ordering o a (Some (skeleton d)) a ≡ option_map skeleton (match_ordering o b (Some d) b)
+at_skeleton : (o : Ordering) (d : Doc) (a b : Option Doc) → a ≡ option_map skeleton b
+    → match_ordering o a (Some (skeleton d)) a ≡ option_map skeleton (match_ordering o b (Some d) b)
 at_skeleton Less d a b h = h
 at_skeleton Equal d a b h = refl
 at_skeleton Greater d a b h = h
 
-get_member-skeleton : (k : List ℕ) (ms : Members) → get_member k (members_skeleton ms) ≡ option_map skeleton (get_member k ms)
+get_member-skeleton : (k : List ℕ) (ms : Members)
+    → get_member k (members_skeleton ms) ≡ option_map skeleton (get_member k ms)
 get_member-skeleton k no_members = refl
-get_member-skeleton k (member l d ms) = at_skeleton (slice_cmp nat_cmp k l) d _ _ (get_member-skeleton k ms)
+get_member-skeleton k (member l d ms) =
+    at_skeleton (slice_cmp nat_cmp k l) d _ _ (get_member-skeleton k ms)
 
 get-skeleton : (k : List ℕ) (d : Doc) → get k (skeleton d) ≡ option_map skeleton (get k d)
 get-skeleton k null = refl
@@ -214,10 +255,19 @@ given-skeleton (Some (object ms)) = refl
 given-skeleton (Some (id s z)) = refl
 
 pub skeleton_keeps : KeepsShape skeleton
-skeleton_keeps = record { member = get-skeleton; is_object = object-skeleton; list = list-skeleton; text = text-skeleton; boolean = true-skeleton; given = given-skeleton }
+skeleton_keeps =
+    record {
+      member = get-skeleton;
+      is_object = object-skeleton;
+      list = list-skeleton;
+      text = text-skeleton;
+      boolean = true-skeleton;
+      given = given-skeleton;
+    }
 
 -- two documents of one skeleton are asked the same rows, their ids as numbers
-pub asked_without : (m n : Doc) → skeleton n ≡ skeleton m → AskedAlike (without_ids m) (without_ids n)
+pub asked_without : (m n : Doc) → skeleton n ≡ skeleton m
+    → AskedAlike (without_ids m) (without_ids n)
 asked_without m n same k o =
     asked-shape without_ids without_keeps n k o
     ∙ sym (asked-shape skeleton skeleton_keeps n k o)
@@ -235,9 +285,12 @@ abbrev pub AllSmall : List (Option Doc) → Type 0
 AllSmall [] = Unit {0}
 AllSmall (o ∷ os) = SmallAt o × AllSmall os
 
-small_get_member : (k : List ℕ) (ms : Members) → SmallIds (members_ids ms) → SmallAt (get_member k ms)
+small_get_member : (k : List ℕ) (ms : Members) → SmallIds (members_ids ms)
+    → SmallAt (get_member k ms)
 small_get_member k no_members h = tt
-small_get_member k (member l d ms) h = pick (slice_cmp nat_cmp k l) (get_member k ms) (small_get_member k ms (small_right (ids d) (members_ids ms) h))
+small_get_member k (member l d ms) h =
+    pick (slice_cmp nat_cmp k l) (get_member k ms)
+    (small_get_member k ms (small_right (ids d) (members_ids ms) h))
   where
     pick : (o : Ordering) (r : Option Doc) → SmallAt r → SmallAt (match_ordering o r (Some d) r)
     pick Less r g = g
@@ -257,16 +310,22 @@ all_small_append : (xs ys : List (Option Doc)) → AllSmall xs → AllSmall ys �
 all_small_append [] ys h g = g
 all_small_append (x ∷ xs) ys h g = (h.0, all_small_append xs ys h.1 g)
 
-small_below : (ps : List PlaceStep) → ((e : Doc) → SmallIds (ids e) → AllSmall (found ps e)) → (o : Option Doc) → SmallAt o → AllSmall (option_map_or (found ps) o [])
+small_below : (ps : List PlaceStep) → ((e : Doc) → SmallIds (ids e) → AllSmall (parts_at ps e))
+    → (o : Option Doc) → SmallAt o → AllSmall (option_map_or (parts_at ps) o [])
 small_below ps below None h = tt
 small_below ps below (Some e) h = below e h
 
-small_each : (ps : List PlaceStep) → ((e : Doc) → SmallIds (ids e) → AllSmall (found ps e)) → (ds : Items) → SmallIds (items_ids ds) → AllSmall (flat_map (found ps) (elements ds))
+small_each : (ps : List PlaceStep) → ((e : Doc) → SmallIds (ids e) → AllSmall (parts_at ps e))
+    → (ds : Items) → SmallIds (items_ids ds) → AllSmall (flat_map (parts_at ps) (elements ds))
 small_each ps below no_items h = tt
 small_each ps below (item d ds) h =
-    all_small_append (found ps d) (flat_map (found ps) (elements ds)) (below d (small_left (ids d) (items_ids ds) h)) (small_each ps below ds (small_right (ids d) (items_ids ds) h))
+    all_small_append (parts_at ps d) (flat_map (parts_at ps) (elements ds))
+    (below d (small_left (ids d) (items_ids ds) h))
+    (small_each ps below ds (small_right (ids d) (items_ids ds) h))
 
-small_list : (ps : List PlaceStep) → ((e : Doc) → SmallIds (ids e) → AllSmall (found ps e)) → (d : Doc) → SmallIds (ids d) → AllSmall (option_map_or (flat_map (found ps)) (list_of d) [])
+small_list : (ps : List PlaceStep) → ((e : Doc) → SmallIds (ids e) → AllSmall (parts_at ps e))
+    → (d : Doc) → SmallIds (ids d)
+    → AllSmall (option_map_or (flat_map (parts_at ps)) (list_of d) [])
 small_list ps below null h = tt
 small_list ps below (boolean b) h = tt
 small_list ps below (whole z) h = tt
@@ -279,8 +338,9 @@ small_one : (b : Bool) (o : Option Doc) → SmallAt o → AllSmall (cond b (o �
 small_one true o h = (h, tt)
 small_one false o h = tt
 
-pub small_found : (ps : List PlaceStep) (d : Doc) → SmallIds (ids d) → AllSmall (found ps d)
+pub small_found : (ps : List PlaceStep) (d : Doc) → SmallIds (ids d) → AllSmall (parts_at ps d)
 small_found [] d h = (h, tt)
 small_found (named k ∷ []) d h = small_one (is_object d) (get k d) (small_get k d h)
-small_found (named k ∷ p ∷ ps) d h = small_below (p ∷ ps) (λ e g. small_found (p ∷ ps) e g) (get k d) (small_get k d h)
+small_found (named k ∷ p ∷ ps) d h =
+    small_below (p ∷ ps) (λ e g. small_found (p ∷ ps) e g) (get k d) (small_get k d h)
 small_found (each ∷ ps) d h = small_list ps (λ e g. small_found ps e g) d h

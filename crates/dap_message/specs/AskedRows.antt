@@ -1,14 +1,17 @@
--- The rows that are asked of a message: found by its kind and its name, and what is broken and marked by them.
+-- The rows that are asked of a message: found by its kind and its name, and what is broken and
+-- marked by them.
 use Rattle.dap_tree.specs.Doc.{Doc, get}
 use Rattle.dap_tree.specs.declared.side.Side.{Side}
-use Rattle.std.specs.Prelude.{ℕ, Bool, true, false, cond, ◌&&◌, List, [], ◌∷◌, map, Option, Some, None, option_map, option_and_then, bytes_eq, codes}
+use Rattle.std.specs.Prelude.{ℕ, Bool, true, false, cond, ◌&&◌, List, [], ◌∷◌, map, Option, Some}
+use Rattle.std.specs.Prelude.{None, option_map, option_and_then, bytes_eq, codes}
 use Rattle.std.specs.Borrow.{Bor}
 use Rattle.std.specs.List.{filter, flat_map, list_all}
 use Rattle.std.specs.Option.{option_or, option_map_or}
 use Rattle.dap_message.specs.Envelope.{text_value}
 use Rattle.dap_message.specs.Marks.{sort_of, marked, edit}
 use Rattle.dap_message.specs.Profile.{profile}
-use Rattle.dap_message.specs.Rows.{ProfileRow, row_of, is_asked, type_name, name_key, may_have_body, of_row, broken_at}
+use Rattle.dap_message.specs.Rows.{ProfileRow, row_of, is_asked, type_name, name_key, may_have_body}
+use Rattle.dap_message.specs.Rows.{of_row, broken_at}
 use Rattle.dap_message.specs.declared.fault.MessageFault.{MessageFault}
 use Rattle.dap_message.specs.declared.profile.Kind.{Kind}
 use Rattle.dap_message.specs.declared.profile.Kind.TheVariants.{Request, Response, Event}
@@ -26,7 +29,10 @@ rows_in stretches = flat_map (λ rows. map row_of rows.now) stretches
 
 -- The kind with this `type`.
 abbrev pub kind_typed : List ℕ → Option Kind
-kind_typed s = cond (bytes_eq (type_name Request) s) (Some Request) (cond (bytes_eq (type_name Response) s) (Some Response) (cond (bytes_eq (type_name Event) s) (Some Event) None))
+kind_typed s =
+    cond (bytes_eq (type_name Request) s) (Some Request)
+    (cond (bytes_eq (type_name Response) s) (Some Response)
+    (cond (bytes_eq (type_name Event) s) (Some Event) None))
 
 -- The kind of a document, if it has one.
 abbrev pub kind_told : Doc → Option Kind
@@ -52,7 +58,9 @@ has_name n r = option_map_or (λ m. option_map_or (bytes_eq m) n false) r.name f
 
 -- The row is asked of a document of this kind and name.
 abbrev pub asks : Option Kind → Option (List ℕ) → ProfileRow → Bool
-asks k n r = option_map_or (λ j. option_map_or (same_kind j) k false && option_map_or (λ m. option_map_or (bytes_eq m) n false) r.name true) r.kind true
+asks k n r =
+    option_map_or (λ j. option_map_or (same_kind j) k false
+    && option_map_or (λ m. option_map_or (bytes_eq m) n false) r.name true) r.kind true
 
 -- The rows that are asked of it, in order.
 unfoldable pub rows_asked : Option Kind → Option (List ℕ) → List ProfileRow
@@ -64,10 +72,10 @@ rows_asked k n = filter (asks k n) profile
 unfoldable pub rows_named : Option (List ℕ) → List ProfileRow → List ProfileRow
 rows_named n rs = filter (has_name n) rs
 
--- The rows from the front on that pass.
-abbrev pub front : (ProfileRow → Bool) → List ProfileRow → List ProfileRow
-front p [] = []
-front p (r ∷ rs) = cond (p r) (r ∷ front p rs) []
+-- The leading rows that pass.
+abbrev pub leading : (ProfileRow → Bool) → List ProfileRow → List ProfileRow
+leading p [] = []
+leading p (r ∷ rs) = cond (p r) (r ∷ leading p rs) []
 
 abbrev pub none_of : (ProfileRow → Bool) → List ProfileRow → Bool
 none_of p [] = true

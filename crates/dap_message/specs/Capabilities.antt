@@ -1,5 +1,7 @@
--- The capabilities that are read as false where an adapter's response to `initialize` leaves them out.
-use Rattle.dap_tree.specs.Doc.{Doc, null, boolean, object, Members, no_members, put, get_member, change_child}
+-- The capabilities that are read as false where an adapter's response to `initialize` leaves them
+-- out.
+use Rattle.dap_tree.specs.Doc.{Doc, null, boolean, object, Members, no_members, put, get_member}
+use Rattle.dap_tree.specs.Doc.{change_child}
 use Rattle.dap_tree.specs.declared.side.Side.{Side}
 use Rattle.dap_tree.specs.declared.side.Side.TheVariants.{Client, Adapter}
 use Rattle.std.specs.Prelude.{ℕ, Bool, true, false, cond, List, [], ◌∷◌, Option, Some, None, codes}
@@ -31,12 +33,14 @@ abbrev pub false_at : List (List ℕ) → Doc → Doc
 false_at ks (object ms) = object (false_members ks ms)
 false_at ks d = d
 
--- An adapter tells its capabilities in its successful response to `initialize` (DAP specification). Its `capabilities` event tells only those that change, so nothing is added there.
+-- An adapter tells its capabilities in its successful response to `initialize` (DAP specification).
+-- Its `capabilities` event tells only those that change, so nothing is added there.
 abbrev pub tells_capabilities : Side → Doc → Bool
 tells_capabilities Client d = false
 tells_capabilities Adapter d = is_asked (Some Response) (Some (codes "initialize")) d
 
--- The names of the capabilities that are true or false (DAP specification, Capabilities), in byte order.
+-- The names of the capabilities that are true or false (DAP specification, Capabilities), in byte
+-- order.
 abbrev pub capabilities : List (List ℕ)
 capabilities =
     codes "supportSuspendDebuggee"
@@ -76,9 +80,12 @@ capabilities =
     ∷ codes "supportsWriteMemoryRequest"
     ∷ []
 
--- An absent or null body is an empty object, and in it each absent or null capability is false: all are optional in the DAP specification, and the reading as false is own.
+-- An absent or null body is an empty object, and in it each absent or null capability is false: all
+-- are optional in the DAP specification, and the reading as false is own.
 unfoldable pub with_capabilities : Doc → Doc
-with_capabilities d = change_child (codes "body") (false_at capabilities) (default_to (codes "body") (object no_members) d)
+with_capabilities d =
+    change_child (codes "body") (false_at capabilities)
+    (default_to (codes "body") (object no_members) d)
 
 -- The document with the capabilities that its side may leave out.
 abbrev pub filled : Side → Doc → Doc

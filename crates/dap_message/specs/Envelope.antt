@@ -1,6 +1,7 @@
 -- The members that every message of a kind has.
 use Rattle.dap_tree.specs.Doc.{Doc, boolean, text, id, get}
-use Rattle.std.specs.Prelude.{ℕ, ℤ, Bool, cond, ◌&&◌, ◌||◌, List, Option, Some, None, is_some, codes}
+use Rattle.std.specs.Prelude.{ℕ, ℤ, Bool, cond, ◌&&◌, ◌||◌, List, Option, Some, None, is_some}
+use Rattle.std.specs.Prelude.{codes}
 use Rattle.dap_message.specs.Rows.{is_of_kind, name_key}
 use Rattle.dap_message.specs.declared.profile.Kind.{Kind}
 use Rattle.dap_message.specs.declared.profile.Kind.TheVariants.{Request, Response, Event}
@@ -30,7 +31,8 @@ name_of d = text_value (get (name_key (kind_of d)) d)
 abbrev pub seq_of : Doc → Option ℤ
 seq_of d = id_number (get (codes "seq") d)
 
--- The sequence number of the request that a response answers (DAP specification, Response.request_seq); None but for a response.
+-- The sequence number of the request that a response answers (DAP specification,
+-- Response.request_seq); None but for a response.
 abbrev pub request_seq_of : Doc → Option ℤ
 request_seq_of d = cond (is_of_kind Response d) (id_number (get (codes "request_seq") d)) None
 
@@ -42,8 +44,11 @@ success_of d = cond (is_of_kind Response d) (boolean_value (get (codes "success"
 abbrev pub is_named : Kind → Doc → Bool
 is_named k d = is_of_kind k d && is_some (text_value (get (name_key k) d))
 
--- A message has a `seq`, a kind and a name, and a response what it answers and whether it succeeded (DAP specification, ProtocolMessage, Request, Event and Response).
+-- A message has a `seq`, a kind and a name, and a response what it answers and whether it succeeded
+-- (DAP specification, ProtocolMessage, Request, Event and Response).
 abbrev pub has_envelope : Doc → Bool
 has_envelope d =
     is_some (seq_of d)
-    && (is_named Request d || (is_named Response d && is_some (id_number (get (codes "request_seq") d)) && is_some (boolean_value (get (codes "success") d))) || is_named Event d)
+    && (is_named Request d
+    || (is_named Response d && is_some (id_number (get (codes "request_seq") d))
+    && is_some (boolean_value (get (codes "success") d))) || is_named Event d)

@@ -9,17 +9,21 @@ use Rattle.dap_message.specs.Capabilities.{filled}
 use Rattle.dap_message.specs.Envelope.{kind_of, name_of, success_of, has_envelope}
 use Rattle.dap_message.specs.Faults.{Fits}
 use Rattle.dap_message.specs.Marks.{IsMarked, mark}
-use Rattle.dap_message.specs.Message.{IsTyped, IsTypedAs, IsTypedContent, Refusal, HasRefusal, side_of}
+use Rattle.dap_message.specs.Message.{IsTyped, IsTypedAs, IsTypedContent, Refusal, HasRefusal}
+use Rattle.dap_message.specs.Message.{side_of}
 use Rattle.dap_message.specs.Numbers.{is_proper, has_small_ids, renumbered}
 use Rattle.dap_message.specs.Profile.{profile}
-use Rattle.dap_message.specs.Views.{frame_of, frames_of, listed_frames, scope_of, scopes_of, listed_scopes, variable_of, variables_of, listed_variables, shows_all}
+use Rattle.dap_message.specs.Views.{frame_of, frames_of, listed_frames, scope_of, scopes_of}
+use Rattle.dap_message.specs.Views.{listed_scopes, variable_of, variables_of, listed_variables}
+use Rattle.dap_message.specs.Views.{shows_all}
 use Rattle.dap_message.specs.declared.message.Message.{Message}
 
 -- ---- one outcome of a content
 
 -- A content is one message at most.
 abbrev pub OneMessage : Type 0
-OneMessage = (side : Side) (bytes : List ℕ) (m n : Doc) → IsTypedContent side bytes m → IsTypedContent side bytes n → m ≡ n
+OneMessage = (side : Side) (bytes : List ℕ) (m n : Doc) → IsTypedContent side bytes m
+    → IsTypedContent side bytes n → m ≡ n
 
 -- A content is refused for one reason at most.
 abbrev pub OneRefusal : Type 0
@@ -27,11 +31,13 @@ OneRefusal = (bytes : List ℕ) (e f : Refusal) → HasRefusal bytes e → HasRe
 
 -- No message is refused.
 abbrev pub TypedNotRefused : Type 0
-TypedNotRefused = (side : Side) (bytes : List ℕ) (m : Doc) (e : Refusal) → IsTypedContent side bytes m → HasRefusal bytes e → ⊥
+TypedNotRefused = (side : Side) (bytes : List ℕ) (m : Doc) (e : Refusal)
+    → IsTypedContent side bytes m → HasRefusal bytes e → ⊥
 
 -- Every content is a message or is refused.
 abbrev pub SomeMessage : Type 0
-SomeMessage = (side : Side) (bytes : List ℕ) → ((m : Doc) × IsTypedContent side bytes m) ⊎ ((e : Refusal) × HasRefusal bytes e)
+SomeMessage = (side : Side) (bytes : List ℕ)
+    → ((m : Doc) × IsTypedContent side bytes m) ⊎ ((e : Refusal) × HasRefusal bytes e)
 
 -- ---- what every message keeps
 
@@ -41,7 +47,8 @@ TypedSide = (side : Side) (d : Doc) (m : Message) → IsTypedAs side d m → sid
 
 -- No id is a variables reference of 0.
 abbrev pub TypedProper : Type 0
-TypedProper = (side : Side) (d m : Doc) → is_plain d ≡ true → IsTyped side d m → Contains (ids m) (Reference, pos 0) → ⊥
+TypedProper = (side : Side) (d m : Doc) → is_plain d ≡ true → IsTyped side d m
+    → Contains (ids m) (Reference, pos 0) → ⊥
 
 -- The document of a message is sound, and has the members of its kind.
 abbrev pub TypedSound : Type 0
@@ -52,12 +59,14 @@ TypedEnveloped = (side : Side) (d m : Doc) → IsTyped side d m → has_envelope
 
 -- Its members stand in order, and its texts are UTF-8, where those of the document do and are.
 abbrev pub TypedOrdered : Type 0
-TypedOrdered = (side : Side) (d m : Doc) → is_ordered d ≡ true → IsTyped side d m → is_ordered m ≡ true
+TypedOrdered = (side : Side) (d m : Doc) → is_ordered d ≡ true → IsTyped side d m
+    → is_ordered m ≡ true
 
 abbrev pub TypedUtf8 : Type 0
 TypedUtf8 = (side : Side) (d m : Doc) → all_utf8 d ≡ true → IsTyped side d m → all_utf8 m ≡ true
 
--- A well-formed document of a message (own): none of its ids is a variables reference of 0, it is sound, it has the members of its kind, its members stand in order, and its texts are UTF-8.
+-- A well-formed document of a message (own): none of its ids is a variables reference of 0, it is
+-- sound, it has the members of its kind, its members stand in order, and its texts are UTF-8.
 pub record IsWellFormed (m : Doc) : Type 0 where
   pub proper : is_proper m ≡ true
   pub sound : is_sound m ≡ true
@@ -67,13 +76,15 @@ pub record IsWellFormed (m : Doc) : Type 0 where
 
 -- The document of a content's message is well-formed, with no premise on what was read.
 abbrev pub ContentWellFormed : Type 0
-ContentWellFormed = (side : Side) (bytes : List ℕ) (m : Doc) → IsTypedContent side bytes m → IsWellFormed m
+ContentWellFormed = (side : Side) (bytes : List ℕ) (m : Doc) → IsTypedContent side bytes m
+    → IsWellFormed m
 
 -- ---- views
 
 -- Each frame, scope and variable that the message of a content lists has what is shown of it.
 abbrev pub ContentShown : Type 0
-ContentShown = (side : Side) (bytes : List ℕ) (m : Doc) → IsTypedContent side bytes m → shows_all m ≡ true
+ContentShown = (side : Side) (bytes : List ℕ) (m : Doc) → IsTypedContent side bytes m
+    → shows_all m ≡ true
 
 -- So it is with other numbers at the ids.
 abbrev pub ShownAlike : Type 0
@@ -82,31 +93,40 @@ ShownAlike = (m n : Doc) → skeleton n ≡ skeleton m → shows_all n ≡ shows
 -- Then they are all elements of the list, in its order.
 abbrev pub EachShown : Type 0
 EachShown = (m : Doc) → shows_all m ≡ true
-    → (map Some (frames_of m) ≡ map frame_of (listed_frames m)) × (map Some (scopes_of m) ≡ map scope_of (listed_scopes m)) × (map Some (variables_of m) ≡ map variable_of (listed_variables m))
+    → (map Some (frames_of m) ≡ map frame_of (listed_frames m))
+    × (map Some (scopes_of m) ≡ map scope_of (listed_scopes m))
+    × (map Some (variables_of m) ≡ map variable_of (listed_variables m))
 
 -- ---- typed again
 
--- A document that differs from a message at the numbers of its ids alone, each from 1 to 2,147,483,647, is typed as itself with its ids as numbers.
+-- A document that differs from a message at the numbers of its ids alone, each from 1 to
+-- 2,147,483,647, is typed as itself with its ids as numbers.
 abbrev pub TypedAgain : Type 0
-TypedAgain = (side : Side) (d m n : Doc) → is_plain d ≡ true → IsTyped side d m → skeleton n ≡ skeleton m → has_small_ids n ≡ true → IsTyped side (without_ids n) n
+TypedAgain = (side : Side) (d m n : Doc) → is_plain d ≡ true → IsTyped side d m
+    → skeleton n ≡ skeleton m → has_small_ids n ≡ true → IsTyped side (without_ids n) n
 
--- Where some content is that of the message, the text of such a document is the content of that very document.
+-- Where some content is that of the message, the text of such a document is the content of that
+-- very document.
 abbrev pub ContentTypedAgain : Type 0
-ContentTypedAgain = (side : Side) (bytes : List ℕ) (m n : Doc) → IsTypedContent side bytes m → skeleton n ≡ skeleton m → has_small_ids n ≡ true → IsTypedContent side (text_of n) n
+ContentTypedAgain = (side : Side) (bytes : List ℕ) (m n : Doc) → IsTypedContent side bytes m
+    → skeleton n ≡ skeleton m → has_small_ids n ≡ true → IsTypedContent side (text_of n) n
 
 -- A message with its own ids, whatever their numbers, is typed as itself too.
 abbrev pub OwnContentTypedAgain : Type 0
-OwnContentTypedAgain = (side : Side) (d m : Doc) → is_plain d ≡ true → IsTyped side d m → IsTyped side (without_ids m) m
+OwnContentTypedAgain = (side : Side) (d m : Doc) → is_plain d ≡ true → IsTyped side d m
+    → IsTyped side (without_ids m) m
 
 -- ---- what other numbers keep
 
 -- The skeleton tells a message's kind, its name and its success.
 abbrev pub SkeletonTells : Type 0
-SkeletonTells = (m n : Doc) → skeleton n ≡ skeleton m → (kind_of n ≡ kind_of m) × (name_of n ≡ name_of m) × (success_of n ≡ success_of m)
+SkeletonTells = (m n : Doc) → skeleton n ≡ skeleton m
+    → (kind_of n ≡ kind_of m) × (name_of n ≡ name_of m) × (success_of n ≡ success_of m)
 
 -- The i-th id gets the i-th number.
 abbrev pub Renumbers : Type 0
-Renumbers = (d : Doc) (ns : List ℤ) → length ns ≡ length (ids d) → ids (with_ids d ns) ≡ renumbered d ns
+Renumbers = (d : Doc) (ns : List ℤ) → length ns ≡ length (ids d)
+    → ids (with_ids d ns) ≡ renumbered d ns
 
 -- ---- marks and capabilities
 
@@ -116,7 +136,8 @@ MarkedByPath = (side : Side) (d : Doc) → IsMarked profile side d (mark side d)
 
 -- No other document has just those ids.
 abbrev pub OneMarked : Type 0
-OneMarked = (side : Side) (d e : Doc) → is_ordered d ≡ true → IsMarked profile side d e → e ≡ mark side d
+OneMarked = (side : Side) (d e : Doc) → is_ordered d ≡ true → IsMarked profile side d e
+    → e ≡ mark side d
 
 -- Capabilities that are filled in break no row.
 abbrev pub FilledFits : Type 0

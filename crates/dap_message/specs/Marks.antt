@@ -1,11 +1,15 @@
--- The ids of a message: which of its numbers are ids, said path by path, and the same as a document.
-use Rattle.dap_tree.specs.Doc.{Doc, null, whole, list, object, id, Items, no_items, item, Members, no_members, member, change_child, change_items}
+-- The ids of a message: which of its numbers are ids, said path by path, and the same as a
+-- document.
+use Rattle.dap_tree.specs.Doc.{Doc, null, whole, list, object, id, Items, no_items, item, Members}
+use Rattle.dap_tree.specs.Doc.{no_members, member, change_child, change_items}
 use Rattle.dap_tree.specs.Path.{Step, at}
 use Rattle.dap_tree.specs.declared.side.Side.{Side}
 use Rattle.dap_tree.specs.declared.side.Side.TheVariants.{Client, Adapter}
 use Rattle.dap_tree.specs.declared.sort.Sort.{Sort}
-use Rattle.dap_tree.specs.declared.sort.Sort.TheVariants.{ClientSeq, AdapterSeq, Frame as FrameSort, Reference as ReferenceSort}
-use Rattle.std.specs.Prelude.{◌≡◌, ℤ, pos, Bool, cond, not, ◌&&◌, List, [], ◌∷◌, Option, Some, None, option_map}
+use Rattle.dap_tree.specs.declared.sort.Sort.TheVariants.{ClientSeq, AdapterSeq, Frame as FrameSort}
+use Rattle.dap_tree.specs.declared.sort.Sort.TheVariants.{Reference as ReferenceSort}
+use Rattle.std.specs.Prelude.{◌≡◌, ℤ, pos, Bool, cond, not, ◌&&◌, List, [], ◌∷◌, Option, Some, None}
+use Rattle.std.specs.Prelude.{option_map}
 use Rattle.std.specs.Option.{option_map_or}
 use Rattle.std.specs.Ordering.{int_eq}
 use Rattle.dap_message.specs.Places.{PlaceStep, named, each, fits_place}
@@ -14,7 +18,8 @@ use Rattle.dap_message.specs.Rows.{ProfileRow, is_asked, is_id_number}
 use Rattle.dap_message.specs.declared.profile.Want.{Want}
 use Rattle.dap_message.specs.declared.profile.Want.TheVariants.{OwnSeq, OtherSeq, Frame, Reference}
 
--- The sort of the id that is wanted: each side counts its own messages (DAP specification, ProtocolMessage.seq), so `request_seq` is of the other side.
+-- The sort of the id that is wanted: each side counts its own messages (DAP specification,
+-- ProtocolMessage.seq), so `request_seq` is of the other side.
 abbrev pub sort_of : Side → Want → Option Sort
 sort_of Client OwnSeq = Some ClientSeq
 sort_of Adapter OwnSeq = Some AdapterSeq
@@ -24,7 +29,8 @@ sort_of side Frame = Some FrameSort
 sort_of side Reference = Some ReferenceSort
 sort_of side _ = None
 
--- A variables reference of 0 refers to nothing (DAP specification, Variable.variablesReference), so it is no id.
+-- A variables reference of 0 refers to nothing (DAP specification, Variable.variablesReference), so
+-- it is no id.
 abbrev pub is_id_of : Sort → ℤ → Bool
 is_id_of ReferenceSort n = is_id_number n && not (int_eq n (pos 0))
 is_id_of s n = is_id_number n
@@ -36,9 +42,12 @@ marked _ d = d
 
 -- ---- path by path
 
--- What a row makes of what stands at a path: an id, where the row is asked, wants one and speaks of the path.
+-- What a row makes of what stands at a path: an id, where the row is asked, wants one and speaks of
+-- the path.
 abbrev pub made_by : ProfileRow → Side → Doc → List Step → Doc → Doc
-made_by r side d p x = option_map_or (λ s. cond (is_asked r.kind r.name d && fits_place r.place p) (marked s x) x) (sort_of side r.want) x
+made_by r side d p x =
+    option_map_or (λ s. cond (is_asked r.kind r.name d && fits_place r.place p) (marked s x) x)
+    (sort_of side r.want) x
 
 -- What all rows in turn make of it.
 abbrev pub made : List ProfileRow → Side → Doc → List Step → Doc → Doc
@@ -60,9 +69,11 @@ top (list ds) = list (items_top ds)
 top (object ms) = object (members_top ms)
 top d = d
 
--- The document e is d with its ids marked (own): at each path there stands the same in both, but for the numbers that rows make ids.
+-- The document e is d with its ids marked (own): at each path there stands the same in both, but
+-- for the numbers that rows make ids.
 unfoldable pub IsMarked : List ProfileRow → Side → Doc → Doc → Type 0
-IsMarked rows side d e = (p : List Step) → option_map top (at p e) ≡ option_map top (option_map (made rows side d p) (at p d))
+IsMarked rows side d e = (p : List Step)
+    → option_map top (at p e) ≡ option_map top (option_map (made rows side d p) (at p d))
 
 -- ---- as a document
 
@@ -74,7 +85,9 @@ edit (each ∷ ps) f d = change_items (edit ps f) d
 
 -- The document with the ids that a row tells.
 abbrev pub mark_row : ProfileRow → Side → Doc → Doc
-mark_row r side d = option_map_or (λ s. cond (is_asked r.kind r.name d) (edit r.place (marked s) d) d) (sort_of side r.want) d
+mark_row r side d =
+    option_map_or (λ s. cond (is_asked r.kind r.name d) (edit r.place (marked s) d) d)
+    (sort_of side r.want) d
 
 -- The document with the ids that these rows tell.
 abbrev pub mark_rows : List ProfileRow → Side → Doc → Doc

@@ -1,4 +1,5 @@
--- What contracts see of a message: its side and its document, and what it is that a document is typed as one.
+-- What contracts see of a message: its side and its document, and what it is that a document is
+-- typed as one.
 use Rattle.dap_tree.specs.Doc.{Doc, is_plain}
 use Rattle.dap_tree.specs.Ids.{skeleton}
 use Rattle.dap_tree.specs.Json.{IsRead, HasNoReading, HasFraction}
@@ -12,7 +13,8 @@ use Rattle.dap_message.specs.Marks.{IsMarked, mark}
 use Rattle.dap_message.specs.Numbers.{has_small_ids}
 use Rattle.dap_message.specs.Profile.{profile}
 use Rattle.dap_message.specs.declared.fault.MessageFault.{MessageFault}
-use Rattle.dap_message.specs.declared.fault.MessageFault.TheVariants.{NotObject, UnknownType, Missing, WrongType, Memory}
+use Rattle.dap_message.specs.declared.fault.MessageFault.TheVariants.{NotObject, UnknownType}
+use Rattle.dap_message.specs.declared.fault.MessageFault.TheVariants.{Missing, WrongType, Memory}
 use Rattle.dap_message.specs.declared.ids.IdList.{IdList}
 use Rattle.dap_message.specs.declared.message.Message.{Message}
 
@@ -50,13 +52,17 @@ IsTypedContent side bytes m = (d : Doc) × IsRead bytes d × IsTyped side d m
 
 -- The content is that of the message m, if m is typed from some document.
 abbrev pub IsTypedBack : Side → Doc → List ℕ → Type 0
-IsTypedBack side m bytes = (d : Doc) → is_plain d ≡ true → IsTyped side d m → IsTypedContent side bytes m
+IsTypedBack side m bytes = (d : Doc) → is_plain d ≡ true → IsTyped side d m
+    → IsTypedContent side bytes m
 
--- The content is that of the message n, if n differs from a typed one at the numbers of its ids alone, each from 1 to 2,147,483,647.
+-- The content is that of the message n, if n differs from a typed one at the numbers of its ids
+-- alone, each from 1 to 2,147,483,647.
 abbrev pub IsRenumberedBack : Side → Doc → List ℕ → Type 0
-IsRenumberedBack side n bytes = (d m : Doc) → is_plain d ≡ true → IsTyped side d m → skeleton n ≡ skeleton m → has_small_ids n ≡ true → IsTypedContent side bytes n
+IsRenumberedBack side n bytes = (d m : Doc) → is_plain d ≡ true → IsTyped side d m
+    → skeleton n ≡ skeleton m → has_small_ids n ≡ true → IsTypedContent side bytes n
 
--- Why a content is no message (own): it is no JSON, a number in it is not whole, or its document has a fault.
+-- Why a content is no message (own): it is no JSON, a number in it is not whole, or its document
+-- has a fault.
 pub data Refusal : Type 0 where
   no_reading : Refusal
   fraction : Refusal

@@ -1,7 +1,8 @@
 -- Places of the profile: the paths that one speaks of, and what stands there.
 use Rattle.dap_tree.specs.Doc.{Doc, object, list, Items, no_items, item, get}
 use Rattle.dap_tree.specs.Path.{Step, name, place}
-use Rattle.std.specs.Prelude.{ℕ, Bool, true, false, cond, ◌&&◌, List, [], ◌∷◌, flat_map, Option, Some, None, bytes_eq}
+use Rattle.std.specs.Prelude.{ℕ, Bool, true, false, cond, ◌&&◌, List, [], ◌∷◌, flat_map, Option}
+use Rattle.std.specs.Prelude.{Some, None, bytes_eq}
 use Rattle.std.specs.Option.{option_map_or}
 
 -- One step of a place: to the member of a name, or to each element of a list.
@@ -31,9 +32,10 @@ abbrev pub list_of : Doc → Option (List Doc)
 list_of (list ds) = Some (elements ds)
 list_of _ = None
 
--- What stands at a place (own): once for each parent that is there and is an object or a list, as the place asks. An absent member counts as None.
-abbrev pub found : List PlaceStep → Doc → List (Option Doc)
-found [] d = Some d ∷ []
-found (named k ∷ []) d = cond (is_object d) (get k d ∷ []) []
-found (named k ∷ p ∷ ps) d = option_map_or (found (p ∷ ps)) (get k d) []
-found (each ∷ ps) d = option_map_or (flat_map (found ps)) (list_of d) []
+-- What stands at a place (own): once for each parent that is there and is an object or a list, as
+-- the place asks. An absent member counts as None.
+abbrev pub parts_at : List PlaceStep → Doc → List (Option Doc)
+parts_at [] d = Some d ∷ []
+parts_at (named k ∷ []) d = cond (is_object d) (get k d ∷ []) []
+parts_at (named k ∷ p ∷ ps) d = option_map_or (parts_at (p ∷ ps)) (get k d) []
+parts_at (each ∷ ps) d = option_map_or (flat_map (parts_at ps)) (list_of d) []

@@ -1,19 +1,24 @@
--- The rows of the profile: which messages one is asked of, what stands at its place, and whether that is as it wants.
+-- The rows of the profile: which messages one is asked of, what stands at its place, and whether
+-- that is as it wants.
 use Rattle.dap_tree.specs.Doc.{Doc, null, boolean, whole, text, list, object, get}
-use Rattle.std.specs.Prelude.{ℕ, ◌^◌, ℤ, pos, negsuc, Bool, true, false, cond, not, ◌&&◌, nat_lt, List, [], ◌∷◌, map, Option, Some, None, option_map, codes, bytes_eq}
+use Rattle.std.specs.Prelude.{ℕ, ◌^◌, ℤ, pos, negsuc, Bool, true, false, cond, not, ◌&&◌, nat_lt}
+use Rattle.std.specs.Prelude.{List, [], ◌∷◌, map, Option, Some, None, option_map, codes, bytes_eq}
 use Rattle.std.specs.Option.{option_or}
-use Rattle.dap_message.specs.Places.{PlaceStep, named, each, found}
+use Rattle.dap_message.specs.Places.{PlaceStep, named, each, parts_at}
 use Rattle.dap_message.specs.declared.broken_rows.Cause.{Cause}
 use Rattle.dap_message.specs.declared.broken_rows.Cause.TheVariants.{Missing, WrongType}
 use Rattle.dap_message.specs.declared.fault.MessageFault.{MessageFault}
-use Rattle.dap_message.specs.declared.fault.MessageFault.TheVariants.{Missing as MissingRow, WrongType as WrongTypeRow}
+use Rattle.dap_message.specs.declared.fault.MessageFault.TheVariants.{Missing as MissingRow}
+use Rattle.dap_message.specs.declared.fault.MessageFault.TheVariants.{WrongType as WrongTypeRow}
 use Rattle.dap_message.specs.declared.profile.Kind.{Kind}
 use Rattle.dap_message.specs.declared.profile.Kind.TheVariants.{Request, Response, Event}
 use Rattle.dap_message.specs.declared.profile.Place.{Place}
 use Rattle.dap_message.specs.declared.profile.Place.TheVariants.{Member, Inner, Element, Part}
 use Rattle.dap_message.specs.declared.profile.Row.{Row}
 use Rattle.dap_message.specs.declared.profile.Want.{Want}
-use Rattle.dap_message.specs.declared.profile.Want.TheVariants.{Bool as WantBool, Whole, Text, Object, List as WantList, OwnSeq, OtherSeq, Frame, Reference}
+use Rattle.dap_message.specs.declared.profile.Want.TheVariants.{Bool as WantBool, Whole, Text}
+use Rattle.dap_message.specs.declared.profile.Want.TheVariants.{Object, List as WantList, OwnSeq}
+use Rattle.dap_message.specs.declared.profile.Want.TheVariants.{OtherSeq, Frame, Reference}
 
 -- A row, as the definitions see it.
 pub record ProfileRow : Type 0 where
@@ -33,7 +38,14 @@ steps_of (Part a b c) = named a.now ∷ named b.now ∷ each ∷ named c.now ∷
 
 -- What the definitions see of a row of the program.
 abbrev pub row_of : Row → ProfileRow
-row_of r = record { number = r.number; kind = r.kind; name = option_map (λ n. n.now) r.name; place = steps_of r.place; want = r.want; needed = r.needed }
+row_of r = record {
+  number = r.number;
+  kind = r.kind;
+  name = option_map (λ n. n.now) r.name;
+  place = steps_of r.place;
+  want = r.want;
+  needed = r.needed;
+}
 
 -- ---- the messages that a row is asked of
 
@@ -63,7 +75,8 @@ name_key Event = codes "event"
 abbrev pub is_of_kind : Kind → Doc → Bool
 is_of_kind k d = is_text (type_name k) (get (codes "type") d)
 
--- A response that tells no success has the body of an error (DAP specification, ErrorResponse), so no row with a name is asked of it.
+-- A response that tells no success has the body of an error (DAP specification, ErrorResponse), so
+-- no row with a name is asked of it.
 abbrev pub may_have_body : Kind → Doc → Bool
 may_have_body Request d = true
 may_have_body Response d = is_true (get (codes "success") d)
@@ -82,7 +95,8 @@ abbrev pub is_id_number : ℤ → Bool
 is_id_number (pos n) = nat_lt n (2 ^ 63)
 is_id_number (negsuc n) = nat_lt n (2 ^ 63)
 
--- The document has the wanted type (DAP specification's schema); an id is a whole number that may be one.
+-- The document has the wanted type (DAP specification's schema); an id is a whole number that may
+-- be one.
 abbrev pub has_type : Want → Doc → Bool
 has_type WantBool (boolean b) = true
 has_type Whole (whole n) = true
@@ -100,10 +114,12 @@ abbrev pub is_null : Doc → Bool
 is_null null = true
 is_null _ = false
 
--- What is wrong with what stands at a place (own): a place that is not needed may be absent or null.
-abbrev pub judged : Want → Bool → Option Doc → Option Cause
-judged w needed None = cond needed (Some Missing) None
-judged w needed (Some d) = cond (has_type w d) None (cond (is_null d && not needed) None (Some WrongType))
+-- What is wrong with what stands at a place (own): a place that is not needed may be absent or
+-- null.
+abbrev pub cause_against : Want → Bool → Option Doc → Option Cause
+cause_against w needed None = cond needed (Some Missing) None
+cause_against w needed (Some d) =
+    cond (has_type w d) None (cond (is_null d && not needed) None (Some WrongType))
 
 -- The first cause that there is.
 abbrev pub first_cause : List (Option Cause) → Option Cause
@@ -112,16 +128,19 @@ first_cause (c ∷ cs) = option_or c (first_cause cs)
 
 -- What is wrong at a place, by its first breaking element.
 abbrev pub broken_at : List PlaceStep → Want → Bool → Doc → Option Cause
-broken_at p w needed d = first_cause (map (judged w needed) (found p d))
+broken_at p w needed d = first_cause (map (cause_against w needed) (parts_at p d))
 
 -- The fault that names a row.
 abbrev pub of_row : ℕ → Cause → MessageFault
 of_row n Missing = MissingRow n
 of_row n WrongType = WrongTypeRow n
 
--- The fault of a message by one row: there is one where the row is asked of the message and broken in it.
+-- The fault of a message by one row: there is one where the row is asked of the message and broken
+-- in it.
 abbrev pub row_fault : ProfileRow → Doc → Option MessageFault
-row_fault r d = cond (is_asked r.kind r.name d) (option_map (of_row r.number) (broken_at r.place r.want r.needed d)) None
+row_fault r d =
+    cond (is_asked r.kind r.name d)
+    (option_map (of_row r.number) (broken_at r.place r.want r.needed d)) None
 
 -- The fault of the first broken row.
 abbrev pub first_fault : List ProfileRow → Doc → Option MessageFault

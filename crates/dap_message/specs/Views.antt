@@ -1,13 +1,15 @@
 -- What the views of a message show: the stack frames, scopes or variables that its body lists.
 use Rattle.dap_tree.specs.Doc.{Doc, whole, id, get}
-use Rattle.std.specs.Prelude.{ℕ, ℤ, Bool, cond, ◌&&◌, List, [], filter_map, Option, Some, None, is_some, option_and_then, unwrap_or, codes}
+use Rattle.std.specs.Prelude.{ℕ, ℤ, Bool, cond, ◌&&◌, List, [], filter_map, Option, Some, None}
+use Rattle.std.specs.Prelude.{is_some, option_and_then, unwrap_or, codes}
 use Rattle.std.specs.List.{list_all}
 use Rattle.dap_message.specs.Envelope.{text_value}
 use Rattle.dap_message.specs.Places.{list_of}
 use Rattle.dap_message.specs.Rows.{is_asked, is_id_number}
 use Rattle.dap_message.specs.declared.profile.Kind.TheVariants.{Response}
 
--- What is shown of a stack frame, of a scope and of a variable (DAP specification, StackFrame, Scope and Variable).
+-- What is shown of a stack frame, of a scope and of a variable (DAP specification, StackFrame,
+-- Scope and Variable).
 pub record StackFrame : Type 0 where
   pub id : ℤ
   pub name : List ℕ
@@ -29,7 +31,8 @@ number_value (Some (whole z)) = Some z
 number_value (Some (id s z)) = Some z
 number_value _ = None
 
--- The number of an id, or a number that may be one: a variables reference of 0, which refers to nothing, is shown as 0.
+-- The number of an id, or a number that may be one: a variables reference of 0, which refers to
+-- nothing, is shown as 0.
 abbrev pub reference_value : Option Doc → Option ℤ
 reference_value (Some (whole z)) = cond (is_id_number z) (Some z) None
 reference_value (Some (id s z)) = Some z
@@ -37,7 +40,8 @@ reference_value _ = None
 
 -- What is shown, where each of the parts is there.
 abbrev pub frame_from : Option ℤ → Option (List ℕ) → Option ℤ → Option ℤ → Option StackFrame
-frame_from (Some i) (Some n) (Some l) (Some c) = Some (record { id = i; name = n; line = l; column = c })
+frame_from (Some i) (Some n) (Some l) (Some c) =
+    Some (record { id = i; name = n; line = l; column = c })
 frame_from _ _ _ _ = None
 
 abbrev pub scope_from : Option (List ℕ) → Option ℤ → Option Scope
@@ -50,19 +54,29 @@ variable_from _ _ _ = None
 
 -- What is shown of an element, by the names of its members (DAP specification).
 abbrev pub frame_of : Doc → Option StackFrame
-frame_of d = frame_from (reference_value (get (codes "id") d)) (text_value (get (codes "name") d)) (number_value (get (codes "line") d)) (number_value (get (codes "column") d))
+frame_of d =
+    frame_from (reference_value (get (codes "id") d)) (text_value (get (codes "name") d))
+    (number_value (get (codes "line") d)) (number_value (get (codes "column") d))
 
 abbrev pub scope_of : Doc → Option Scope
-scope_of d = scope_from (text_value (get (codes "name") d)) (reference_value (get (codes "variablesReference") d))
+scope_of d =
+    scope_from (text_value (get (codes "name") d))
+    (reference_value (get (codes "variablesReference") d))
 
 abbrev pub variable_of : Doc → Option Variable
-variable_of d = variable_from (text_value (get (codes "name") d)) (text_value (get (codes "value") d)) (reference_value (get (codes "variablesReference") d))
+variable_of d =
+    variable_from (text_value (get (codes "name") d)) (text_value (get (codes "value") d))
+    (reference_value (get (codes "variablesReference") d))
 
--- The elements of that list in the body of a successful response to the command; none in any other message.
+-- The elements of that list in the body of a successful response to the command; none in any other
+-- message.
 abbrev pub listed : List ℕ → List ℕ → Doc → List Doc
-listed command name d = cond (is_asked (Some Response) (Some command) d) (unwrap_or (option_and_then list_of (option_and_then (get name) (get (codes "body") d))) []) []
+listed command name d =
+    cond (is_asked (Some Response) (Some command) d)
+    (unwrap_or (option_and_then list_of (option_and_then (get name) (get (codes "body") d))) []) []
 
--- The elements of which frames, scopes and variables are shown (DAP specification, StackTraceResponse, ScopesResponse and VariablesResponse).
+-- The elements of which frames, scopes and variables are shown (DAP specification,
+-- StackTraceResponse, ScopesResponse and VariablesResponse).
 abbrev pub listed_frames : Doc → List Doc
 listed_frames d = listed (codes "stackTrace") (codes "stackFrames") d
 
@@ -72,7 +86,8 @@ listed_scopes d = listed (codes "scopes") (codes "scopes") d
 abbrev pub listed_variables : Doc → List Doc
 listed_variables d = listed (codes "variables") (codes "variables") d
 
--- The frames, scopes and variables of a message, in the order of its list. That no element of a message is passed over is said by `shows_all`.
+-- The frames, scopes and variables of a message, in the order of its list. That no element of a
+-- message is passed over is said by `shows_all`.
 abbrev pub frames_of : Doc → List StackFrame
 frames_of d = filter_map frame_of (listed_frames d)
 
@@ -94,4 +109,6 @@ are_variables ds = list_all (λ d. is_some (variable_of d)) ds
 
 -- Each element that the message lists is shown.
 abbrev pub shows_all : Doc → Bool
-shows_all d = are_frames (listed_frames d) && are_scopes (listed_scopes d) && are_variables (listed_variables d)
+shows_all d =
+    are_frames (listed_frames d) && are_scopes (listed_scopes d)
+    && are_variables (listed_variables d)

@@ -2,7 +2,18 @@
 ghost use Rattle.std.specs.Prelude.{◌≡◌, true, Some, map, option_map, codes};
 ghost use Rattle.dap_tree.specs.Doc.{get};
 ghost use Rattle.dap_tree.specs.View.{view};
-ghost use Rattle.dap_message.specs.AskedRows.{asked_rows, kind_told, name_told, rows_in, rows_asked, rows_named, has_name, one_name, together, front};
+ghost use Rattle.dap_message.specs.AskedRows.{
+  asked_rows,
+  kind_told,
+  name_told,
+  rows_in,
+  rows_asked,
+  rows_named,
+  has_name,
+  one_name,
+  together,
+  leading,
+};
 ghost use Rattle.dap_message.specs.Rows.{is_text, is_true, is_of_kind, row_of};
 
 use crate::message::text_at;
@@ -75,19 +86,33 @@ fn name_of(tree: &Tree, kind: Kind) -> Option<&str>
 }
 
 /// The rows that are asked of a message of this kind and name.
+///
+/// Of the table's rows the first is asked of every message, 2 of requests, 3 of events, 4 to 7 of
+/// responses; by name 8 to 49 of requests, 50 to 87 of responses, 88 to 104 of events, and the rest
+/// of responses to `initialize`.
 fn rows_of(kind: Kind, name: Option<&str>) -> AskedRows
     ensures { rows_in result ≡ rows_asked (Some kind) (option_map (λ s. s.now) name.entry) }
 {
     let every = &PROFILE[..1];
     match kind {
-        Kind::Request => [every, &PROFILE[1..2], named(&PROFILE[7..49], name), &[]],
-        Kind::Event => [every, &PROFILE[2..3], named(&PROFILE[87..104], name), &[]],
+        Kind::Request => [
+            every,
+            &PROFILE[1..2],
+            rows_named(&PROFILE[7..49], name),
+            &[],
+        ],
+        Kind::Event => [
+            every,
+            &PROFILE[2..3],
+            rows_named(&PROFILE[87..104], name),
+            &[],
+        ],
         Kind::Response => {
             [
                 every,
                 &PROFILE[3..7],
-                named(&PROFILE[49..87], name),
-                all_named(&PROFILE[104..], name),
+                rows_named(&PROFILE[49..87], name),
+                all_if_named(&PROFILE[104..], name),
             ]
         }
     }
@@ -95,7 +120,7 @@ fn rows_of(kind: Kind, name: Option<&str>) -> AskedRows
 
 /// Rows of one name, if it is this one.
 #[tactic(auto, unfolding(crate::specs::AskedRows::rows_named))]
-fn all_named(rows: &'static [Row], name: Option<&str>) -> &'static [Row]
+fn all_if_named(rows: &'static [Row], name: Option<&str>) -> &'static [Row]
     requires { one_name (map row_of rows.now) ≡ true }
     ensures { map row_of result.now
         ≡ rows_named (option_map (λ s. s.now) name.entry) (map row_of rows.now) }
@@ -108,23 +133,23 @@ fn all_named(rows: &'static [Row], name: Option<&str>) -> &'static [Row]
 
 /// The rows with this name.
 #[tactic(auto, unfolding(crate::specs::AskedRows::rows_named))]
-fn named(rows: &'static [Row], name: Option<&str>) -> &'static [Row]
+fn rows_named(rows: &'static [Row], name: Option<&str>) -> &'static [Row]
     requires { together (map row_of rows.now) ≡ true }
     ensures { map row_of result.now
         ≡ rows_named (option_map (λ s. s.now) name.entry) (map row_of rows.now) }
 {
     for (start, row) in rows.iter().enumerate() {
         if has_name(row, name) {
-            return front(&rows[start..], name);
+            return leading_rows(&rows[start..], name);
         }
     }
     &[]
 }
 
 /// The rows from the front on that have this name.
-fn front(rows: &'static [Row], name: Option<&str>) -> &'static [Row]
+fn leading_rows(rows: &'static [Row], name: Option<&str>) -> &'static [Row]
     ensures { map row_of result.now
-        ≡ front (has_name (option_map (λ s. s.now) name.entry)) (map row_of rows.now) }
+        ≡ leading (has_name (option_map (λ s. s.now) name.entry)) (map row_of rows.now) }
 {
     for (end, row) in rows.iter().enumerate() {
         if !has_name(row, name) {

@@ -3,8 +3,8 @@ ghost use Rattle.std.specs.Prelude.{◌≡◌, [], ◌∷◌, map, option_map, o
 ghost use Rattle.std.specs.List.{flat_map};
 ghost use Rattle.dap_tree.specs.Doc.{get};
 ghost use Rattle.dap_tree.specs.View.{view};
-ghost use Rattle.dap_message.specs.Places.{named, found, list_of};
-ghost use Rattle.dap_message.specs.Rows.{has_type, judged, first_cause, broken_at, steps_of};
+ghost use Rattle.dap_message.specs.Places.{named, parts_at, list_of};
+ghost use Rattle.dap_message.specs.Rows.{has_type, cause_against, first_cause, broken_at, steps_of};
 
 use crate::profile::{Place, Row, Want};
 use dap_tree::Tree;
@@ -55,7 +55,7 @@ fn has_type(tree: &Tree, want: Want) -> bool
 }
 
 fn judge(found: Option<&Tree>, want: Want, needed: bool) -> Option<Cause>
-    ensures { result ≡ judged want needed (option_map (λ t. view t.now) found.entry) }
+    ensures { result ≡ cause_against want needed (option_map (λ t. view t.now) found.entry) }
 {
     match found {
         None if needed => Some(Cause::Missing),
@@ -69,7 +69,8 @@ fn judge(found: Option<&Tree>, want: Want, needed: bool) -> Option<Cause>
 /// Nothing is asked of a parent that is no object.
 fn judge_member(parent: &Tree, name: &str, want: Want, needed: bool) -> Option<Cause>
     ensures { result
-        ≡ first_cause (map (judged want needed) (found (named name.now ∷ []) (view parent.now))) }
+        ≡ first_cause (map (cause_against want needed)
+        (parts_at (named name.now ∷ []) (view parent.now))) }
 {
     if let Tree::Object(_) = parent {
         judge(parent.child(name), want, needed)
@@ -80,7 +81,8 @@ fn judge_member(parent: &Tree, name: &str, want: Want, needed: bool) -> Option<C
 
 pub(crate) fn list_at<'a>(tree: &'a Tree, outer: &str, inner: &str) -> Option<&'a [Tree]>
     ensures { option_map (λ ts. map view ts.now) result
-        ≡ option_and_then list_of (option_and_then (get inner.now) (get outer.now (view tree.now))) }
+        ≡ option_and_then list_of (option_and_then (get inner.now)
+        (get outer.now (view tree.now))) }
 {
     match tree.child(outer)?.child(inner)? {
         Tree::List(elements) => Some(elements.as_slice()),
@@ -90,7 +92,8 @@ pub(crate) fn list_at<'a>(tree: &'a Tree, outer: &str, inner: &str) -> Option<&'
 
 fn judge_elements(elements: &[Tree], want: Want, needed: bool) -> Option<Cause>
     ensures { result
-        ≡ first_cause (map (judged want needed) (flat_map (found []) (map view elements.now))) }
+        ≡ first_cause (map (cause_against want needed)
+        (flat_map (parts_at []) (map view elements.now))) }
 {
     for element in elements {
         let cause = judge(Some(element), want, needed);
@@ -102,8 +105,8 @@ fn judge_elements(elements: &[Tree], want: Want, needed: bool) -> Option<Cause>
 }
 
 fn judge_parts(elements: &[Tree], name: &str, want: Want, needed: bool) -> Option<Cause>
-    ensures { result ≡ first_cause (map (judged want needed)
-        (flat_map (found (named name.now ∷ [])) (map view elements.now))) }
+    ensures { result ≡ first_cause (map (cause_against want needed)
+        (flat_map (parts_at (named name.now ∷ [])) (map view elements.now))) }
 {
     for element in elements {
         let cause = judge_member(element, name, want, needed);

@@ -2,7 +2,16 @@
 ghost use Rattle.std.specs.Prelude.{◌≡◌, IfOk, map, codes, option_map};
 ghost use Rattle.dap_tree.specs.Doc.{get_member, object, no_members, change_child};
 ghost use Rattle.dap_tree.specs.View.{view, members_view};
-ghost use Rattle.dap_message.specs.Capabilities.{is_given, default_member, default_to, false_members, false_at, tells_capabilities, with_capabilities, filled};
+ghost use Rattle.dap_message.specs.Capabilities.{
+  is_given,
+  default_member,
+  default_to,
+  false_members,
+  false_at,
+  tells_capabilities,
+  with_capabilities,
+  filled,
+};
 
 use crate::asked_rows::{has_succeeded, has_text, is_of_kind};
 use crate::profile::Kind;

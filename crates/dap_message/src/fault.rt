@@ -6,7 +6,8 @@ use thiserror::Error;
 
 /// Why a tree is no message.
 ///
-/// Of several faults the first is told: `NotObject`, then `UnknownType`, then the broken row with the least number.
+/// Of several faults the first is told: `NotObject`, then `UnknownType`, then the broken row with
+/// the least number.
 #[derive(Clone, Copy, Debug, PartialEq, Eq, Drop, Error)]
 pub enum MessageFault {
     /// The tree is no object.
@@ -18,7 +19,8 @@ pub enum MessageFault {
     /// The row with this number needs a member that is absent.
     #[error("Missing row {0}")]
     Missing(u16),
-    /// What stands at the place of the row with this number is not what the row wants. A null at a needed member is told so.
+    /// What stands at the place of the row with this number is not what the row wants. A null at a
+    /// needed member is told so.
     #[error("WrongType row {0}")]
     WrongType(u16),
     /// A growth of memory was refused.

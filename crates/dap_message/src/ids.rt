@@ -3,7 +3,8 @@ ghost use Rattle.std.specs.Prelude.{◌≡◌};
 
 use dap_tree::Sort;
 
-/// The ids of a message in the order of its canonical text, which is that of the members' names in bytes.
+/// The ids of a message in the order of its canonical text, which is that of the members' names in
+/// bytes.
 #[derive(Drop)]
 pub struct IdList {
     ids: Vec<(Sort, i64)>,

@@ -1,5 +1,30 @@
-//! Theorems on typed messages, which hold of all documents and contents. Each function does nothing: a call of it gives its clauses to a proof.
-ghost use Rattle.dap_message.specs.Laws.{OneMessage, OneRefusal, TypedNotRefused, SomeMessage, TypedSide, TypedProper, TypedSound, TypedEnveloped, TypedOrdered, TypedUtf8, ContentWellFormed, TypedAgain, ContentTypedAgain, OwnContentTypedAgain, SkeletonTells, Renumbers, MarkedByPath, OneMarked, FilledFits, FilledOnce, ContentShown, ShownAlike, EachShown};
+//! Theorems on typed messages, which hold of all documents and contents. Each function does
+//! nothing: a call of it gives its clauses to a proof.
+ghost use Rattle.dap_message.specs.Laws.{
+  OneMessage,
+  OneRefusal,
+  TypedNotRefused,
+  SomeMessage,
+  TypedSide,
+  TypedProper,
+  TypedSound,
+  TypedEnveloped,
+  TypedOrdered,
+  TypedUtf8,
+  ContentWellFormed,
+  TypedAgain,
+  ContentTypedAgain,
+  OwnContentTypedAgain,
+  SkeletonTells,
+  Renumbers,
+  MarkedByPath,
+  OneMarked,
+  FilledFits,
+  FilledOnce,
+  ContentShown,
+  ShownAlike,
+  EachShown,
+};
 
 /// A content is one message, or is refused for one reason.
 pub fn one_outcome()
@@ -8,12 +33,14 @@ pub fn one_outcome()
     ensures not_both { TypedNotRefused }
 {}
 
-/// Every content is a message of a side, or no JSON, or JSON with a fraction, or has a fault of the profile.
+/// Every content is a message of a side, or no JSON, or JSON with a fraction, or has a fault of the
+/// profile.
 pub fn some_outcome()
     ensures { SomeMessage }
 {}
 
-/// What every message keeps. That of a content keeps all of it, whatever the bytes were (`content`).
+/// What every message keeps. That of a content keeps all of it, whatever the bytes were
+/// (`content`).
 pub fn typed_keeps()
     ensures side { TypedSide }
     ensures proper { TypedProper }
@@ -24,7 +51,8 @@ pub fn typed_keeps()
     ensures content { ContentWellFormed }
 {}
 
-/// A message is read and typed again from its own content, also with other small numbers at its ids.
+/// A message is read and typed again from its own content, also with other small numbers at its
+/// ids.
 pub fn typed_again()
     ensures document { TypedAgain }
     ensures content { ContentTypedAgain }
@@ -49,7 +77,8 @@ pub fn filled_once()
     ensures once { FilledOnce }
 {}
 
-/// The views of a message show every element of its list, in the list's order, also with other numbers at its ids.
+/// The views of a message show every element of its list, in the list's order, also with other
+/// numbers at its ids.
 pub fn each_element_shown()
     ensures content { ContentShown }
     ensures renumbered { ShownAlike }

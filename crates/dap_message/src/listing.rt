@@ -1,26 +1,36 @@
 //! The iterators over the stack frames, scopes and variables that a message lists.
 ghost use Rattle.std.specs.Prelude.{◌≡◌, true, map};
 ghost use Rattle.dap_tree.specs.View.{view};
-ghost use Rattle.dap_message.specs.Views.{are_frames, are_scopes, are_variables, frame_of, scope_of, variable_of};
+ghost use Rattle.dap_message.specs.Views.{
+  are_frames,
+  are_scopes,
+  are_variables,
+  frame_of,
+  scope_of,
+  variable_of,
+};
 
 use crate::views::{FrameView, ScopeView, VariableView, frame_of, scope_of, variable_of};
 use dap_tree::Tree;
 
-/// The frames of [`Message::frames`](crate::Message::frames), in the order of the message. Takes no memory.
+/// The frames of [`Message::frames`](crate::Message::frames), in the order of the message. Takes no
+/// memory.
 #[derive(Clone, Copy)]
 pub struct Frames<'a> {
     elements: &'a [Tree],
     ghost shown: { are_frames (map view elements.now) ≡ true },
 }
 
-/// The scopes of [`Message::scopes`](crate::Message::scopes), in the order of the message. Takes no memory.
+/// The scopes of [`Message::scopes`](crate::Message::scopes), in the order of the message. Takes no
+/// memory.
 #[derive(Clone, Copy)]
 pub struct Scopes<'a> {
     elements: &'a [Tree],
     ghost shown: { are_scopes (map view elements.now) ≡ true },
 }
 
-/// The variables of [`Message::variables`](crate::Message::variables), in the order of the message. Takes no memory.
+/// The variables of [`Message::variables`](crate::Message::variables), in the order of the message.
+/// Takes no memory.
 #[derive(Clone, Copy)]
 pub struct Variables<'a> {
     elements: &'a [Tree],

@@ -99,7 +99,8 @@ fn mark_below(tree: &mut Tree, name: &str, path: &[Step], sort: Sort)
 
 #[cycle(mark_path)]
 fn mark_list(tree: &mut Tree, path: &[Step], sort: Sort)
-    ensures { view tree.new ≡ change_items (edit (place_of path.now) (marked sort)) (view tree.old) }
+    ensures { view tree.new
+        ≡ change_items (edit (place_of path.now) (marked sort)) (view tree.old) }
 {
     if let Tree::List(items) = tree {
         mark_each(items, path, sort);

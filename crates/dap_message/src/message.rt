@@ -1,11 +1,31 @@
 //! Messages: their parts, their views, and their ids replaced.
-ghost use Rattle.std.specs.Prelude.{◌≡◌, length, true, Some, is_some, option_map, IfOk, IfErr, string_bytes};
+ghost use Rattle.std.specs.Prelude.{
+  ◌≡◌,
+  length,
+  true,
+  Some,
+  is_some,
+  option_map,
+  IfOk,
+  IfErr,
+  string_bytes,
+};
 ghost use Rattle.dap_tree.specs.Doc.{is_sound, get};
 ghost use Rattle.dap_tree.specs.Ids.{ids, with_ids, without_ids, skeleton};
 ghost use Rattle.dap_tree.specs.Json.{text_of, IsRead};
 ghost use Rattle.dap_tree.specs.View.{view};
 ghost use Rattle.dap_message.specs.Rows.{is_of_kind};
-ghost use Rattle.dap_message.specs.Envelope.{has_envelope, id_number, boolean_value, text_value, kind_of, seq_of, request_seq_of, success_of, name_of};
+ghost use Rattle.dap_message.specs.Envelope.{
+  has_envelope,
+  id_number,
+  boolean_value,
+  text_value,
+  kind_of,
+  seq_of,
+  request_seq_of,
+  success_of,
+  name_of,
+};
 ghost use Rattle.dap_message.specs.Numbers.{is_proper, are_proper, renumbered};
 ghost use Rattle.dap_message.specs.Views.{shows_all};
 ghost use Rattle.dap_message.specs.declared.fault.MessageFault.{MessageFault};
@@ -22,8 +42,10 @@ use std::alloc::Global;
 
 /// A message of the protocol: the side that sent it, and its tree with the ids marked.
 ///
-/// Its tree is sound, none of its ids is a variables reference of 0, and it has the members that every message of its kind
-/// has; each frame, scope and variable that it lists has the members that are shown of it. The laws in [`crate::laws`] say that it is typed again as itself, also with other small numbers at its ids.
+/// Its tree is sound, none of its ids is a variables reference of 0, and it has the members that
+/// every message of its kind has; each frame, scope and variable that it lists has the members that
+/// are shown of it. The laws in [`crate::laws`] say that it is typed again as itself, also with
+/// other small numbers at its ids.
 #[derive(Drop)]
 pub struct Message {
     side: Side,
@@ -36,9 +58,25 @@ pub struct Message {
 
 impl Message {
     ghost use Rattle.std.specs.Prelude.{map};
-    ghost use Rattle.dap_message.specs.Message.{side_of, doc_of, list_of_ids, IsTypedBack, IsRenumberedBack};
+    ghost use Rattle.dap_message.specs.Message.{
+      side_of,
+      doc_of,
+      list_of_ids,
+      IsTypedBack,
+      IsRenumberedBack,
+    };
     ghost use Rattle.dap_message.specs.ViewItems.{frames_left, scopes_left, variables_left};
-    ghost use Rattle.dap_message.specs.Views.{frame_of, frames_of, listed_frames, scope_of, scopes_of, listed_scopes, variable_of, variables_of, listed_variables};
+    ghost use Rattle.dap_message.specs.Views.{
+      frame_of,
+      frames_of,
+      listed_frames,
+      scope_of,
+      scopes_of,
+      listed_scopes,
+      variable_of,
+      variables_of,
+      listed_variables,
+    };
 
     pub(crate) fn new(side: Side, tree: Tree) -> Message
         requires sound { is_sound (view tree) ≡ true }
@@ -96,7 +134,8 @@ impl Message {
         }
     }
 
-    /// The sequence number of the request that a response answers; `None` if the message is no response.
+    /// The sequence number of the request that a response answers; `None` if the message is no
+    /// response.
     pub fn request_seq(&self) -> Option<i64>
         ensures same { result ≡ request_seq_of (doc_of self.now) }
         ensures of_responses { is_some result ≡ is_of_kind Kind.Response (doc_of self.now) }
@@ -128,7 +167,8 @@ impl Message {
         tree
     }
 
-    /// The canonical content: JSON without spaces, the members in the byte order of their names, an id as its number.
+    /// The canonical content: JSON without spaces, the members in the byte order of their names, an
+    /// id as its number.
     ///
     /// The only fault is `Memory`, here and in `copy` and `ids`.
     pub fn content(&self, alloc: Global) -> Result<String, MessageFault>
@@ -136,7 +176,8 @@ impl Message {
         ensures reads_back { IfOk result
             (λ s. IsRead (string_bytes s) (without_ids (doc_of self.now))) }
 
-        // The text, read and typed again, is this very message: as it was typed, or with other small numbers at its ids.
+        // The text, read and typed again, is this very message: as it was typed, or with other
+        // small numbers at its ids.
         ensures typed_again { IfOk result
             (λ s. IsTypedBack (side_of self.now) (doc_of self.now) (string_bytes s)) }
         ensures renumbered_again { IfOk result
@@ -162,7 +203,8 @@ impl Message {
         }
     }
 
-    /// The stack frames that a successful response to `stackTrace` lists; none in any other message. Takes no memory.
+    /// The stack frames that a successful response to `stackTrace` lists; none in any other
+    /// message. Takes no memory.
     pub fn frames(&self) -> Frames<'_>
         ensures same { frames_left result ≡ frames_of (doc_of self.now) }
 
@@ -173,7 +215,8 @@ impl Message {
         Frames::new(listed(&self.tree, "stackTrace", "stackFrames"))
     }
 
-    /// The scopes that a successful response to `scopes` lists; none in any other message. Takes no memory.
+    /// The scopes that a successful response to `scopes` lists; none in any other message. Takes no
+    /// memory.
     pub fn scopes(&self) -> Scopes<'_>
         ensures same { scopes_left result ≡ scopes_of (doc_of self.now) }
 
@@ -184,7 +227,8 @@ impl Message {
         Scopes::new(listed(&self.tree, "scopes", "scopes"))
     }
 
-    /// The variables that a successful response to `variables` lists; none in any other message. Takes no memory.
+    /// The variables that a successful response to `variables` lists; none in any other message.
+    /// Takes no memory.
     pub fn variables(&self) -> Variables<'_>
         ensures same { variables_left result ≡ variables_of (doc_of self.now) }
 

@@ -44,9 +44,10 @@ pub enum Place {
 
 /// A row of the profile.
 ///
-/// It stands in a message if, in each parent that is there and is an object (or a list), the place holds what the row
-/// wants, or the row is not needed and the place is absent or null. A row with a name is asked of the requests with that
-/// command, of the successful responses to it, or of the events with that name.
+/// It stands in a message if, in each parent that is there and is an object (or a list), the place
+/// holds what the row wants, or the row is not needed and the place is absent or null. A row with a
+/// name is asked of the requests with that command, of the successful responses to it, or of the
+/// events with that name.
 #[derive(Clone, Copy, Debug, PartialEq, Eq, Drop)]
 pub struct Row {
     /// Counted from 1. `MessageFault` tells it.
@@ -111,8 +112,9 @@ macro_rules! profile_rows {
 
 /// The rows, in the order of their numbers.
 ///
-/// The members and their types are those of the protocol's schema, narrowed to what this project reads; what is needed of
-/// them is this project's choice. A line is a row: number, messages, place, wanted type, and whether it is needed.
+/// The members and their types are those of the protocol's schema, narrowed to what this project
+/// reads; what is needed of them is this project's choice. A line is a row: number, messages,
+/// place, wanted type, and whether it is needed.
 pub static PROFILE: [Row; 139] = profile_rows! {
     1 every Member("seq") OwnSeq needed;
     2 request Member("command") Text needed;

@@ -13,8 +13,8 @@ use crate::message::Message;
 use dap_tree::{Side, Tree};
 use std::alloc::Global;
 
-/// The message that the tree is on this side: its ids marked, and in an adapter's successful response to `initialize` the
-/// absent capabilities false. Members that no row names are kept.
+/// The message that the tree is on this side: its ids marked, and in an adapter's successful
+/// response to `initialize` the absent capabilities false. Members that no row names are kept.
 ///
 /// The tree is dropped on every fault.
 pub fn typed(alloc: Global, side: Side, tree: Tree) -> Result<Message, MessageFault>

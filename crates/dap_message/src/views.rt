@@ -2,7 +2,14 @@
 ghost use Rattle.std.specs.Prelude.{◌≡◌, map, option_map};
 ghost use Rattle.dap_tree.specs.Doc.{get};
 ghost use Rattle.dap_tree.specs.View.{view};
-ghost use Rattle.dap_message.specs.Views.{frame_of, scope_of, variable_of, listed, number_value, reference_value};
+ghost use Rattle.dap_message.specs.Views.{
+  frame_of,
+  scope_of,
+  variable_of,
+  listed,
+  number_value,
+  reference_value,
+};
 ghost use Rattle.dap_message.specs.ViewItems.{frame_shown, scope_shown, variable_shown};
 
 use crate::asked_rows::{has_succeeded, has_text, is_of_kind};
@@ -40,7 +47,8 @@ pub struct VariableView<'a> {
     pub reference: i64,
 }
 
-/// The elements of that list in the body of a successful response to the command; none in any other message.
+/// The elements of that list in the body of a successful response to the command; none in any other
+/// message.
 pub(crate) fn listed<'a>(tree: &'a Tree, command: &str, name: &str) -> &'a [Tree]
     ensures { map view result.now ≡ listed command.now name.now (view tree.now) }
 {

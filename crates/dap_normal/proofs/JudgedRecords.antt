@@ -1,10 +1,13 @@
--- A record that is judged behind others: the judge goes on to stand for its message too, or it is refused.
-use Rattle.std.proofs.Common.{◌≡◌, ◌⊎◌, inl, inr, ℕ, ℤ, ◌+◌, ◌<◌, ◌≤◌, List, [], ◌∷◌, ◌++◌, length, None, Err, sym, ◌∙◌, ap, subst, arith, append-nil, length-append}
+-- A record that is judged behind others: the judge goes on to stand for its message too, or it is
+-- refused.
+use Rattle.std.proofs.Common.{◌≡◌, ◌⊎◌, inl, inr, ℕ, ℤ, ◌+◌, ◌<◌, ◌≤◌, List, [], ◌∷◌, ◌++◌, length}
+use Rattle.std.proofs.Common.{None, Err, sym, ◌∙◌, ap, subst, arith, append-nil, length-append}
 use Rattle.std.specs.List.{AllByRecursion}
 use Rattle.dap_tree.specs.Json.{text_of}
 use Rattle.dap_tree.specs.declared.sort.Sort.{Sort}
 use Rattle.dap_message.specs.Message.{Sent}
-use Rattle.dap_rename.specs.Messages.{AreProper, HasFewIds, HasTooManyIds, IsNormal, IsRenamed, in_whole, numbers_of_class}
+use Rattle.dap_rename.specs.Messages.{AreProper, HasFewIds, HasTooManyIds, IsNormal, IsRenamed}
+use Rattle.dap_rename.specs.Messages.{in_whole, numbers_of_class}
 use Rattle.dap_rename.specs.Names.{StandFor, limit_in}
 use Rattle.dap_rename.proofs.NormalForms.{normal_of_next, whole_is_told}
 use Rattle.dap_rename.proofs.Lists.{each-append}
@@ -13,17 +16,23 @@ use Rattle.dap_session.specs.Standing.{Stands}
 use Rattle.dap_normal.specs.declared.judging.Judge.{Judge}
 use Rattle.dap_input.specs.declared.limits.Limits.{Limits}
 use Rattle.dap_input.specs.declared.refused.Refused.{Refused}
-use Rattle.dap_input.specs.declared.refused.Refused.TheVariants.{InputTooLong, Record, Json, Fraction, Message, Rule, TooManyIds, Grew, Incomplete, TraceTooLong, Trace, Recorder, ReadFault, WriteFault, Memory}
-use Rattle.dap_normal.specs.Accepting.{Held, Fits, IsMessage, IsNext, Objects, grew, id_limit, text, too_many_ids}
-use Rattle.dap_normal.specs.JudgingSteps.{IsTaken, RefusesRecord, StandsFor, Writes, record_of}
+use Rattle.dap_input.specs.declared.refused.Refused.TheVariants.{Grew, Memory}
+use Rattle.dap_input.specs.Judging.{grew, too_many_ids}
+use Rattle.dap_input.specs.Refusals.{RefusesHeld}
+use Rattle.dap_normal.specs.Accepting.{Held, Fits, IsMessage, IsNext, Objects, id_limit, text}
+use Rattle.dap_normal.specs.JudgingSteps.{IsTaken, StandsFor, Writes, record_of}
 use Rattle.dap_normal.proofs.AcceptingFacts.{message_proper}
 use Rattle.dap_normal.proofs.NormalTexts.{normal, normal_fits, proper_push, text-append}
 
-pub text_push : (messages : List Sent) (m : Sent) → text (messages ++ m ∷ []) ≡ text messages ++ record_of m
-text_push messages m = text-append messages (m ∷ []) ∙ ap (λ t. text messages ++ t) (append-nil (record_of m))
+pub text_push : (messages : List Sent) (m : Sent)
+    → text (messages ++ m ∷ []) ≡ text messages ++ record_of m
+text_push messages m =
+    text-append messages (m ∷ []) ∙ ap (λ t. text messages ++ t) (append-nil (record_of m))
 
 -- No message has been judged.
-pub none_stand : {T : Type 0} {numbers : T → List ℤ} {table_limit : T → ℕ} (judge : Judge T) → Stands judge.session [] → StandFor numbers judge.names [] → ((s : Sort) → limit_in table_limit judge.names s ≡ judge.limits.ids) → judge.written ≡ 0
+pub none_stand : {T : Type 0} {numbers : T → List ℤ} {table_limit : T → ℕ} (judge : Judge T)
+    → Stands judge.session [] → StandFor numbers judge.names []
+    → ((s : Sort) → limit_in table_limit judge.names s ≡ judge.limits.ids) → judge.written ≡ 0
     → StandsFor numbers table_limit judge [] []
 none_stand judge session stand limits written = record {
   session = session;
@@ -35,74 +44,105 @@ none_stand judge session stand limits written = record {
   written = written;
 }
 
-module _ {T : Type 0} {numbers : T → List ℤ} {table_limit : T → ℕ} (old : Judge T) (messages names : List Sent) (was : StandsFor numbers table_limit old messages names) (held : Held) (m : Sent) (is : IsMessage held m) (keeps : first_broken messages m ≡ None) where
+module _ {T : Type 0} {numbers : T → List ℤ} {table_limit : T
+    → ℕ} (old : Judge T) (messages names : List Sent)
+    (was : StandsFor numbers table_limit old messages names) (held : Held) (m : Sent)
+    (is : IsMessage held m) (keeps : first_broken messages m ≡ None) where
   -- more ids than the tables take
-  pub objects_to_ids : HasTooManyIds in_whole (limit_in table_limit old.names) (messages ++ m ∷ []) → Objects old.limits messages held too_many_ids
+  pub objects_to_ids : HasTooManyIds in_whole (limit_in table_limit old.names) (messages ++ m ∷ [])
+      → Objects old.limits messages held too_many_ids
   objects_to_ids many =
       let limit = was.name_limits many.of.0 in
       let more = many.many in
       (m, is, keeps, record { of = many.of; many = omega (arith, limit, more) })
 
-  module _ (few : HasFewIds in_whole (limit_in table_limit old.names) (messages ++ m ∷ [])) (named : Sent) (renamed : IsRenamed in_whole messages m named) where
+  module _ (few : HasFewIds in_whole (limit_in table_limit old.names) (messages ++ m ∷ []))
+      (named : Sent) (renamed : IsRenamed in_whole messages m named) where
     few_ids : HasFewIds in_whole (id_limit old.limits) (messages ++ m ∷ [])
-    few_ids c = subst (λ limit. length (numbers_of_class in_whole c (messages ++ m ∷ [])) ≤ limit) (was.name_limits c.0) (few c)
+    few_ids c =
+        subst (λ limit. length (numbers_of_class in_whole c (messages ++ m ∷ []))
+        ≤ limit) (was.name_limits c.0) (few c)
 
     next_normal : IsNormal in_whole (messages ++ m ∷ []) (names ++ named ∷ [])
-    next_normal = normal_of_next in_whole whole_is_told messages names m named (message_proper held m is) was.is_normal renamed
+    next_normal =
+        normal_of_next in_whole whole_is_told messages names m named (message_proper held m is)
+        was.is_normal renamed
 
     next_length : length (text (names ++ named ∷ [])) ≡ old.written + length (record_of named)
-    next_length = let before = was.written in omega (arith, before, ap length (text_push names named), length-append (text names) (record_of named))
+    next_length = let before =
+        was.written in omega (
+          arith,
+          before,
+          ap length (text_push names named),
+          length-append (text names) (record_of named),
+        )
 
     -- the content or the text would pass its limit
-    pub objects_to_length : (old.limits.frame.content < length (text_of named.doc)) ⊎ (old.limits.input < old.written + length (record_of named)) → Objects old.limits messages held grew
-    objects_to_length long = (m, is, keeps, few_ids, record { normal = names ++ named ∷ []; is_normal = next_normal; too_long = passes long })
+    pub objects_to_length : (old.limits.frame.content < length (text_of named.doc))
+        ⊎ (old.limits.input < old.written + length (record_of named))
+        → Objects old.limits messages held grew
+    objects_to_length long = (
+      m,
+      is,
+      keeps,
+      few_ids,
+      record { normal = names ++ named ∷ []; is_normal = next_normal; too_long = passes long },
+    )
       where
-        last : (ns : List Sent) → AllByRecursion (λ n. length (text_of n.doc) ≤ old.limits.frame.content) (ns ++ named ∷ []) → length (text_of named.doc) ≤ old.limits.frame.content
+        last : (ns : List Sent)
+            → AllByRecursion (λ n. length (text_of n.doc)
+            ≤ old.limits.frame.content) (ns ++ named ∷ [])
+            → length (text_of named.doc) ≤ old.limits.frame.content
         last [] all = all.0
         last (n ∷ ns) all = last ns all.1
 
-        passes : (old.limits.frame.content < length (text_of named.doc)) ⊎ (old.limits.input < old.written + length (record_of named)) → Fits old.limits (names ++ named ∷ []) → ⊥
-        passes (inl content) fits = let short = last names fits.each in omega (arith, content, short)
+        passes : (old.limits.frame.content < length (text_of named.doc))
+            ⊎ (old.limits.input < old.written + length (record_of named))
+            → Fits old.limits (names ++ named ∷ []) → ⊥
+        passes (inl content) fits = let short =
+            last names fits.each in omega (arith, content, short)
         passes (inr whole) fits = let short = fits.whole in omega (arith, whole, short, next_length)
 
     -- the record of the renamed message is not written
-    pub refused_to_write : (because : Refused) (n : ℕ) (before after : List ℕ) → Writes old.limits named n old.written before after (Err because) → RefusesRecord old.limits messages held n because
+    pub refused_to_write : (because : Refused) (n : ℕ) (before after : List ℕ)
+        → Writes old.limits named n old.written before after (Err because)
+        → RefusesHeld (Objects old.limits messages held) n because
     refused_to_write (Grew k) n before after told = (told.0, objects_to_length told.1)
-    refused_to_write (InputTooLong k) n before after told = absurd told
-    refused_to_write (Record k why) n before after told = absurd told
-    refused_to_write (Json k) n before after told = absurd told
-    refused_to_write (Fraction k) n before after told = absurd told
-    refused_to_write (Message k fault) n before after told = absurd told
-    refused_to_write (Rule k rule) n before after told = absurd told
-    refused_to_write (TooManyIds k) n before after told = absurd told
-    refused_to_write (Incomplete client adapter) n before after told = absurd told
-    refused_to_write (TraceTooLong m) n before after told = absurd told
-    refused_to_write (Trace m why) n before after told = absurd told
-    refused_to_write (Recorder m fault) n before after told = absurd told
-    refused_to_write ReadFault n before after told = absurd told
-    refused_to_write WriteFault n before after told = absurd told
     refused_to_write Memory n before after told = tt
+    refused_to_write because n before after told = absurd told
 
     -- the record is taken
-    pub taken : (new : Judge T) (before after : List ℕ) → length (text_of named.doc) ≤ old.limits.frame.content → after ≡ before ++ record_of named
-        → new.written ≡ old.written + length (record_of named) → new.written ≤ old.limits.input → new.limits ≡ old.limits
+    pub taken : (new : Judge T) (before after : List ℕ)
+        → length (text_of named.doc) ≤ old.limits.frame.content → after ≡ before ++ record_of named
+        → new.written ≡ old.written + length (record_of named) → new.written ≤ old.limits.input
+        → new.limits ≡ old.limits
         → Stands new.session (messages ++ m ∷ []) → StandFor numbers new.names (messages ++ m ∷ [])
-        → ((s : Sort) → limit_in table_limit new.names s ≡ limit_in table_limit old.names s) → IsTaken numbers table_limit messages names held new before after
+        → ((s : Sort) → limit_in table_limit new.names s ≡ limit_in table_limit old.names s)
+        → IsTaken numbers table_limit messages names held new before after
     taken new before after content appended written short limits session stand name_limits =
         let fits : Fits old.limits (names ++ named ∷ []) = record {
-          each = each-append (λ (n : Sent). length (text_of n.doc) ≤ old.limits.frame.content) names (named ∷ []) was.fits.each (content, tt);
+          each = each-append (λ (n : Sent). length (text_of n.doc)
+              ≤ old.limits.frame.content) names (named ∷ []) was.fits.each (content, tt);
           whole = omega (arith, next_length, written, short);
         } in
-        let proper : AreProper (messages ++ m ∷ []) = proper_push messages m was.proper (message_proper held m is) in
+        let proper : AreProper (messages ++ m ∷ []) =
+        proper_push messages m was.proper (message_proper held m is) in
         record {
           message = m;
           is_next = subst (λ l. IsNext l messages held m) (sym limits)
-              (record { is_message = is; keeps = keeps; few = few_ids; fits = normal_fits old.limits (messages ++ m ∷ []) (names ++ named ∷ []) proper next_normal fits });
+              (record {
+                is_message = is;
+                keeps = keeps;
+                few = few_ids;
+                fits = normal_fits old.limits (messages ++ m ∷ []) (names ++ named ∷ []) proper
+                    next_normal fits;
+              });
           named = named;
           stands = record {
             session = session;
             names = stand;
-            name_limits = λ s. name_limits s ∙ was.name_limits s ∙ ap (λ (l : Limits). l.ids) (sym limits);
+            name_limits =
+                λ s. name_limits s ∙ was.name_limits s ∙ ap (λ (l : Limits). l.ids) (sym limits);
             proper = proper;
             is_normal = next_normal;
             fits = subst (λ l. Fits l (names ++ named ∷ [])) (sym limits) fits;

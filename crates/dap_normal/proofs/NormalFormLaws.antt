@@ -1,5 +1,6 @@
 -- The text of a normal form is accepted, stands still, and tells the messages up to a renaming.
-use Rattle.std.proofs.Common.{◌≡◌, ℕ, zero, suc, ◌≤◌, ℤ, true, List, [], ◌∷◌, ◌++◌, length, map, refl, sym, ◌∙◌, ap, subst, arith}
+use Rattle.std.proofs.Common.{◌≡◌, ℕ, zero, suc, ◌≤◌, ℤ, true, List, [], ◌∷◌, ◌++◌, length, map}
+use Rattle.std.proofs.Common.{refl, sym, ◌∙◌, ap, subst, arith}
 use Rattle.std.specs.List.{All, AllZip, AllByRecursion}
 use Rattle.std.proofs.lemmas.List.{length-map}
 use Rattle.dap_tree.specs.Ids.{ids}
@@ -10,21 +11,26 @@ use Rattle.dap_message.specs.Numbers.{has_small_ids}
 use Rattle.dap_message.proofs.Contents.{content_again}
 use Rattle.dap_recording.specs.Recording.{IsRecording, record_text}
 use Rattle.dap_recording.proofs.RecordsWritten.{written_is_record}
-use Rattle.dap_rename.specs.Messages.{Class, IsProperId, AreProper, AreSame, IsNormal, class_after, in_whole, message_skeleton, normal_of, occurrence, occurrences}
+use Rattle.dap_rename.specs.Messages.{Class, IsProperId, AreProper, AreSame, IsNormal, class_after}
+use Rattle.dap_rename.specs.Messages.{in_whole, message_skeleton, normal_of, occurrence}
+use Rattle.dap_rename.specs.Messages.{occurrences}
 use Rattle.dap_rename.specs.Renamings.{IsIn, IsRenaming, AreRelated}
 use Rattle.dap_rename.proofs.RelatedLists.{gives_one, takes_one}
 use Rattle.dap_rename.proofs.Lists.{head_of, tail_of}
 use Rattle.dap_rename.proofs.Occurrences.{docs_alike, ids_alike}
-use Rattle.dap_rename.proofs.Sameness.{normal_is_complete, normal_is_its_own, normal_is_unique, related_front, same_is_proper}
+use Rattle.dap_rename.proofs.Sameness.{normal_is_complete, normal_is_its_own, normal_is_unique}
+use Rattle.dap_rename.proofs.Sameness.{related_front, same_is_proper}
 use Rattle.dap_rename.proofs.NormalForms.{names_are_small, same_counts}
-use Rattle.dap_session.specs.RenamedLists.{IsNumbered, AreRenamed, IsOneToOne, seq_sort}
+use Rattle.dap_session.specs.RenamedLists.{IsNumbered, DifferInIds, IsOneToOne, seq_sort}
 use Rattle.dap_session.specs.Rules.{KeepsRules}
 use Rattle.dap_session.proofs.SequenceNumbers.{typed_numbered}
 use Rattle.dap_session.proofs.RenamingKeepsRules.{keeps_renamed}
 use Rattle.dap_input.specs.declared.limits.Limits.{Limits}
 use Rattle.dap_input.specs.Limits.{AreSound}
 use Rattle.dap_normal.specs.Accepting.{Held, AreMessages, IsAccepted, accepting, id_limit, text}
-use Rattle.dap_normal.specs.Normalising.{Normalises, IsCanonical, HasOneNormalForm, NormalIsAccepted, AcceptedIsNormalised, OneNormalText, NormalStandsStill, EqualTextsTell}
+use Rattle.dap_normal.specs.Normalising.{Normalises, IsCanonical, HasOneNormalForm}
+use Rattle.dap_normal.specs.Normalising.{NormalIsAccepted, AcceptedIsNormalised, OneNormalText}
+use Rattle.dap_normal.specs.Normalising.{NormalStandsStill, EqualTextsTell}
 use Rattle.dap_normal.proofs.AcceptingFacts.{accepted_facts, messages_proper, value_laws}
 use Rattle.dap_normal.proofs.NormalTexts.{normal, normal_fits, one_normal}
 use Rattle.dap_input.proofs.Outcomes.{one_list}
@@ -39,24 +45,32 @@ Puts r s x y = IsIn (class_after 0 s, x, y) r
 one_to_one : (r : List (Class × ℤ × ℤ)) → IsRenaming IsProperId r → IsOneToOne (Puts r)
 one_to_one r is side x y u v one two =
     let c : Class = class_after 0 (seq_sort side) in (
-      (λ same. gives_one IsProperId r is c x u v one (subst (λ z. IsIn (c, z, v) r) (sym same) two)),
-      (λ same. takes_one IsProperId r is c x y u one (subst (λ z. IsIn (c, y, z) r) (sym same) two)),
+      (λ same. gives_one IsProperId r is c x u v one
+          (subst (λ z. IsIn (c, z, v) r) (sym same) two)),
+      (λ same. takes_one IsProperId r is c x y u one
+          (subst (λ z. IsIn (c, y, z) r) (sym same) two)),
     )
 
-related_ids : (r : List (Class × ℤ × ℤ)) (is js : List (Sort × ℤ)) → AreRelated r (map (occurrence 0) is) (map (occurrence 0) js) → AllZip (λ i j. Puts r i.0 i.1 j.1) is js
+related_ids : (r : List (Class × ℤ × ℤ)) (is js : List (Sort × ℤ))
+    → AreRelated r (map (occurrence 0) is) (map (occurrence 0) js)
+    → AllZip (λ i j. Puts r i.0 i.1 j.1) is js
 related_ids r [] [] h = tt
 related_ids r [] (j ∷ js) h = absurd h
 related_ids r (i ∷ is) [] h = absurd h
 related_ids r (i ∷ is) (j ∷ js) h = (h.1, related_ids r is js h.2)
 
-related_rest : (r : List (Class × ℤ × ℤ)) (xs more ys rest : List (Class × ℤ)) → length xs ≡ length ys → AreRelated r (xs ++ more) (ys ++ rest) → AreRelated r more rest
+related_rest : (r : List (Class × ℤ × ℤ)) (xs more ys rest : List (Class × ℤ))
+    → length xs ≡ length ys → AreRelated r (xs ++ more) (ys ++ rest) → AreRelated r more rest
 related_rest r [] more [] rest n h = h
 related_rest r [] more (p ∷ ys) rest n h = absurd (omega (arith, n))
 related_rest r (o ∷ xs) more [] rest n h = absurd (omega (arith, n))
-related_rest r (o ∷ xs) more (p ∷ ys) rest n h = related_rest r xs more ys rest (omega (arith, n)) h.2
+related_rest r (o ∷ xs) more (p ∷ ys) rest n h =
+    related_rest r xs more ys rest (omega (arith, n)) h.2
 
-renamed : (r : List (Class × ℤ × ℤ)) (ms ns : List Sent) → map message_skeleton ms ≡ map message_skeleton ns
-    → AreRelated r (occurrences in_whole 0 ms) (occurrences in_whole 0 ns) → AreRenamed (Puts r) ms ns
+renamed : (r : List (Class × ℤ × ℤ)) (ms ns : List Sent)
+    → map message_skeleton ms ≡ map message_skeleton ns
+    → AreRelated r (occurrences in_whole 0 ms) (occurrences in_whole 0 ns)
+    → DifferInIds (Puts r) ms ns
 renamed r [] [] same h = tt
 renamed r [] (n ∷ ns) same h = absurd cc
 renamed r (m ∷ ms) [] same h = absurd cc
@@ -64,13 +78,17 @@ renamed r (m ∷ ms) (n ∷ ns) same h =
     let xs : List (Class × ℤ) = map (occurrence 0) (ids m.doc) in
     let ys : List (Class × ℤ) = map (occurrence 0) (ids n.doc) in
     let alike = head_of same in
-    let count : length xs ≡ length ys = length-map (ids m.doc) (occurrence 0) ∙ ids_alike m n alike ∙ sym (length-map (ids n.doc) (occurrence 0)) in (
+    let count : length xs ≡ length ys =
+    length-map (ids m.doc) (occurrence 0) ∙ ids_alike m n alike
+    ∙ sym (length-map (ids n.doc) (occurrence 0)) in (
       record {
         one_side = ap (λ (w : Sent). w.side) alike;
         one_skeleton = docs_alike m n alike;
-        related = related_ids r (ids m.doc) (ids n.doc) (related_front r xs (occurrences in_whole 0 ms) ys (occurrences in_whole 0 ns) count h);
+        related = related_ids r (ids m.doc) (ids n.doc)
+            (related_front r xs (occurrences in_whole 0 ms) ys (occurrences in_whole 0 ns) count h);
       },
-      renamed r ms ns (tail_of same) (related_rest r xs (occurrences in_whole 0 ms) ys (occurrences in_whole 0 ns) count h),
+      renamed r ms ns (tail_of same)
+          (related_rest r xs (occurrences in_whole 0 ms) ys (occurrences in_whole 0 ns) count h),
     )
 
 numbered : (records : List Held) (ms : List Sent) → AreMessages records ms → All IsNumbered ms
@@ -78,13 +96,17 @@ numbered [] [] typed k d small = absurd (omega (arith, small))
 numbered [] (m ∷ ms) typed k d small = absurd typed
 numbered (held ∷ records) [] typed k d small = absurd typed
 numbered (held ∷ records) (m ∷ ms) typed zero d small =
-    subst (λ side. IsNumbered (record { side = side; doc = m.doc })) (sym typed.0.0) (typed_numbered held.0 typed.0.1.0 m.doc typed.0.1.2)
-numbered (held ∷ records) (m ∷ ms) typed (suc k) d small = numbered records ms typed.1 k d (omega (arith, small))
+    subst (λ side. IsNumbered (record { side = side; doc = m.doc })) (sym typed.0.0)
+    (typed_numbered held.0 typed.0.1.0 m.doc typed.0.1.2)
+numbered (held ∷ records) (m ∷ ms) typed (suc k) d small =
+    numbered records ms typed.1 k d (omega (arith, small))
 
-rules_kept : (records : List Held) (ms n : List Sent) → AreMessages records ms → AreSame in_whole ms n → KeepsRules ms → KeepsRules n
+rules_kept : (records : List Held) (ms n : List Sent) → AreMessages records ms
+    → AreSame in_whole ms n → KeepsRules ms → KeepsRules n
 unfolding AreSame
 rules_kept records ms n typed (r, is, carries) =
-    (keeps_renamed (Puts r) (one_to_one r is) ms n (numbered records ms typed) (renamed r ms n carries.0 carries.1)).0
+    (keeps_renamed (Puts r) (one_to_one r is) ms n (numbered records ms typed)
+    (renamed r ms n carries.0 carries.1)).0
 
 -- ---- the records of a text
 
@@ -92,8 +114,10 @@ contents_of : List Sent → List Held
 contents_of [] = []
 contents_of (m ∷ ms) = (m.side, text_of m.doc) ∷ contents_of ms
 
--- Messages that differ from typed ones in their ids alone, which are small, are those of their own texts.
-typed_again : (records : List Held) (ms n : List Sent) → AreMessages records ms → map message_skeleton ms ≡ map message_skeleton n
+-- Messages that differ from typed ones in their ids alone, which are small, are those of their own
+-- texts.
+typed_again : (records : List Held) (ms n : List Sent) → AreMessages records ms
+    → map message_skeleton ms ≡ map message_skeleton n
     → AllByRecursion (λ m. has_small_ids m.doc ≡ true) n → AreMessages (contents_of n) n
 unfolding contents_of
 typed_again records [] [] typed same small = tt
@@ -103,11 +127,16 @@ typed_again [] (m ∷ ms) (k ∷ n) typed same small = absurd typed
 typed_again (held ∷ records) (m ∷ ms) (k ∷ n) (is, typed) same small =
     let alike = head_of same in
     let side : held.0 ≡ k.side = sym is.0 ∙ ap (λ (w : Sent). w.side) alike in
-    let again = content_again held.0 held.1 m.doc k.doc is.1 (sym (docs_alike m k alike)) small.0 in
-    ((refl, subst (λ s. IsTypedContent s (text_of k.doc) k.doc) side again), typed_again records ms n typed (tail_of same) small.1)
+    let again = content_again held.0 held.1 m.doc k.doc is.1 (sym (docs_alike m k alike))
+    small.0 in (
+      (refl, subst (λ s. IsTypedContent s (text_of k.doc) k.doc) side again),
+      typed_again records ms n typed (tail_of same) small.1,
+    )
 
 module _ (limits : Limits) (sound : AreSound limits) where
-  recording_of : (n : List Sent) → AllByRecursion (λ m. length (text_of m.doc) ≤ limits.frame.content) n → IsRecording limits.frame (text n) (contents_of n)
+  recording_of : (n : List Sent)
+      → AllByRecursion (λ m. length (text_of m.doc) ≤ limits.frame.content) n
+      → IsRecording limits.frame (text n) (contents_of n)
   unfolding contents_of
   recording_of [] short = refl
   recording_of (m ∷ n) short = (
@@ -120,44 +149,64 @@ module _ (limits : Limits) (sound : AreSound limits) where
 
   -- ---- what stands still
 
-  pub normal_is_accepted : (bytes : List ℕ) (ms n : List Sent) → IsAccepted limits bytes ms → IsNormal in_whole ms n → IsAccepted limits (text n) n
+  pub normal_is_accepted : (bytes : List ℕ) (ms n : List Sent) → IsAccepted limits bytes ms
+      → IsNormal in_whole ms n → IsAccepted limits (text n) n
   unfolding IsNormal AreSame
   normal_is_accepted bytes ms n accepted is_n =
       let same : AreSame in_whole ms n = is_n.0 in
       let skeletons : map message_skeleton ms ≡ map message_skeleton n = same.2.0 in
       let fits = accepted.fits n is_n in
       let few = accepted.few in
-      let small = names_are_small in_whole (id_limit limits) ms n (λ s. let most = sound.ids in omega (arith, most)) few is_n in
+      let small =
+      names_are_small in_whole (id_limit limits) ms n
+      (λ s. let most = sound.ids in omega (arith, most)) few is_n in
       record {
         short = fits.whole;
         records = contents_of n;
         recording = recording_of n fits.each;
         typed = typed_again accepted.records ms n accepted.typed skeletons small;
         rules = rules_kept accepted.records ms n accepted.typed same accepted.rules;
-        few = λ c. let count = same_counts in_whole ms n same c in let most = few c in omega (arith, count, most);
-        fits = normal_fits limits n n (same_is_proper in_whole ms n same).1 (normal_is_its_own in_whole ms n is_n) fits;
+        few = λ c. let count = same_counts in_whole ms n same c in let most =
+            few c in omega (arith, count, most);
+        fits = normal_fits limits n n (same_is_proper in_whole ms n same).1
+            (normal_is_its_own in_whole ms n is_n) fits;
       }
 
   accepted_proper : (bytes : List ℕ) (ms : List Sent) → IsAccepted limits bytes ms → AreProper ms
   accepted_proper bytes ms accepted = messages_proper accepted.records ms accepted.typed
 
-  one_accepted : (bytes : List ℕ) (ms ns : List Sent) → IsAccepted limits bytes ms → IsAccepted limits bytes ns → ms ≡ ns
-  one_accepted = one_list (accepting limits) (readable limits.frame) (value_laws limits) (accepted_facts limits)
+  one_accepted : (bytes : List ℕ) (ms ns : List Sent) → IsAccepted limits bytes ms
+      → IsAccepted limits bytes ns → ms ≡ ns
+  one_accepted =
+      one_list (accepting limits) (readable limits.frame) (value_laws limits)
+      (accepted_facts limits)
 
-  pub normalised : (bytes : List ℕ) (ms : List Sent) → IsAccepted limits bytes ms → Normalises limits bytes (text (normal_of in_whole ms))
+  pub normalised : (bytes : List ℕ) (ms : List Sent) → IsAccepted limits bytes ms
+      → Normalises limits bytes (text (normal_of in_whole ms))
   normalised bytes ms accepted =
-      record { messages = ms; accepts = accepted; normal = normal_of in_whole ms; is_normal = normal ms (accepted_proper bytes ms accepted); text_is = refl }
+      record {
+        messages = ms;
+        accepts = accepted;
+        normal = normal_of in_whole ms;
+        is_normal = normal ms (accepted_proper bytes ms accepted);
+        text_is = refl;
+      }
 
-  pub one_text : (bytes written other : List ℕ) → Normalises limits bytes written → Normalises limits bytes other → written ≡ other
+  pub one_text : (bytes written other : List ℕ) → Normalises limits bytes written
+      → Normalises limits bytes other → written ≡ other
   one_text bytes written other a b =
       let one = one_accepted bytes b.messages a.messages b.accepts a.accepts in
       let is = subst (λ ms. IsNormal in_whole ms b.normal) one b.is_normal in
-      a.text_is ∙ ap text (one_normal a.messages a.normal b.normal (accepted_proper bytes a.messages a.accepts) a.is_normal is) ∙ sym b.text_is
+      a.text_is ∙ ap text
+      (one_normal a.messages a.normal b.normal (accepted_proper bytes a.messages a.accepts)
+      a.is_normal is) ∙ sym b.text_is
 
-  pub stands_still : (bytes written : List ℕ) → Normalises limits bytes written → Normalises limits written written
+  pub stands_still : (bytes written : List ℕ) → Normalises limits bytes written
+      → Normalises limits written written
   stands_still bytes written a = record {
     messages = a.normal;
-    accepts = subst (λ t. IsAccepted limits t a.normal) (sym a.text_is) (normal_is_accepted bytes a.messages a.normal a.accepts a.is_normal);
+    accepts = subst (λ t. IsAccepted limits t a.normal) (sym a.text_is)
+        (normal_is_accepted bytes a.messages a.normal a.accepts a.is_normal);
     normal = a.normal;
     is_normal = normal_is_its_own in_whole a.messages a.normal a.is_normal;
     text_is = a.text_is;
@@ -165,33 +214,48 @@ module _ (limits : Limits) (sound : AreSound limits) where
 
   -- ---- equal texts
 
-  pub equal_texts : (bytes others written other : List ℕ) (a : Normalises limits bytes written) (b : Normalises limits others other) → written ≡ other → AreSame in_whole a.messages b.messages
+  pub equal_texts : (bytes others written other : List ℕ) (a : Normalises limits bytes written)
+      (b : Normalises limits others other) → written ≡ other
+      → AreSame in_whole a.messages b.messages
   equal_texts bytes others written other a b same =
       let first = normal_is_accepted bytes a.messages a.normal a.accepts a.is_normal in
       let second = normal_is_accepted others b.messages b.normal b.accepts b.is_normal in
       let texts : text b.normal ≡ text a.normal = sym b.text_is ∙ sym same ∙ a.text_is in
-      let one : b.normal ≡ a.normal = one_accepted (text a.normal) b.normal a.normal (subst (λ t. IsAccepted limits t b.normal) texts second) first in
-      normal_is_complete in_whole a.messages b.messages a.normal a.is_normal (subst (IsNormal in_whole b.messages) one b.is_normal)
+      let one : b.normal ≡ a.normal =
+      one_accepted (text a.normal) b.normal a.normal
+      (subst (λ t. IsAccepted limits t b.normal) texts second) first in
+      normal_is_complete in_whole a.messages b.messages a.normal a.is_normal
+      (subst (IsNormal in_whole b.messages) one b.is_normal)
 
-  pub same_texts : (bytes others written other : List ℕ) (a : Normalises limits bytes written) (b : Normalises limits others other) → AreSame in_whole a.messages b.messages → written ≡ other
+  pub same_texts : (bytes others written other : List ℕ) (a : Normalises limits bytes written)
+      (b : Normalises limits others other) → AreSame in_whole a.messages b.messages
+      → written ≡ other
   same_texts bytes others written other a b same =
-      a.text_is ∙ ap text (normal_is_unique in_whole a.messages b.messages a.normal b.normal same a.is_normal b.is_normal) ∙ sym b.text_is
+      a.text_is ∙ ap text
+      (normal_is_unique in_whole a.messages b.messages a.normal b.normal same a.is_normal
+      b.is_normal) ∙ sym b.text_is
 
 -- ---- the laws
 
 pub has_one_normal_form : HasOneNormalForm
 has_one_normal_form limits sound bytes messages accepted =
     let proper = accepted_proper limits sound bytes messages accepted in
-    let is = normal messages proper in
-    (normal_of in_whole messages, is, λ other is_other. one_normal messages other (normal_of in_whole messages) proper is_other is)
+    let is = normal messages proper in (
+      normal_of in_whole messages,
+      is,
+      λ other is_other. one_normal messages other (normal_of in_whole messages) proper is_other
+          is,
+    )
 
 pub normal_accepted : NormalIsAccepted
 unfolding IsNormal
-normal_accepted limits sound bytes messages n accepted is_n = (normal_is_accepted limits sound bytes messages n accepted is_n, is_n.0)
+normal_accepted limits sound bytes messages n accepted is_n =
+    (normal_is_accepted limits sound bytes messages n accepted is_n, is_n.0)
 
 pub accepted_is_normalised : AcceptedIsNormalised
 accepted_is_normalised limits sound bytes = (
-  (λ accepted. (text (normal_of in_whole accepted.0), normalised limits sound bytes accepted.0 accepted.1)),
+  (λ accepted.
+      (text (normal_of in_whole accepted.0), normalised limits sound bytes accepted.0 accepted.1)),
   (λ written. (written.1.messages, written.1.accepts)),
 )
 
@@ -202,11 +266,15 @@ pub normal_stands_still : NormalStandsStill
 normal_stands_still limits sound bytes written a = stands_still limits sound bytes written a
 
 pub equal_texts_tell : EqualTextsTell
-equal_texts_tell limits sound bytes others written other a b = (equal_texts limits sound bytes others written other a b, same_texts limits sound bytes others written other a b)
+equal_texts_tell limits sound bytes others written other a b = (
+  equal_texts limits sound bytes others written other a b,
+  same_texts limits sound bytes others written other a b,
+)
 
 -- ---- all that is promised of a normal text
 
-pub canonical : (limits : Limits) → AreSound limits → (bytes written : List ℕ) → Normalises limits bytes written → IsCanonical limits bytes written
+pub canonical : (limits : Limits) → AreSound limits → (bytes written : List ℕ)
+    → Normalises limits bytes written → IsCanonical limits bytes written
 canonical limits sound bytes written a =
     let form = normal_accepted limits sound bytes a.messages a.normal a.accepts a.is_normal in
     let again = stands_still limits sound bytes written a in

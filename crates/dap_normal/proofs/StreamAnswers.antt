@@ -1,5 +1,6 @@
 -- What the engines answer that judge a recording record by record.
-use Rattle.std.proofs.Common.{◌≡◌, ℕ, ℤ, ◌+◌, ◌<◌, Bool, true, false, List, ◌++◌, Option, Result, Ok, Err, sym, ◌∙◌, subst, arith}
+use Rattle.std.proofs.Common.{◌≡◌, ℕ, ℤ, ◌+◌, ◌<◌, Bool, true, false, List, ◌++◌, Option, Result}
+use Rattle.std.proofs.Common.{Ok, Err, refl, sym, ◌∙◌, subst, arith}
 use Rattle.std.proofs.lemmas.Bool.{true≢false}
 use Rattle.dap_message.specs.Message.{Sent}
 use Rattle.dap_session.specs.Rules.{open_requests}
@@ -8,7 +9,8 @@ use Rattle.dap_normal.specs.declared.checked.Checked.{Checked}
 use Rattle.dap_input.specs.declared.limits.Limits.{Limits}
 use Rattle.dap_normal.specs.declared.normal_records.NormalRecords.{NormalRecords}
 use Rattle.dap_input.specs.declared.refused.Refused.{Refused}
-use Rattle.dap_input.specs.declared.refused.Refused.TheVariants.{InputTooLong, Record, Json, Fraction, Message, Rule, TooManyIds, Grew, Incomplete, TraceTooLong, Trace, Recorder, ReadFault, WriteFault, Memory}
+use Rattle.dap_input.specs.declared.refused.Refused.TheVariants.{Incomplete, WriteFault, Memory}
+use Rattle.dap_input.proofs.Refusals.{untold}
 use Rattle.dap_normal.specs.Accepting.{IsAccepted, text}
 use Rattle.dap_normal.specs.Checking.{Checks}
 use Rattle.dap_input.specs.Engine.{Accepts}
@@ -16,84 +18,101 @@ use Rattle.dap_normal.specs.JudgingSteps.{StandsFor}
 use Rattle.dap_normal.specs.NormalSteps.{HasEnded, HasGone, HasNext, HasStoppedAt}
 use Rattle.dap_normal.proofs.StreamLoop.{Going, all_came, refuses_next}
 
-module _ {T R : Type 0} {numbers : T → List ℤ} {table_limit : T → ℕ} (left : R → Option (List ℕ)) (given failures : R → ℕ) (limits : Limits) (start reader : R) (records : NormalRecords T)
-    (was : Going numbers table_limit left given failures limits start reader records) (new : NormalRecords T) (after : R) where
+module _ {T R : Type 0} {numbers : T → List ℤ} {table_limit : T → ℕ} (left : R
+    → Option (List ℕ)) (given failures : R
+    → ℕ) (limits : Limits) (start reader : R) (records : NormalRecords T)
+    (was : Going numbers table_limit left given failures limits start reader records)
+    (new : NormalRecords T) (after : R) where
   abbrev pub Next : List ℕ → List ℕ → Result Bool Refused → Type 0
-  Next before longer answer = HasNext numbers table_limit left given failures limits was.bytes was.messages was.normal records new reader after before longer answer
+  Next before longer answer =
+      HasNext numbers table_limit left given failures limits was.bytes was.messages was.normal
+      records new reader after before longer answer
 
   -- whether a record has come
-  pub gone : (some : Bool) (before longer : List ℕ) → Next before longer (Ok some) → some ≡ true → HasGone numbers table_limit left given failures limits was.bytes was.messages was.normal records new reader after before longer
+  pub gone : (some : Bool) (before longer : List ℕ) → Next before longer (Ok some) → some ≡ true
+      → HasGone numbers table_limit left given failures limits was.bytes was.messages was.normal
+      records new reader after before longer
   gone true before longer next is = next
   gone false before longer next is = absurd (true≢false (sym is))
 
-  pub ended : (some : Bool) (before longer : List ℕ) → Next before longer (Ok some) → some ≡ false → HasEnded numbers table_limit left given failures limits was.bytes was.messages was.normal records new reader after before longer
+  pub ended : (some : Bool) (before longer : List ℕ) → Next before longer (Ok some) → some ≡ false
+      → HasEnded numbers table_limit left given failures limits was.bytes was.messages was.normal
+      records new reader after before longer
   ended true before longer next is = absurd (true≢false is)
   ended false before longer next is = next
 
   -- ---- `check`
 
   module _ (complete : Bool) where
-    pub check_refuses : (because : Refused) → HasStoppedAt numbers table_limit left given failures limits was.bytes was.messages was.normal records new reader after because → Checks left given failures limits complete start after (Err because)
-    check_refuses (InputTooLong n) stopped = (text was.normal, refuses_next left given failures limits start reader records was after new (InputTooLong n) stopped stopped.says)
-    check_refuses (Record n why) stopped = (text was.normal, refuses_next left given failures limits start reader records was after new (Record n why) stopped stopped.says)
-    check_refuses (Json n) stopped = (text was.normal, refuses_next left given failures limits start reader records was after new (Json n) stopped stopped.says)
-    check_refuses (Fraction n) stopped = (text was.normal, refuses_next left given failures limits start reader records was after new (Fraction n) stopped stopped.says)
-    check_refuses (Message n fault) stopped = (text was.normal, refuses_next left given failures limits start reader records was after new (Message n fault) stopped stopped.says)
-    check_refuses (Rule n rule) stopped = (text was.normal, refuses_next left given failures limits start reader records was after new (Rule n rule) stopped stopped.says)
-    check_refuses (TooManyIds n) stopped = (text was.normal, refuses_next left given failures limits start reader records was after new (TooManyIds n) stopped stopped.says)
-    check_refuses (Grew n) stopped = (text was.normal, refuses_next left given failures limits start reader records was after new (Grew n) stopped stopped.says)
-    check_refuses (Incomplete client adapter) stopped = absurd stopped.says.tells
-    check_refuses (TraceTooLong n) stopped = absurd stopped.says.tells
-    check_refuses (Trace n why) stopped = absurd stopped.says.tells
-    check_refuses (Recorder n fault) stopped = absurd stopped.says.tells
-    check_refuses ReadFault stopped = (text was.normal, refuses_next left given failures limits start reader records was after new ReadFault stopped stopped.says)
-    check_refuses WriteFault stopped = absurd stopped.says.tells
+    pub check_refuses : (because : Refused)
+        → HasStoppedAt numbers table_limit left given failures limits was.bytes was.messages
+        was.normal records new reader after because
+        → Checks left given failures limits complete start after (Err because)
+    check_refuses (Incomplete client adapter) stopped =
+        absurd (untold (Incomplete client adapter) records.records.number stopped.says.fault refl
+        (λ e. absurd (let same = e in cc)) stopped.says.tells)
+    check_refuses WriteFault stopped =
+        absurd (untold WriteFault records.records.number stopped.says.fault refl
+        (λ e. absurd (let same = e in cc)) stopped.says.tells)
     check_refuses Memory stopped = tt
+    check_refuses because stopped = (
+      text was.normal,
+      refuses_next left given failures limits start reader records was after new because stopped
+          stopped.says,
+    )
 
-    module _ (before longer : List ℕ) (end : HasEnded numbers table_limit left given failures limits was.bytes was.messages was.normal records new reader after before longer) where
+    module _ (before longer : List ℕ)
+        (end : HasEnded numbers table_limit left given failures limits was.bytes was.messages
+        was.normal records new reader after before longer) where
       judge_stands : StandsFor numbers table_limit new.judge was.messages was.normal
-      judge_stands = subst (λ judge. StandsFor numbers table_limit judge was.messages was.normal) (sym end.judge_is) was.stands.stands
+      judge_stands =
+          subst (λ judge. StandsFor numbers table_limit judge was.messages was.normal)
+          (sym end.judge_is) was.stands.stands
 
       pub some_records : 0 < new.records.number
-      some_records = let is = was.stands.number_is in let same = end.number_is in omega (arith, is, same)
+      some_records = let is = was.stands.number_is in let same =
+          end.number_is in omega (arith, is, same)
 
       accepts : Accepts left failures limits.input (IsAccepted limits) start after was.messages
-      accepts = record { whole = was.bytes ++ end.more; came = all_came left given failures limits start reader records was after new before longer end; gives = end.accepted }
+      accepts = record {
+        whole = was.bytes
+            ++ end.more;
+        came =
+            all_came left given failures limits start reader records was after new before longer
+            end;
+        gives = end.accepted;
+      }
 
       abbrev pub Open : ℕ → ℕ → Type 0
       Open client adapter =
-          ((messages normal : List Sent) → StandsFor numbers table_limit new.judge messages normal → client ≡ open_requests Client messages)
-          × ((messages normal : List Sent) → StandsFor numbers table_limit new.judge messages normal → adapter ≡ open_requests Adapter messages)
+          ((messages normal : List Sent) → StandsFor numbers table_limit new.judge messages normal
+          → client ≡ open_requests Client messages)
+          × ((messages normal : List Sent) → StandsFor numbers table_limit new.judge messages normal
+          → adapter ≡ open_requests Adapter messages)
 
       module _ (client adapter : ℕ) (are_open : Open client adapter) where
-        pub check_accepts : (checked : Checked) → checked.records + 1 ≡ new.records.number → checked.client_open ≡ client → checked.adapter_open ≡ adapter
-            → (complete ≡ true → (client ≡ 0) × (adapter ≡ 0)) → Checks left given failures limits complete start after (Ok checked)
+        pub check_accepts : (checked : Checked) → checked.records + 1 ≡ new.records.number
+            → checked.client_open ≡ client → checked.adapter_open ≡ adapter
+            → (complete ≡ true → (client ≡ 0) × (adapter ≡ 0))
+            → Checks left given failures limits complete start after (Ok checked)
         check_accepts checked count client_is adapter_is answered = record {
           messages = was.messages;
           accepts = accepts;
           counted = record {
-            records = (let is = was.stands.number_is in let same = end.number_is in omega (arith, is, same, count));
+            records = (let is = was.stands.number_is in let same = end.number_is in omega
+                (arith, is, same, count));
             client = client_is ∙ are_open.0 was.messages was.normal judge_stands;
             adapter = adapter_is ∙ are_open.1 was.messages was.normal judge_stands;
           };
-          answered = λ asked. let none = answered asked in (client_is ∙ none.0, adapter_is ∙ none.1);
+          answered = λ asked. let none =
+              answered asked in (client_is ∙ none.0, adapter_is ∙ none.1);
         }
 
 -- Whether a complete session is asked for does not matter to a refusal.
-pub refuses_all_the_same : {R : Type 0} (left : R → Option (List ℕ)) (given failures : R → ℕ) (limits : Limits) (complete : Bool) (start after : R) (because : Refused)
-    → Checks left given failures limits false start after (Err because) → Checks left given failures limits complete start after (Err because)
-refuses_all_the_same left given failures limits complete start after (InputTooLong n) is = is
-refuses_all_the_same left given failures limits complete start after (Record n why) is = is
-refuses_all_the_same left given failures limits complete start after (Json n) is = is
-refuses_all_the_same left given failures limits complete start after (Fraction n) is = is
-refuses_all_the_same left given failures limits complete start after (Message n fault) is = is
-refuses_all_the_same left given failures limits complete start after (Rule n rule) is = is
-refuses_all_the_same left given failures limits complete start after (TooManyIds n) is = is
-refuses_all_the_same left given failures limits complete start after (Grew n) is = is
-refuses_all_the_same left given failures limits complete start after (Incomplete client adapter) is = absurd (true≢false (sym is.asked))
-refuses_all_the_same left given failures limits complete start after (TraceTooLong n) is = is
-refuses_all_the_same left given failures limits complete start after (Trace n why) is = is
-refuses_all_the_same left given failures limits complete start after (Recorder n fault) is = is
-refuses_all_the_same left given failures limits complete start after ReadFault is = is
-refuses_all_the_same left given failures limits complete start after WriteFault is = is
-refuses_all_the_same left given failures limits complete start after Memory is = is
+pub refuses_all_the_same : {R : Type 0} (left : R → Option (List ℕ)) (given failures : R
+    → ℕ) (limits : Limits) (complete : Bool) (start after : R) (because : Refused)
+    → Checks left given failures limits false start after (Err because)
+    → Checks left given failures limits complete start after (Err because)
+refuses_all_the_same left given failures limits complete start after (Incomplete client adapter)
+    is = absurd (true≢false (sym is.asked))
+refuses_all_the_same left given failures limits complete start after because is = is

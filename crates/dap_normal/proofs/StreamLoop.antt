@@ -1,5 +1,7 @@
 -- What an engine keeps that judges a recording record by record, as its bytes come.
-use Rattle.std.proofs.Common.{◌≡◌, ℕ, ℤ, ◌+◌, ◌-◌, ◌<◌, ◌≤◌, ◌^◌, true, false, Ok, Bool, List, [], ◌∷◌, ◌++◌, length, Option, Some, None, refl, ◌∙◌, ap, arith, append_assoc, length-append}
+use Rattle.std.proofs.Common.{◌≡◌, ℕ, ℤ, ◌+◌, ◌-◌, ◌<◌, ◌≤◌, ◌^◌, true, false, Ok, Bool, List, []}
+use Rattle.std.proofs.Common.{◌∷◌, ◌++◌, length, Option, Some, None, refl, ◌∙◌, ap, arith}
+use Rattle.std.proofs.Common.{append_assoc, length-append}
 use Rattle.std.proofs.KnownBytes.{Consumes-nil, Consumes-trans}
 use Rattle.std.proofs.lemmas.List.{length_push}
 use Rattle.dap_device.specs.Pieces.{HasComeSoFar, HasPaused}
@@ -16,33 +18,42 @@ use Rattle.dap_input.specs.Limits.{AreSound}
 use Rattle.dap_normal.specs.NormalSteps.{HasEnded, HasGone, HasNext, HasStoppedAt, StandsBefore}
 use Rattle.dap_input.specs.ReadTo.{IsReadTo, so_far}
 use Rattle.dap_normal.specs.Streaming.{HasComeTo, RefusesNext}
-use Rattle.dap_normal.specs.Refusals.{RefusesAt}
+use Rattle.dap_input.specs.Refusals.{RefusesAt}
 
 module _ {R : Type 0} (left : R → Option (List ℕ)) (given failures : R → ℕ) where
   -- Nothing has come.
   pub nothing_came : (reader : R) → HasComeSoFar left given failures reader reader [] None
-  nothing_came reader = record { came = Consumes-nil (left reader); counted = omega arith; paused = refl }
+  nothing_came reader =
+      record { came = Consumes-nil (left reader); counted = omega arith; paused = refl }
 
   -- More came.
-  pub came_on : (start mid end : R) (bytes more : List ℕ) (stop : Option Stop) → HasComeSoFar left given failures start mid bytes None → HasComeSoFar left given failures mid end more stop
+  pub came_on : (start mid end : R) (bytes more : List ℕ) (stop : Option Stop)
+      → HasComeSoFar left given failures start mid bytes None
+      → HasComeSoFar left given failures mid end more stop
       → HasComeSoFar left given failures start end (bytes ++ more) stop
   came_on start mid end bytes more stop was next = record {
     came = Consumes-trans _ _ _ _ _ was.came next.came;
-    counted = (let before = was.counted in let behind = next.counted in omega (arith, before, behind, length-append bytes more));
+    counted = (let before = was.counted in let behind = next.counted in omega
+        (arith, before, behind, length-append bytes more));
     paused = paused_on stop next.paused;
   }
     where
-      paused_on : (s : Option Stop) → HasPaused left given failures mid end s → HasPaused left given failures start end s
+      paused_on : (s : Option Stop) → HasPaused left given failures mid end s
+          → HasPaused left given failures start end s
       paused_on None same = same ∙ was.paused
       paused_on (Some End) same = (same.0, same.1 ∙ was.paused)
       paused_on (Some Full) same = same ∙ was.paused
       paused_on (Some Failed) same = same ∙ ap (λ n. n + 1) was.paused
 
   -- A reader that came to its end gave a whole input.
-  pub whole_came : (start end : R) (limit : ℕ) (bytes : List ℕ) → HasComeSoFar left given failures start end bytes (Some End) → length bytes ≤ limit → HasCome left failures start end limit bytes End
-  whole_came start end limit bytes came short = record { came = came.came; has_length = short; stopped = came.paused }
+  pub whole_came : (start end : R) (limit : ℕ) (bytes : List ℕ)
+      → HasComeSoFar left given failures start end bytes (Some End) → length bytes ≤ limit
+      → HasCome left failures start end limit bytes End
+  whole_came start end limit bytes came short =
+      record { came = came.came; has_length = short; stopped = came.paused }
 
-module _ {T R : Type 0} (numbers : T → List ℤ) (table_limit : T → ℕ) (left : R → Option (List ℕ)) (given failures : R → ℕ) (limits : Limits) where
+module _ {T R : Type 0} (numbers : T → List ℤ) (table_limit : T → ℕ) (left : R
+    → Option (List ℕ)) (given failures : R → ℕ) (limits : Limits) where
   -- So much has come, and the records before the next one are accepted.
   pub record Going (start reader : R) (records : NormalRecords T) : Type 0 where
     pub bytes : List ℕ
@@ -51,22 +62,38 @@ module _ {T R : Type 0} (numbers : T → List ℤ) (table_limit : T → ℕ) (le
     pub normal : List Sent
     pub stands : StandsBefore numbers table_limit limits bytes records messages normal
 
-module _ {T R : Type 0} {numbers : T → List ℤ} {table_limit : T → ℕ} (left : R → Option (List ℕ)) (given failures : R → ℕ) (limits : Limits) where
-  abbrev pub at_start : (reader : R) (records : NormalRecords T) → StandsBefore numbers table_limit limits [] records [] [] → Going numbers table_limit left given failures limits reader reader records
-  at_start reader records stands = record { bytes = []; came = nothing_came left given failures reader; messages = []; normal = []; stands = stands }
+module _ {T R : Type 0} {numbers : T → List ℤ} {table_limit : T → ℕ} (left : R
+    → Option (List ℕ)) (given failures : R → ℕ) (limits : Limits) where
+  abbrev pub at_start : (reader : R) (records : NormalRecords T)
+      → StandsBefore numbers table_limit limits [] records [] []
+      → Going numbers table_limit left given failures limits reader reader records
+  at_start reader records stands =
+      record {
+        bytes = [];
+        came = nothing_came left given failures reader;
+        messages = [];
+        normal = [];
+        stands = stands;
+      }
 
-  module _ (start reader : R) (records : NormalRecords T) (was : Going numbers table_limit left given failures limits start reader records) where
+  module _ (start reader : R) (records : NormalRecords T)
+      (was : Going numbers table_limit left given failures limits start reader records) where
     taken_within : length was.bytes ≤ limits.input
-    taken_within = let taken = was.stands.taken in let limit = was.stands.limit_is in let within = was.stands.between.within in omega (arith, taken, limit, within)
+    taken_within = let taken = was.stands.taken in let limit = was.stands.limit_is in let within =
+        was.stands.between.within in omega (arith, taken, limit, within)
 
     front_within : length was.stands.front ≤ length was.bytes
-    front_within = let came = was.stands.came in omega (arith, ap length came, length-append was.stands.front records.records.pieces.unread)
+    front_within = let came =
+        was.stands.came in omega
+        (arith, ap length came, length-append was.stands.front records.records.pieces.unread)
 
     -- There are fewer records than bytes may be.
     pub small_number : AreSound limits → records.records.number < 2 ^ 63
-    small_number sound = let few = was.stands.few in let most = sound.input in omega (arith, few, most, taken_within, front_within)
+    small_number sound = let few = was.stands.few in let most =
+        sound.input in omega (arith, few, most, taken_within, front_within)
 
-    pub small_count : AreSound limits → given start < 2 ^ 62 → given reader + (records.records.pieces.limit - records.records.pieces.taken) < 2 ^ 63
+    pub small_count : AreSound limits → given start < 2 ^ 62
+        → given reader + (records.records.pieces.limit - records.records.pieces.taken) < 2 ^ 63
     small_count sound small =
         let most = sound.input in
         let came = was.came.counted in
@@ -79,16 +106,22 @@ module _ {T R : Type 0} {numbers : T → List ℤ} {table_limit : T → ℕ} (le
 
     -- ---- one more record
 
-    abbrev pub on : (new : NormalRecords T) (after : R) (before longer : List ℕ) → HasGone numbers table_limit left given failures limits was.bytes was.messages was.normal records new reader after before longer → Going numbers table_limit left given failures limits start after new
+    abbrev pub on : (new : NormalRecords T) (after : R) (before longer : List ℕ)
+        → HasGone numbers table_limit left given failures limits was.bytes was.messages was.normal
+        records new reader after before longer
+        → Going numbers table_limit left given failures limits start after new
     on new after before longer gone = record {
       bytes = was.bytes ++ gone.more;
-      came = came_on left given failures start reader after was.bytes gone.more None was.came gone.came;
+      came = came_on left given failures start reader after was.bytes gone.more None was.came
+          gone.came;
       messages = was.messages ++ gone.message ∷ [];
       normal = was.normal ++ gone.named ∷ [];
       stands = gone.stands;
     }
 
-    pub gone_taken : (new : NormalRecords T) (after : R) (before longer : List ℕ) → HasGone numbers table_limit left given failures limits was.bytes was.messages was.normal records new reader after before longer
+    pub gone_taken : (new : NormalRecords T) (after : R) (before longer : List ℕ)
+        → HasGone numbers table_limit left given failures limits was.bytes was.messages was.normal
+        records new reader after before longer
         → given after ≤ given start + limits.input + 1
     gone_taken new after before longer gone =
         let so_many = was.came.counted in
@@ -100,55 +133,87 @@ module _ {T R : Type 0} {numbers : T → List ℤ} {table_limit : T → ℕ} (le
 
     -- ---- an input of which so much has come
 
-    abbrev pub before_in : (input : Input) (tail : List ℕ) → input.bytes ≡ was.bytes ++ tail → AcceptedBefore (accepting limits) input records.records.number
+    abbrev pub before_in : (input : Input) (tail : List ℕ) → input.bytes ≡ was.bytes ++ tail
+        → AcceptedBefore (accepting limits) input records.records.number
     before_in input tail split = record {
       values = was.messages;
       front = was.stands.front;
       rest = records.records.pieces.unread ++ tail;
-      split = split ∙ ap (λ t. t ++ tail) was.stands.came ∙ append_assoc was.stands.front records.records.pieces.unread tail;
+      split = split ∙ ap (λ t. t ++ tail) was.stands.came
+          ∙ append_assoc was.stands.front records.records.pieces.unread tail;
       accepted = was.stands.accepted;
       is_number = was.stands.number_is;
     }
 
-    abbrev pub next_in : (new : NormalRecords T) (after : R) (before longer : List ℕ) (gone : HasGone numbers table_limit left given failures limits was.bytes was.messages was.normal records new reader after before longer)
-        → (input : Input) (tail : List ℕ) → input.bytes ≡ (was.bytes ++ gone.more) ++ tail → AcceptedBefore (accepting limits) input (records.records.number + 1)
+    abbrev pub next_in : (new : NormalRecords T) (after : R) (before longer : List ℕ)
+        (gone : HasGone numbers table_limit left given failures limits was.bytes was.messages
+        was.normal records new reader after before longer)
+        → (input : Input) (tail : List ℕ) → input.bytes ≡ (was.bytes ++ gone.more) ++ tail
+        → AcceptedBefore (accepting limits) input (records.records.number + 1)
     next_in new after before longer gone input tail split = record {
       values = was.messages ++ gone.message ∷ [];
       front = gone.stands.front;
       rest = new.records.pieces.unread ++ tail;
-      split = split ∙ ap (λ t. t ++ tail) gone.stands.came ∙ append_assoc gone.stands.front new.records.pieces.unread tail;
+      split = split ∙ ap (λ t. t ++ tail) gone.stands.came
+          ∙ append_assoc gone.stands.front new.records.pieces.unread tail;
       accepted = gone.stands.accepted;
-      is_number = (let is = was.stands.number_is in omega (arith, is, length_push was.messages gone.message));
+      is_number =
+          (let is = was.stands.number_is in omega
+          (arith, is, length_push was.messages gone.message));
     }
 
     -- ---- so far
 
-    module _ (after : R) (more : List ℕ) (stop : Option Stop) (came : HasComeSoFar left given failures reader after more stop) where
-      abbrev pub records_before : AcceptedBefore (accepting limits) (so_far (was.bytes ++ more) stop) records.records.number
+    module _ (after : R) (more : List ℕ) (stop : Option Stop)
+        (came : HasComeSoFar left given failures reader after more stop) where
+      abbrev pub records_before : AcceptedBefore (accepting limits)
+          (so_far (was.bytes ++ more) stop) records.records.number
       records_before = record {
         values = was.messages;
         front = was.stands.front;
         rest = records.records.pieces.unread ++ more;
-        split = ap (λ t. t ++ more) was.stands.came ∙ append_assoc was.stands.front records.records.pieces.unread more;
+        split = ap (λ t. t ++ more) was.stands.came
+            ∙ append_assoc was.stands.front records.records.pieces.unread more;
         accepted = was.stands.accepted;
         is_number = was.stands.number_is;
       }
 
-      abbrev pub come_to : IsReadTo (accepting limits) (was.bytes ++ more) records.records.number → HasComeTo left given failures limits start after stop records.records.number (text was.normal)
+      abbrev pub come_to : IsReadTo (accepting limits) (was.bytes ++ more) records.records.number
+          → HasComeTo left given failures limits start after stop records.records.number
+          (text was.normal)
       come_to read_to = record {
         bytes = was.bytes ++ more;
         came = came_on left given failures start reader after was.bytes more stop was.came came;
         read_to = read_to;
         before = records_before;
-        normalised = record { messages = was.messages; accepts = was.stands.accepted; normal = was.normal; is_normal = was.stands.stands.is_normal; text_is = refl };
+        normalised =
+            record {
+              messages = was.messages;
+              accepts = was.stands.accepted;
+              normal = was.normal;
+              is_normal = was.stands.stands.is_normal;
+              text_is = refl;
+            };
       }
 
-    module _ (after : R) (new : NormalRecords T) (because : Refused) (stopped : HasStoppedAt numbers table_limit left given failures limits was.bytes was.messages was.normal records new reader after because) where
-      abbrev pub refused_to : HasComeTo left given failures limits start after stopped.stop records.records.number (text was.normal)
+    module _ (after : R) (new : NormalRecords T) (because : Refused)
+        (stopped : HasStoppedAt numbers table_limit left given failures limits was.bytes
+        was.messages was.normal records new reader after because) where
+      abbrev pub refused_to : HasComeTo left given failures limits start after stopped.stop
+          records.records.number (text was.normal)
       refused_to = come_to after stopped.more stopped.stop stopped.came stopped.read_to
 
-      pub refuses_next : RefusesAt limits (so_far (was.bytes ++ stopped.more) stopped.stop) records.records.number because → RefusesNext left given failures limits start after because (text was.normal)
-      refuses_next says = record { number = records.records.number; stop = stopped.stop; to = refused_to; refuses = says; cut = stopped.cut }
+      pub refuses_next : RefusesAt (accepting limits)
+          (so_far (was.bytes ++ stopped.more) stopped.stop) records.records.number because
+          → RefusesNext left given failures limits start after because (text was.normal)
+      refuses_next says =
+          record {
+            number = records.records.number;
+            stop = stopped.stop;
+            to = refused_to;
+            refuses = says;
+            cut = stopped.cut;
+          }
 
       pub few_taken : given after ≤ given start + limits.input + 1
       few_taken =
@@ -159,9 +224,13 @@ module _ {T R : Type 0} {numbers : T → List ℤ} {table_limit : T → ℕ} (le
 
     -- ---- at the end
 
-    module _ (after : R) (new : NormalRecords T) (before longer : List ℕ) (ended : HasEnded numbers table_limit left given failures limits was.bytes was.messages was.normal records new reader after before longer) where
+    module _ (after : R) (new : NormalRecords T) (before longer : List ℕ)
+        (ended : HasEnded numbers table_limit left given failures limits was.bytes was.messages
+        was.normal records new reader after before longer) where
       pub all_came : HasCome left failures start after limits.input (was.bytes ++ ended.more) End
-      all_came = whole_came left given failures start after limits.input (was.bytes ++ ended.more) (came_on left given failures start reader after was.bytes ended.more (Some End) was.came ended.came) ended.accepted.short
+      all_came = whole_came left given failures start after limits.input (was.bytes ++ ended.more)
+          (came_on left given failures start reader after was.bytes ended.more (Some End) was.came
+          ended.came) ended.accepted.short
 
       pub all_taken : given after ≤ given start + limits.input + 1
       all_taken =
@@ -170,7 +239,9 @@ module _ {T R : Type 0} {numbers : T → List ℤ} {table_limit : T → ℕ} (le
           let within = ended.accepted.short in
           omega (arith, so_many, behind, within, length-append was.bytes ended.more)
 
-    pub passed_taken : (new : NormalRecords T) (after : R) (before longer : List ℕ) (some : Bool) → HasNext numbers table_limit left given failures limits was.bytes was.messages was.normal records new reader after before longer (Ok some)
+    pub passed_taken : (new : NormalRecords T) (after : R) (before longer : List ℕ) (some : Bool)
+        → HasNext numbers table_limit left given failures limits was.bytes was.messages was.normal
+        records new reader after before longer (Ok some)
         → given after ≤ given start + limits.input + 1
     passed_taken new after before longer true gone = gone_taken new after before longer gone
     passed_taken new after before longer false ended = all_taken after new before longer ended

@@ -11,22 +11,27 @@ use Rattle.dap_normal.specs.Accepting.{IsAccepted}
 use Rattle.dap_input.specs.Engine.{Accepts}
 use Rattle.dap_normal.specs.Streaming.{RefusesNext}
 
--- The numbers of accepted messages: how many they are, and how many requests of each side have no response.
+-- The numbers of accepted messages: how many they are, and how many requests of each side have no
+-- response.
 pub record AreCounted (checked : Checked) (messages : List Sent) : Type 0 where
   pub records : checked.records ≡ length messages
   pub client : checked.client_open ≡ open_requests Client messages
   pub adapter : checked.adapter_open ≡ open_requests Adapter messages
 
--- `check` over a reader, by what this tells of its bytes and its failures, with limits, and with whether each request must have a response.
-module _ {R : Type 0} (left : R → Option (List ℕ)) (given failures : R → ℕ) (limits : Limits) (complete : Bool) where
-  -- The input is accepted, with these numbers; where that is asked for, each request has a response.
+-- `check` over a reader, by what this tells of its bytes and its failures, with limits, and with
+-- whether each request must have a response.
+module _ {R : Type 0} (left : R → Option (List ℕ)) (given failures : R
+    → ℕ) (limits : Limits) (complete : Bool) where
+  -- The input is accepted, with these numbers; where that is asked for, each request has a
+  -- response.
   pub record HasChecked (old new : R) (checked : Checked) : Type 0 where
     pub messages : List Sent
     pub accepts : Accepts left failures limits.input (IsAccepted limits) old new messages
     pub counted : AreCounted checked messages
     pub answered : complete ≡ true → (checked.client_open ≡ 0) × (checked.adapter_open ≡ 0)
 
-  -- The input is accepted, but so many requests of the client and of the adapter have no response, and that is asked for.
+  -- The input is accepted, but so many requests of the client and of the adapter have no response,
+  -- and that is asked for.
   pub record IsIncomplete (old new : R) (client adapter : ℕ) : Type 0 where
     pub asked : complete ≡ true
     pub messages : List Sent
@@ -40,4 +45,5 @@ module _ {R : Type 0} (left : R → Option (List ℕ)) (given failures : R → �
   Checks old new (Err (Incomplete client adapter)) = IsIncomplete old new client adapter
   Checks old new (Err WriteFault) = ⊥
   Checks old new (Err Memory) = Unit {0}
-  Checks old new (Err refused) = (text : List ℕ) × RefusesNext left given failures limits old new refused text
+  Checks old new (Err refused) = (text : List ℕ)
+      × RefusesNext left given failures limits old new refused text

@@ -6,4 +6,5 @@ use Rattle.dap_normal.specs.Normalised.{Holds}
 
 -- The one holds some messages, and the other some, and a renaming carries the one to the other.
 abbrev pub HoldTheSame : List ℕ → List ℕ → Type 0
-HoldTheSame bytes others = (messages : List Sent) × (held : List Sent) × Holds bytes messages × Holds others held × AreSame in_whole messages held
+HoldTheSame bytes others = (messages : List Sent) × (held : List Sent) × Holds bytes messages
+    × Holds others held × AreSame in_whole messages held

@@ -1,8 +1,9 @@
 -- What the judging of a record does.
-use Rattle.std.specs.Prelude.{◌≡◌, ◌⊎◌, ℕ, ◌+◌, ◌<◌, ◌≤◌, ℤ, List, [], ◌∷◌, ◌++◌, length, Result, Ok, Err}
+use Rattle.std.specs.Prelude.{◌≡◌, ◌⊎◌, ℕ, ◌+◌, ◌<◌, ◌≤◌, ℤ, List, [], ◌∷◌, ◌++◌, length, Result}
+use Rattle.std.specs.Prelude.{Ok, Err}
 use Rattle.dap_tree.specs.Json.{text_of}
 use Rattle.dap_tree.specs.declared.sort.Sort.{Sort}
-use Rattle.dap_message.specs.Message.{Sent, no_reading, fraction, faulty as profile_fault}
+use Rattle.dap_message.specs.Message.{Sent}
 use Rattle.dap_recording.specs.Recording.{record_text}
 use Rattle.dap_recording.specs.declared.record.Record.{Record as WholeRecord}
 use Rattle.dap_rename.specs.Messages.{AreProper, IsNormal, in_whole}
@@ -11,8 +12,9 @@ use Rattle.dap_session.specs.Standing.{Stands}
 use Rattle.dap_normal.specs.declared.judging.Judge.{Judge}
 use Rattle.dap_input.specs.declared.limits.Limits.{Limits}
 use Rattle.dap_input.specs.declared.refused.Refused.{Refused}
-use Rattle.dap_input.specs.declared.refused.Refused.TheVariants.{Json, Fraction, Message, Rule, TooManyIds, Grew, Memory}
-use Rattle.dap_normal.specs.Accepting.{Held, Fits, IsNext, Objects, no_message, broken, too_many_ids, grew, text}
+use Rattle.dap_input.specs.declared.refused.Refused.TheVariants.{Grew, Memory}
+use Rattle.dap_input.specs.Refusals.{RefusesHeld}
+use Rattle.dap_normal.specs.Accepting.{Held, Fits, IsNext, Objects, text}
 
 -- what a record holds
 abbrev pub held_of : WholeRecord → Held
@@ -22,7 +24,8 @@ abbrev pub judge_limits : {T : Type 0} → Judge T → Limits
 judge_limits judge = judge.limits
 
 module _ {T : Type 0} (numbers : T → List ℤ) (table_limit : T → ℕ) where
-  -- The judge stands for these messages, with this normal form: its session and its names do, and it knows how long the text is.
+  -- The judge stands for these messages, with this normal form: its session and its names do, and
+  -- it knows how long the text is.
   pub record StandsFor (judge : Judge T) (messages normal : List Sent) : Type 0 where
     pub session : Stands judge.session messages
     pub names : StandFor numbers judge.names messages
@@ -36,36 +39,34 @@ module _ {T : Type 0} (numbers : T → List ℤ) (table_limit : T → ℕ) where
 abbrev pub record_of : Sent → List ℕ
 record_of message = record_text message.side (text_of message.doc)
 
--- Behind a text of so many bytes the message's record is appended to what was there before, and the whole text is so long; or it passes a limit.
+-- Behind a text of so many bytes the message's record is appended to what was there before, and the
+-- whole text is so long; or it passes a limit.
 abbrev pub Writes : Limits → Sent → ℕ → ℕ → List ℕ → List ℕ → Result ℕ Refused → Type 0
 Writes limits message n written old new (Ok after) =
-    (length (text_of message.doc) ≤ limits.frame.content) × (new ≡ old ++ record_of message) × (after ≡ written + length (record_of message)) × (after ≤ limits.input)
+    (length (text_of message.doc) ≤ limits.frame.content) × (new ≡ old ++ record_of message)
+    × (after ≡ written + length (record_of message)) × (after ≤ limits.input)
 Writes limits message n written old new (Err (Grew m)) =
-    (m ≡ n) × ((limits.frame.content < length (text_of message.doc)) ⊎ (limits.input < written + length (record_of message)))
+    (m ≡ n) × ((limits.frame.content < length (text_of message.doc))
+    ⊎ (limits.input < written + length (record_of message)))
 Writes limits message n written old new (Err Memory) = Unit {0}
 Writes limits message n written old new (Err _) = ⊥
 
--- Record n, which holds this, is refused for this behind these messages. Memory that was refused tells nothing.
-abbrev pub RefusesRecord : Limits → List Sent → Held → ℕ → Refused → Type 0
-RefusesRecord limits messages held n (Json m) = (m ≡ n) × Objects limits messages held (no_message no_reading)
-RefusesRecord limits messages held n (Fraction m) = (m ≡ n) × Objects limits messages held (no_message fraction)
-RefusesRecord limits messages held n (Message m fault) = (m ≡ n) × Objects limits messages held (no_message (profile_fault fault))
-RefusesRecord limits messages held n (Rule m rule) = (m ≡ n) × Objects limits messages held (broken rule)
-RefusesRecord limits messages held n (TooManyIds m) = (m ≡ n) × Objects limits messages held too_many_ids
-RefusesRecord limits messages held n (Grew m) = (m ≡ n) × Objects limits messages held grew
-RefusesRecord limits messages held n Memory = Unit {0}
-RefusesRecord limits messages held n _ = ⊥
-
 module _ {T : Type 0} (numbers : T → List ℤ) (table_limit : T → ℕ) where
-  -- The message of the record is accepted behind these, the judge stands for it too, and the record of its normal form was appended.
-  pub record IsTaken (messages normal : List Sent) (held : Held) (judge : Judge T) (old new : List ℕ) : Type 0 where
+  -- The message of the record is accepted behind these, the judge stands for it too, and the record
+  -- of its normal form was appended.
+  pub record IsTaken (messages normal : List Sent) (held : Held) (judge : Judge T)
+      (old new : List ℕ) : Type 0 where
     pub message : Sent
     pub is_next : IsNext judge.limits messages held message
     pub named : Sent
-    pub stands : StandsFor numbers table_limit judge (messages ++ message ∷ []) (normal ++ named ∷ [])
+    pub stands : StandsFor numbers table_limit judge (messages ++ message ∷ []) (normal ++ named
+        ∷ [])
     pub appended : new ≡ old ++ record_of named
 
   -- Record n, which holds this, is taken or refused.
-  abbrev pub JudgesRecord : List Sent → List Sent → Held → ℕ → Judge T → Judge T → List ℕ → List ℕ → Result (Unit {0}) Refused → Type 0
-  JudgesRecord messages normal held n before after old new (Ok done) = IsTaken messages normal held after old new
-  JudgesRecord messages normal held n before after old new (Err because) = RefusesRecord before.limits messages held n because
+  abbrev pub JudgesRecord : List Sent → List Sent → Held → ℕ → Judge T → Judge T → List ℕ → List ℕ
+      → Result (Unit {0}) Refused → Type 0
+  JudgesRecord messages normal held n before after old new (Ok done) =
+      IsTaken messages normal held after old new
+  JudgesRecord messages normal held n before after old new (Err because) =
+      RefusesHeld (Objects before.limits messages held) n because

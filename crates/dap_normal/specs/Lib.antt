@@ -7,5 +7,4 @@ pub mod NormalSteps
 pub mod Normalised
 pub mod Normalising
 pub mod RecordSteps
-pub mod Refusals
 pub mod Streaming

@@ -6,6 +6,8 @@ use Rattle.dap_rename.specs.declared.tables.Tables.{Tables}
 use Rattle.dap_tree.specs.declared.sort.Sort.{Sort}
 use Rattle.dap_input.specs.declared.limits.Limits.{Limits}
 
--- The tables are those of a recording that is not begun (own): all are empty, and each takes as many names as its sort may have ids.
+-- The tables are those of a recording that is not begun (own): all are empty, and each takes as
+-- many names as its sort may have ids.
 abbrev pub AreReady : {T : Type 0} → (T → List ℤ) → (T → ℕ) → Limits → Tables T → Type 0
-AreReady numbers table_limit limits tables = AreEmpty numbers tables × ((s : Sort) → table_limit (table_of tables s) ≡ limits.ids)
+AreReady numbers table_limit limits tables = AreEmpty numbers tables
+    × ((s : Sort) → table_limit (table_of tables s) ≡ limits.ids)

@@ -1,5 +1,6 @@
 -- What the next record of an input makes of the records before it.
-use Rattle.std.specs.Prelude.{◌≡◌, ℕ, ◌+◌, ◌-◌, ◌<◌, ◌≤◌, ℤ, Bool, true, false, List, [], ◌∷◌, ◌++◌, length, Option, Some, None, Result, Ok, Err}
+use Rattle.std.specs.Prelude.{◌≡◌, ℕ, ◌+◌, ◌-◌, ◌<◌, ◌≤◌, ℤ, Bool, true, false, List, [], ◌∷◌, ◌++◌}
+use Rattle.std.specs.Prelude.{length, Option, Some, None, Result, Ok, Err}
 use Rattle.dap_device.specs.Pieces.{HasComeSoFar}
 use Rattle.dap_device.specs.declared.reading.Stop.{Stop}
 use Rattle.dap_device.specs.declared.reading.Stop.TheVariants.{End}
@@ -13,10 +14,13 @@ use Rattle.dap_normal.specs.Accepting.{IsAccepted, accepting}
 use Rattle.dap_normal.specs.JudgingSteps.{StandsFor, judge_limits, record_of}
 use Rattle.dap_normal.specs.RecordSteps.{StandsBetween}
 use Rattle.dap_input.specs.ReadTo.{IsReadTo, so_far}
-use Rattle.dap_normal.specs.Refusals.{RefusesAt}
+use Rattle.dap_input.specs.Refusals.{RefusesAt}
 
--- Of these bytes, which have come, what is unread begins behind records that are accepted as these messages, for which the judge stands, with this normal form.
-pub record StandsBefore {T : Type 0} (numbers : T → List ℤ) (table_limit : T → ℕ) (limits : Limits) (bytes : List ℕ) (records : NormalRecords T) (messages normal : List Sent) : Type 0 where
+-- Of these bytes, which have come, what is unread begins behind records that are accepted as these
+-- messages, for which the judge stands, with this normal form.
+pub record StandsBefore {T : Type 0} (numbers : T → List ℤ) (table_limit : T
+    → ℕ) (limits : Limits) (bytes : List ℕ) (records : NormalRecords T)
+    (messages normal : List Sent) : Type 0 where
   pub front : List ℕ
   pub accepted : IsAccepted limits front messages
   pub came : bytes ≡ front ++ records.records.pieces.unread
@@ -32,9 +36,13 @@ pub record StandsBefore {T : Type 0} (numbers : T → List ℤ) (table_limit : T
 
 -- how many bytes are left at most behind what is accepted
 abbrev pub remaining : {T : Type 0} → NormalRecords T → ℕ
-remaining records = (records.records.pieces.limit - records.records.pieces.taken) + length records.records.pieces.unread
+remaining records =
+    (records.records.pieces.limit - records.records.pieces.taken) + length
+    records.records.pieces.unread
 
-module _ {T R : Type 0} (numbers : T → List ℤ) (table_limit : T → ℕ) (left : R → Option (List ℕ)) (given failures : R → ℕ) (limits : Limits) (bytes : List ℕ) (messages normal : List Sent)
+module _ {T R : Type 0} (numbers : T → List ℤ) (table_limit : T → ℕ) (left : R
+    → Option (List ℕ)) (given failures : R
+    → ℕ) (limits : Limits) (bytes : List ℕ) (messages normal : List Sent)
     (old new : NormalRecords T) (before after : R) where
   -- One more record is accepted, and the record of its normal form is appended.
   pub record HasGone (text longer : List ℕ) : Type 0 where
@@ -42,7 +50,8 @@ module _ {T R : Type 0} (numbers : T → List ℤ) (table_limit : T → ℕ) (le
     pub came : HasComeSoFar left given failures before after more None
     pub message : Sent
     pub named : Sent
-    pub stands : StandsBefore numbers table_limit limits (bytes ++ more) new (messages ++ message ∷ []) (normal ++ named ∷ [])
+    pub stands : StandsBefore numbers table_limit limits (bytes ++ more) new (messages ++ message
+        ∷ []) (normal ++ named ∷ [])
     pub read_to : IsReadTo (accepting limits) (bytes ++ more) old.records.number
     pub shorter : remaining new < remaining old
     pub appended : longer ≡ text ++ record_of named
@@ -60,7 +69,8 @@ module _ {T R : Type 0} (numbers : T → List ℤ) (table_limit : T → ℕ) (le
   -- what a refusal says of the bytes that have come; that memory was refused says nothing of them
   abbrev pub SaysOf : List ℕ → Option Stop → Refused → Type 0
   SaysOf came stop Memory = Unit {0}
-  SaysOf came stop refused = RefusesAt limits (so_far came stop) old.records.number refused
+  SaysOf came stop refused =
+      RefusesAt (accepting limits) (so_far came stop) old.records.number refused
 
   -- This record is refused, or cannot be read.
   pub record HasStoppedAt (refused : Refused) : Type 0 where

@@ -7,7 +7,9 @@ use Rattle.dap_normal.specs.Accepting.{text}
 
 -- Each message is that of some content.
 abbrev pub AreTyped : List Sent → Type 0
-AreTyped messages = AllByRecursion (λ message. (content : List ℕ) × IsTypedContent message.side content message.doc) messages
+AreTyped messages =
+    AllByRecursion (λ message. (content : List ℕ)
+    × IsTypedContent message.side content message.doc) messages
 
 -- The bytes hold these messages: they are typed, and the bytes are the text of their normal form.
 pub record Holds (bytes : List ℕ) (messages : List Sent) : Type 0 where

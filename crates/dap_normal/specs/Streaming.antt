@@ -1,5 +1,7 @@
--- What the engines that judge a recording record by record, while they read it, answer, and how far they have then read and written. Source: own.
-use Rattle.std.specs.Prelude.{◌≡◌, ◌⊎◌, ℕ, ◌+◌, ◌≤◌, List, [], ◌++◌, length, take, Option, Some, Result, Ok, Err}
+-- What the engines that judge a recording record by record, while they read it, answer, and how far
+-- they have then read and written. Source: own.
+use Rattle.std.specs.Prelude.{◌≡◌, ◌⊎◌, ℕ, ◌+◌, ◌≤◌, List, [], ◌++◌, length, take, Option, Some}
+use Rattle.std.specs.Prelude.{Result, Ok, Err}
 use Rattle.std.specs.Io.KnownBytes.{Appends, Keeps}
 use Rattle.dap_device.specs.Device.{HasTakenNothing}
 use Rattle.dap_device.specs.Pieces.{HasComeSoFar}
@@ -14,28 +16,33 @@ use Rattle.dap_input.specs.Inputs.{AcceptedBefore}
 use Rattle.dap_input.specs.Engine.{Accepts}
 use Rattle.dap_normal.specs.Normalising.{IsCanonical, Normalises}
 use Rattle.dap_input.specs.ReadTo.{IsReadTo, so_far}
-use Rattle.dap_normal.specs.Refusals.{RefusesAt}
+use Rattle.dap_input.specs.Refusals.{RefusesAt}
 
 -- An engine over a reader, by what this tells of its bytes, and by its counts.
 module _ {R : Type 0} (left : R → Option (List ℕ)) (given failures : R → ℕ) (limits : Limits) where
-  -- So much has come, and no more than this record asked for. The records before it are accepted, and this is their normal text.
-  pub record HasComeTo (old new : R) (stop : Option Stop) (number : ℕ) (text : List ℕ) : Type 0 where
-    pub bytes : List ℕ
-    pub came : HasComeSoFar left given failures old new bytes stop
-    pub read_to : IsReadTo (accepting limits) bytes number
-    pub before : AcceptedBefore (accepting limits) (so_far bytes stop) number
-    pub normalised : Normalises limits before.front text
+  -- So much has come, and no more than this record asked for. The records before it are accepted,
+  -- and this is their normal text.
+  pub record HasComeTo (old new : R) (stop : Option Stop) (number : ℕ) (text : List ℕ) : Type 0
+    where
+      pub bytes : List ℕ
+      pub came : HasComeSoFar left given failures old new bytes stop
+      pub read_to : IsReadTo (accepting limits) bytes number
+      pub before : AcceptedBefore (accepting limits) (so_far bytes stop) number
+      pub normalised : Normalises limits before.front text
 
-  -- This record is refused, or the reader fails at it. The records before it have this normal text. That it is cut is told only where the reader came to its end.
+  -- This record is refused, or the reader fails at it. The records before it have this normal text.
+  -- That it is cut is told only where the reader came to its end.
   pub record RefusesNext (old new : R) (refused : Refused) (text : List ℕ) : Type 0 where
     pub number : ℕ
     pub stop : Option Stop
     pub to : HasComeTo old new stop number text
-    pub refuses : RefusesAt limits (so_far to.bytes stop) number refused
+    pub refuses : RefusesAt (accepting limits) (so_far to.bytes stop) number refused
     pub cut : (n : ℕ) → refused ≡ Record n Cut → stop ≡ Some End
 
--- An engine over a reader and a writer, which writes the normal text of the records that it has judged.
-module _ {R W : Type 0} (left : R → Option (List ℕ)) (given read_failures : R → ℕ) (out : W → Option (List ℕ)) (write_failures : W → ℕ) (limits : Limits) where
+-- An engine over a reader and a writer, which writes the normal text of the records that it has
+-- judged.
+module _ {R W : Type 0} (left : R → Option (List ℕ)) (given read_failures : R → ℕ) (out : W
+    → Option (List ℕ)) (write_failures : W → ℕ) (limits : Limits) where
   -- The input is accepted, all of its normal text went out, and neither device failed.
   pub record HasStreamed (old new : R) (before after : W) : Type 0 where
     pub text : List ℕ
@@ -43,7 +50,8 @@ module _ {R W : Type 0} (left : R → Option (List ℕ)) (given read_failures : 
     pub written : Appends (out before) (out after) text
     pub no_failure : write_failures after ≡ write_failures before
 
-  -- A record is refused, or the reader fails at it, and the normal text of the records before it went out.
+  -- A record is refused, or the reader fails at it, and the normal text of the records before it
+  -- went out.
   pub record HasRefused (old new : R) (before after : W) (refused : Refused) : Type 0 where
     pub text : List ℕ
     pub refuses : RefusesNext left given read_failures limits old new refused text
@@ -59,11 +67,15 @@ module _ {R W : Type 0} (left : R → Option (List ℕ)) (given read_failures : 
     pub written : Appends (out before) (out after) text
     pub no_failure : write_failures after ≡ write_failures before
 
-  -- what is to be written of the record that the engine has come to: nothing, or with it the normal text of one record more
+  -- what is to be written of the record that the engine has come to: nothing, or with it the normal
+  -- text of one record more
   abbrev pub IsNextText : List ℕ → Option Stop → ℕ → List ℕ → List ℕ → Type 0
-  IsNextText bytes stop number text next = (next ≡ []) ⊎ ((before : AcceptedBefore (accepting limits) (so_far bytes stop) (number + 1)) × Normalises limits before.front (text ++ next))
+  IsNextText bytes stop number text next = (next ≡ [])
+      ⊎ ((before : AcceptedBefore (accepting limits) (so_far bytes stop) (number + 1))
+      × Normalises limits before.front (text ++ next))
 
-  -- The writer failed: the text of the records before this one went out, and of this one's a front, perhaps all of it.
+  -- The writer failed: the text of the records before this one went out, and of this one's a front,
+  -- perhaps all of it.
   pub record HasFailedToWrite (old new : R) (before after : W) : Type 0 where
     pub number : ℕ
     pub stop : Option Stop

@@ -13,16 +13,18 @@ use dap_message::Side;
 use dap_rename::{NameTable, Tables};
 use std::alloc::Global;
 
-/// Reads a recording and judges it: its records, their messages, the rules of the session, how many ids there are, and how
-/// long its normal text is. It accepts and refuses what [`normalise`](crate::normalise) does.
+/// Reads a recording and judges it: its records, their messages, the rules of the session, how many
+/// ids there are, and how long its normal text is. It accepts and refuses what
+/// [`normalise`](crate::normalise) does.
 ///
-/// One record is read and judged before the next one: at most 65,536 bytes are read past it, and at most one byte past
-/// `limits.input`. Records are counted from 1 in the order of the input. With `complete` each request must have a response.
+/// One record is read and judged before the next one: at most 65,536 bytes are read past it, and at
+/// most one byte past `limits.input`. Records are counted from 1 in the order of the input. With
+/// `complete` each request must have a response.
 ///
 /// # Errors
 ///
-/// The first refusal of the input; `Incomplete` where a request has no response and `complete` asks for one;
-/// `ReadFault` where the reader failed and what came before is not refused; `Memory`.
+/// The first refusal of the input; `Incomplete` where a request has no response and `complete` asks
+/// for one; `ReadFault` where the reader failed and what came before is not refused; `Memory`.
 pub fn check<R: Source>(
     alloc: Global,
     reader: &mut R,
@@ -33,8 +35,9 @@ pub fn check<R: Source>(
     requires given { R.given reader.old < 2 ^ 62 }
     requires failures { R.failures reader.old < 2 ^ 62 }
 
-    // The numbers of an accepted recording are answered, or its first refusal. That it is incomplete is answered
-    // exactly where that is asked for, and that the reader failed exactly where it did.
+    // The numbers of an accepted recording are answered, or its first refusal. That it is
+    // incomplete is answered exactly where that is asked for, and that the reader failed exactly
+    // where it did.
     ensures answer { Checks R.left R.given R.failures limits complete reader.old reader.new result }
 
     // It takes at most one byte past the limit.
@@ -43,8 +46,8 @@ pub fn check<R: Source>(
     check_with(alloc, reader, limits, complete, index_tables(alloc, limits))
 }
 
-/// Does what [`check`] does, with these tables for the names of ids. They have to be empty, each with the limit
-/// `limits.ids`.
+/// Does what [`check`] does, with these tables for the names of ids. They have to be empty, each
+/// with the limit `limits.ids`.
 ///
 /// # Errors
 ///

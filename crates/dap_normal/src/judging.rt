@@ -1,4 +1,5 @@
-//! Judges the records of a recording, each behind those before it. `check` and `normalise` both judge so.
+//! Judges the records of a recording, each behind those before it. `check` and `normalise` both
+//! judge so.
 ghost use Rattle.std.specs.Prelude.{◌≡◌, ◌<◌, ◌≤◌, ◌^◌, List, []};
 ghost use Rattle.dap_message.specs.Message.{Sent};
 ghost use Rattle.dap_session.specs.Rules.{open_requests};
@@ -51,7 +52,10 @@ impl<T: NameTable + Drop> Judge<T> {
         whole: &Record,
         out: &mut Vec<u8>,
     ) -> Result<(), Refused>
-        ensures judges { (messages normal : List Sent) → StandsFor T.numbers T.limit self.old messages normal → JudgesRecord T.numbers T.limit messages normal (held_of whole.now) number self.old self.new out.old.items out.new.items result }
+        ensures judges { (messages normal : List Sent)
+            → StandsFor T.numbers T.limit self.old messages normal
+            → JudgesRecord T.numbers T.limit messages normal (held_of whole.now) number self.old
+            self.new out.old.items out.new.items result }
         ensures limits { judge_limits self.new ≡ judge_limits self.old }
     {
         let message = read_message(alloc, number, whole.side, whole.content.as_slice())?;
@@ -78,7 +82,9 @@ impl<T: NameTable + Drop> Judge<T> {
 
     /// How many requests of that side have no response.
     pub fn open(&self, side: Side) -> usize
-        ensures { (messages normal : List Sent) → StandsFor T.numbers T.limit self.now messages normal → result ≡ open_requests side messages }
+        ensures { (messages normal : List Sent)
+            → StandsFor T.numbers T.limit self.now messages normal
+            → result ≡ open_requests side messages }
     {
         self.session.open(side)
     }

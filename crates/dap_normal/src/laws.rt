@@ -1,17 +1,30 @@
-//! Theorems on recordings and their normal forms, which hold of all bytes. Each function does nothing: a call of it gives its clauses to a proof.
-ghost use Rattle.dap_normal.specs.Accepting.{RecordingHasOneOutcome, RecordingRefusalStays};
-ghost use Rattle.dap_normal.specs.Normalising.{HasOneNormalForm, NormalIsAccepted, AcceptedIsNormalised, OneNormalText, NormalStandsStill, EqualTextsTell};
-ghost use Rattle.dap_normal.specs.Refusals.{ReadingIsBounded};
+//! Theorems on recordings and their normal forms, which hold of all bytes. Each function does
+//! nothing: a call of it gives its clauses to a proof.
+ghost use Rattle.dap_normal.specs.Accepting.{
+  ReadingIsBounded,
+  RecordingHasOneOutcome,
+  RecordingRefusalStays,
+};
+ghost use Rattle.dap_normal.specs.Normalising.{
+  HasOneNormalForm,
+  NormalIsAccepted,
+  AcceptedIsNormalised,
+  OneNormalText,
+  NormalStandsStill,
+  EqualTextsTell,
+};
 
-/// A recording is accepted as one list of messages, or has one first refusal, and not both. A refusal stays when more bytes
-/// come, unless the input only ended too early. `check` and `normalise` both accept and refuse so.
+/// A recording is accepted as one list of messages, or has one first refusal, and not both. A
+/// refusal stays when more bytes come, unless the input only ended too early. `check` and
+/// `normalise` both accept and refuse so.
 pub fn recording_has_one_outcome()
     ensures outcome { RecordingHasOneOutcome }
     ensures refusal_stays { RecordingRefusalStays }
 {}
 
-/// An accepted recording has one normal form, and with it one text that it is normalised to. The text is accepted under the
-/// same limits, holds a renaming of the recording's messages, and is normalised to itself.
+/// An accepted recording has one normal form, and with it one text that it is normalised to. The
+/// text is accepted under the same limits, holds a renaming of the recording's messages, and is
+/// normalised to itself.
 pub fn normal_form_stands()
     ensures form { HasOneNormalForm }
     ensures accepted { NormalIsAccepted }
@@ -20,14 +33,15 @@ pub fn normal_form_stands()
     ensures still { NormalStandsStill }
 {}
 
-/// Two accepted recordings are normalised to equal texts exactly where one-to-one renamings of each side's sequence numbers,
-/// of frame ids and of variables references other than 0 turn the messages of the one, in order, into those of the other.
+/// Two accepted recordings are normalised to equal texts exactly where one-to-one renamings of each
+/// side's sequence numbers, of frame ids and of variables references other than 0 turn the messages
+/// of the one, in order, into those of the other.
 pub fn equal_texts_tell()
     ensures { EqualTextsTell }
 {}
 
-/// What `normalise`, `check` and `compare` have read at a record: at most 65,536 bytes past it, or past the byte that shows a
-/// fault of it.
+/// What `normalise`, `check` and `compare` have read at a record: at most 65,536 bytes past it, or
+/// past the byte that shows a fault of it.
 pub fn reading_is_bounded()
     ensures { ReadingIsBounded }
 {}

@@ -1,10 +1,10 @@
 //! Reads the message of a record, and writes the record of a message.
 ghost use Rattle.std.specs.Prelude.{◌≤◌, List, IfOk, IfErr};
 ghost use Rattle.dap_message.specs.Message.{Sent, sent};
-ghost use Rattle.dap_normal.specs.Accepting.{IsMessage};
-ghost use Rattle.dap_normal.specs.JudgingSteps.{RefusesRecord, Writes};
+ghost use Rattle.dap_normal.specs.Accepting.{HoldsNoMessage, IsMessage, Objects};
+ghost use Rattle.dap_normal.specs.JudgingSteps.{Writes};
 ghost use Rattle.dap_input.specs.Limits.{AreSound};
-ghost use Rattle.dap_normal.specs.Refusals.{RefusesHeld};
+ghost use Rattle.dap_input.specs.Refusals.{RefusesHeld};
 
 use dap_frame::FrameFault;
 use dap_input::{Limits, Refused};
@@ -21,8 +21,10 @@ pub fn read_message(
     content: &[u8],
 ) -> Result<Message, Refused>
     ensures ok { IfOk result (λ message. IsMessage (side, content.now) (sent message)) }
-    ensures err { IfErr result (λ because. (limits : Limits) (messages : List Sent) → RefusesRecord limits messages (side, content.now) number because) }
-    ensures only { IfErr result (λ because. RefusesHeld (side, content.now) number because) }
+    ensures err { IfErr result (λ because. (limits : Limits) (messages : List Sent)
+        → RefusesHeld (Objects limits messages (side, content.now)) number because) }
+    ensures only { IfErr result
+        (λ because. RefusesHeld (HoldsNoMessage (side, content.now)) number because) }
 {
     let tree = match read_tree(alloc, content) {
         Ok(tree) => tree,
@@ -37,7 +39,8 @@ pub fn read_message(
     }
 }
 
-/// Appends the record of a message behind a text that has so many bytes, and answers how many it then has.
+/// Appends the record of a message behind a text that has so many bytes, and answers how many it
+/// then has.
 pub fn append_record(
     alloc: Global,
     number: u64,

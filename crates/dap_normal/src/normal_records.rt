@@ -17,7 +17,8 @@ use dap_message::Side;
 use dap_rename::{NameFault, NameTable, Renaming, Tables};
 use std::alloc::{AllocError, Global};
 
-/// The records of an input, of which those before the next one are accepted. One record is held at a time.
+/// The records of an input, of which those before the next one are accepted. One record is held at
+/// a time.
 #[derive(Drop)]
 pub struct NormalRecords<T> {
     records: Records,
@@ -36,7 +37,8 @@ impl<T: NameTable + Drop> NormalRecords<T> {
     ) -> Result<NormalRecords<T>, AllocError>
         requires limits { AreSound limits }
         requires tables { AreReady T.numbers T.limit limits tables }
-        ensures stands { IfOk result (λ records. StandsBefore T.numbers T.limit limits [] records [] []) }
+        ensures stands { IfOk result
+            (λ records. StandsBefore T.numbers T.limit limits [] records [] []) }
     {
         Ok(NormalRecords {
             records: Records::new(alloc, limits)?,
@@ -53,13 +55,15 @@ impl<T: NameTable + Drop> NormalRecords<T> {
 
     /// How many requests of that side have no response.
     pub fn open(&self, side: Side) -> usize
-        ensures { (messages normal : List Sent) → JudgeStandsFor T.numbers T.limit self.now.judge messages normal → result ≡ open_requests side messages }
+        ensures { (messages normal : List Sent)
+            → JudgeStandsFor T.numbers T.limit self.now.judge messages normal
+            → result ≡ open_requests side messages }
     {
         self.judge.open(side)
     }
 
-    /// Reads and judges the next record, and appends the record of its normal form to `text`. None is left where the input
-    /// has ended and all of it is accepted.
+    /// Reads and judges the next record, and appends the record of its normal form to `text`. None
+    /// is left where the input has ended and all of it is accepted.
     pub fn next<R: Source>(
         &mut self,
         alloc: Global,
@@ -67,10 +71,13 @@ impl<T: NameTable + Drop> NormalRecords<T> {
         text: &mut Vec<u8>,
     ) -> Result<bool, Refused>
         requires number { self.old.records.number < 2 ^ 63 }
-        requires given { R.given reader.old + (self.old.records.pieces.limit - self.old.records.pieces.taken) < 2 ^ 63 }
+        requires given { R.given
+            reader.old + (self.old.records.pieces.limit - self.old.records.pieces.taken) < 2 ^ 63 }
         requires failures { R.failures reader.old < 2 ^ 63 }
-        ensures { (limits : Limits) (bytes : List ℕ) (messages normal : List Sent) → StandsBefore T.numbers T.limit limits bytes self.old messages normal
-            → HasNext T.numbers T.limit R.left R.given R.failures limits bytes messages normal self.old self.new reader.old reader.new text.old.items text.new.items result }
+        ensures { (limits : Limits) (bytes : List ℕ) (messages normal : List Sent)
+            → StandsBefore T.numbers T.limit limits bytes self.old messages normal
+            → HasNext T.numbers T.limit R.left R.given R.failures limits bytes messages normal
+            self.old self.new reader.old reader.new text.old.items text.new.items result }
     {
         let number = self.records.number();
         let Some(whole) = self.records.next(reader)? else {
@@ -80,7 +87,8 @@ impl<T: NameTable + Drop> NormalRecords<T> {
         Ok(true)
     }
 
-    /// The renaming that puts the numbers of `other` in the place of those with the same names here.
+    /// The renaming that puts the numbers of `other` in the place of those with the same names
+    /// here.
     ///
     /// The only fault is `Memory`.
     pub fn renaming_to(
@@ -90,7 +98,8 @@ impl<T: NameTable + Drop> NormalRecords<T> {
     ) -> Result<Renaming, NameFault>
         requires { HaveEqualCounts T.numbers self.now.judge.names other.now.judge.names }
         ensures { IfOk result (λ renaming. (messages others : List Sent)
-            → StandFor T.numbers self.now.judge.names messages → StandFor T.numbers other.now.judge.names others
+            → StandFor T.numbers self.now.judge.names messages
+            → StandFor T.numbers other.now.judge.names others
             → entries (pairs_of renaming) ≡ equal_places messages others) }
     {
         Renaming::between(alloc, self.judge.names(), other.judge.names())

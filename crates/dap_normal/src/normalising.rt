@@ -13,10 +13,12 @@ use dap_input::{Limits, Refused};
 use dap_rename::{NameTable, Tables};
 use std::alloc::Global;
 
-/// The normal text of a recording: its messages in order, each as its canonical content, in which ids count from 1.
+/// The normal text of a recording: its messages in order, each as its canonical content, in which
+/// ids count from 1.
 ///
-/// Each sort of ids counts by first appearance over the whole recording: the sequence numbers of each side, frame ids, and
-/// variables references, of which a 0 stays. Capabilities that an `initialize` response leaves out are false in it.
+/// Each sort of ids counts by first appearance over the whole recording: the sequence numbers of
+/// each side, frame ids, and variables references, of which a 0 stays. Capabilities that an
+/// `initialize` response leaves out are false in it.
 ///
 /// # Errors
 ///
@@ -24,7 +26,8 @@ use std::alloc::Global;
 pub fn normalise_bytes(alloc: Global, bytes: &[u8], limits: Limits) -> Result<Normalised, Refused>
     requires limits { AreSound limits }
 
-    // The text is answered exactly where the recording is accepted, and its first refusal exactly where it is not.
+    // The text is answered exactly where the recording is accepted, and its first refusal exactly
+    // where it is not.
     ensures ok { IfOk result (λ text. IsCanonical limits bytes.now text) }
     ensures err { IfErr result (λ refused. RefusesBytes limits bytes.now refused) }
 {
@@ -49,17 +52,19 @@ fn flushed<W: Sink>(writer: &mut W, answer: Result<(), Refused>) -> Result<(), R
     }
 }
 
-/// Reads a recording and writes its normal text, as [`normalise_bytes`] answers it, record by record.
+/// Reads a recording and writes its normal text, as [`normalise_bytes`] answers it, record by
+/// record.
 ///
-/// One record is read, judged and written before the next one: at most 65,536 bytes are read past it, and at most one byte
-/// past `limits.input`. Where a record is refused, the normal text of those before it has been written. What was written is
-/// flushed at the end, also before a refusal is answered. Records are counted from 1 in the order of the input.
+/// One record is read, judged and written before the next one: at most 65,536 bytes are read past
+/// it, and at most one byte past `limits.input`. Where a record is refused, the normal text of
+/// those before it has been written. What was written is flushed at the end, also before a refusal
+/// is answered. Records are counted from 1 in the order of the input.
 ///
 /// # Errors
 ///
-/// The first refusal of the input; `ReadFault` where the reader failed and what came before is not refused; `WriteFault`
-/// where the writer failed, also in place of a refusal where the flush before it failed; `Memory`, which nothing is flushed
-/// before.
+/// The first refusal of the input; `ReadFault` where the reader failed and what came before is not
+/// refused; `WriteFault` where the writer failed, also in place of a refusal where the flush before
+/// it failed; `Memory`, which nothing is flushed before.
 pub fn normalise<R: Source, W: Sink>(
     alloc: Global,
     reader: &mut R,
@@ -71,9 +76,11 @@ pub fn normalise<R: Source, W: Sink>(
     requires read_failures { R.failures reader.old < 2 ^ 62 }
     requires write_failures { W.failures writer.old < 2 ^ 62 }
 
-    // The normal text of the input goes out. Where a record is refused, the text of those before it does; where the writer
-    // fails, a front of the text does. A fault of a device is answered exactly where that device failed.
-    ensures answer { Streams R.left R.given R.failures W.out W.failures limits reader.old reader.new writer.old writer.new result }
+    // The normal text of the input goes out. Where a record is refused, the text of those before it
+    // does; where the writer fails, a front of the text does. A fault of a device is answered
+    // exactly where that device failed.
+    ensures answer { Streams R.left R.given R.failures W.out W.failures limits reader.old reader.new
+        writer.old writer.new result }
 
     // It takes at most one byte past the limit.
     ensures taken { R.given reader.new ≤ R.given reader.old + limits.input + 1 }
@@ -81,8 +88,8 @@ pub fn normalise<R: Source, W: Sink>(
     normalise_with(alloc, reader, writer, limits, index_tables(alloc, limits))
 }
 
-/// Does what [`normalise`] does, with these tables for the names of ids. They have to be empty, each with the limit
-/// `limits.ids`.
+/// Does what [`normalise`] does, with these tables for the names of ids. They have to be empty,
+/// each with the limit `limits.ids`.
 ///
 /// # Errors
 ///
@@ -101,7 +108,8 @@ pub fn normalise_with<R: Source, W: Sink, T: NameTable + Drop>(
     requires write_failures { W.failures writer.old < 2 ^ 62 }
 
     // What `normalise` promises, whatever the tables are.
-    ensures answer { Streams R.left R.given R.failures W.out W.failures limits reader.old reader.new writer.old writer.new result }
+    ensures answer { Streams R.left R.given R.failures W.out W.failures limits reader.old reader.new
+        writer.old writer.new result }
     ensures taken { R.given reader.new ≤ R.given reader.old + limits.input + 1 }
 {
     let Ok(mut records) = NormalRecords::new(alloc, limits, tables) else {

@@ -7,7 +7,8 @@ use dap_input::{Limits, Refused};
 use dap_recording::{Record, RecordCause, RecordReader};
 use std::alloc::{AllocError, Global};
 
-/// Reads the records of an input, no further than the next one asks for: at most a piece past its end.
+/// Reads the records of an input, no further than the next one asks for: at most a piece past its
+/// end.
 #[derive(Drop)]
 pub struct Records {
     pieces: Pieces,
@@ -24,7 +25,8 @@ impl Records {
     pub fn new(alloc: Global, limits: Limits) -> Result<Records, AllocError>
         requires { AreSound limits }
         ensures between { IfOk result (λ records. StandsBetween limits.frame records) }
-        ensures pieces { IfOk result (λ records. records.pieces ≡ record { unread = []; taken = 0; limit = limits.input }) }
+        ensures pieces { IfOk result (λ records. records.pieces
+            ≡ record { unread = []; taken = 0; limit = limits.input }) }
         ensures number { IfOk result (λ records. records.number ≡ 1) }
     {
         Ok(Records {
@@ -44,9 +46,12 @@ impl Records {
     /// Reads the next record. None is left where the input has ended behind the last one.
     pub fn next<R: Source>(&mut self, reader: &mut R) -> Result<Option<Record>, Refused>
         requires number { self.old.number < 2 ^ 63 }
-        requires given { R.given reader.old + (self.old.pieces.limit - self.old.pieces.taken) < 2 ^ 63 }
+        requires given { R.given reader.old + (self.old.pieces.limit - self.old.pieces.taken)
+            < 2 ^ 63 }
         requires failures { R.failures reader.old < 2 ^ 63 }
-        ensures { (limits : _) → StandsBetween limits self.old → ReadsNext R.left R.given R.failures limits self.old self.new reader.old reader.new result }
+        ensures { (limits : _) → StandsBetween limits self.old
+            → ReadsNext R.left R.given R.failures limits self.old self.new reader.old reader.new
+            result }
     {
         loop {
             if let Err(stop) = self.pieces.fill(reader) {

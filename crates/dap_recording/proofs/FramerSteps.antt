@@ -1,5 +1,6 @@
 -- What a call of a framer gave, by whether a frame ended or a fault was told.
-use Rattle.std.proofs.Common.{◌≡◌, ◌≢◌, ℕ, ◌⊎◌, inl, inr, List, [], ◌++◌, length, take, Option, Some, None, MatchOption, refl, subst}
+use Rattle.std.proofs.Common.{◌≡◌, ◌≢◌, ℕ, ◌⊎◌, inl, inr, List, [], ◌++◌, length, take, Option}
+use Rattle.std.proofs.Common.{Some, None, MatchOption, refl, subst}
 use Rattle.dap_frame.specs.declared.limits.FrameLimits.{FrameLimits}
 use Rattle.dap_frame.specs.declared.fault.FrameFault.{FrameFault}
 use Rattle.dap_frame.specs.declared.fault.FrameFault.TheVariants.{Memory}
@@ -11,12 +12,17 @@ pub is_memory : (fault : FrameFault) → (fault ≡ Memory) ⊎ (fault ≢ Memor
 is_memory Memory = inl refl
 is_memory other = inr (λ e. cc)
 
-module _ (limits : FrameLimits) (rest piece : List ℕ) (fed : Fed) (new : Reading) (gives : GivesFed limits rest piece fed new) where
+module _ (limits : FrameLimits) (rest piece : List ℕ) (fed : Fed) (new : Reading)
+    (gives : GivesFed limits rest piece fed new) where
   pub fed_frame : (content : List ℕ) → fed.content ≡ Some content
       → IsFrame limits (rest ++ take fed.used piece) content × Stands new []
   fed_frame content e =
-      subst (λ (o : Option (List ℕ)). MatchOption o ((fed.used ≡ length piece) × Stands new (rest ++ piece)) (λ c. IsFrame limits (rest ++ take fed.used piece) c × Stands new [])) e gives.1
+      subst (λ (o : Option (List ℕ)). MatchOption o ((fed.used ≡ length piece)
+      × Stands new (rest ++ piece)) (λ c. IsFrame limits (rest ++ take fed.used piece) c
+      × Stands new [])) e gives.1
 
   pub fed_all : fed.content ≡ None → (fed.used ≡ length piece) × Stands new (rest ++ piece)
   fed_all e =
-      subst (λ (o : Option (List ℕ)). MatchOption o ((fed.used ≡ length piece) × Stands new (rest ++ piece)) (λ c. IsFrame limits (rest ++ take fed.used piece) c × Stands new [])) e gives.1
+      subst (λ (o : Option (List ℕ)). MatchOption o ((fed.used ≡ length piece)
+      × Stands new (rest ++ piece)) (λ c. IsFrame limits (rest ++ take fed.used piece) c
+      × Stands new [])) e gives.1

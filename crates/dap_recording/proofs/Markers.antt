@@ -1,5 +1,6 @@
 -- A marker tells its side.
-use Rattle.std.proofs.Common.{◌≡◌, ℕ, inl, inr, List, [], ◌∷◌, ◌++◌, Result, Ok, Err, refl, sym, ap, ◌∙◌, arith}
+use Rattle.std.proofs.Common.{◌≡◌, ℕ, inl, inr, List, [], ◌∷◌, ◌++◌, Result, Ok, Err, refl, sym, ap}
+use Rattle.std.proofs.Common.{◌∙◌, arith}
 use Rattle.std.proofs.lemmas.Bool.Decides.{eqb_tells}
 use Rattle.dap_items.specs.Items.{IsItem, IsGrammar}
 use Rattle.dap_items.proofs.Then.{byte_grammar}
@@ -40,5 +41,7 @@ module _ {F : Type 0} (bad : F) where
   pub a_marker : (side : Side) → IsItem (markers bad) (marker side ∷ []) side
   a_marker side = ([], marker side, refl, refl, refl)
 
-  pub is_marker : (front : List ℕ) (side : Side) → IsItem (markers bad) front side → front ≡ marker side ∷ []
-  is_marker front side (none, byte, e, empty, is) = e ∙ ap (λ xs. xs ++ byte ∷ []) empty ∙ ap (λ b. b ∷ []) is
+  pub is_marker : (front : List ℕ) (side : Side) → IsItem (markers bad) front side
+      → front ≡ marker side ∷ []
+  is_marker front side (none, byte, e, empty, is) =
+      e ∙ ap (λ xs. xs ++ byte ∷ []) empty ∙ ap (λ b. b ∷ []) is

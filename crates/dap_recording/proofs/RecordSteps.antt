@@ -1,5 +1,6 @@
 -- What a reader of records stands for once it has read on.
-use Rattle.std.proofs.Common.{arith, ◌≡◌, ◌≢◌, ℕ, suc, ◌+◌, ◌<◌, ⊎_elim, List, [], ◌∷◌, ◌++◌, length, take, drop, get_or, Ok, Err, refl, sym, ap, ◌∙◌, subst}
+use Rattle.std.proofs.Common.{arith, ◌≡◌, ◌≢◌, ℕ, suc, ◌+◌, ◌<◌, ⊎_elim, List, [], ◌∷◌, ◌++◌}
+use Rattle.std.proofs.Common.{length, take, drop, get_or, Ok, Err, refl, sym, ap, ◌∙◌, subst}
 use Rattle.std.proofs.lemmas.List.{append_assoc, append-nil, take_more}
 use Rattle.std.proofs.Math.Seq.{drop-cons}
 use Rattle.dap_items.specs.Then.{in_first, in_second, first_open, second_open}
@@ -10,13 +11,15 @@ use Rattle.dap_frame.specs.Frame.{IsFrame, Shows}
 use Rattle.dap_frame.specs.Reading.{Reading, GivesFault, limits_of}
 use Rattle.dap_tree.specs.declared.side.Side.{Side}
 use Rattle.dap_recording.specs.declared.record_fault.RecordCause.{RecordCause}
-use Rattle.dap_recording.specs.declared.record_fault.RecordCause.TheVariants.{BadMarker, Frame, NoLineEnd, Memory}
+use Rattle.dap_recording.specs.declared.record_fault.RecordCause.TheVariants.{BadMarker, Frame}
+use Rattle.dap_recording.specs.declared.record_fault.RecordCause.TheVariants.{NoLineEnd, Memory}
 use Rattle.dap_recording.specs.declared.record_fault.RecordFault.{RecordFault}
 use Rattle.dap_recording.specs.declared.record_state.RecordState.{RecordState}
 use Rattle.dap_recording.specs.declared.record_state.RecordState.TheVariants as states
 use Rattle.dap_recording.specs.Marker.{marker, IsNoMarker}
 use Rattle.dap_recording.specs.Recording.{IsRecord, ShowsFault, IsOpenRecord}
-use Rattle.dap_recording.specs.RecordReading.{RecordReading, StandsFor, IsKeptOfRecord, HasFailedAt, GivesRecordFault, record_limits}
+use Rattle.dap_recording.specs.RecordReading.{RecordReading, StandsFor, IsKeptOfRecord, HasFailedAt}
+use Rattle.dap_recording.specs.RecordReading.{GivesRecordFault, record_limits}
 use Rattle.dap_recording.proofs.Fronts.{first_is, split_at}
 use Rattle.dap_recording.proofs.FramerSteps.{is_memory}
 use Rattle.dap_recording.proofs.Markers.{a_marker}
@@ -31,24 +34,30 @@ line_end_no_memory cause e f = cc
 pub marker_no_memory : (cause : RecordCause) → cause ≡ BadMarker → cause ≡ Memory → ⊥
 marker_no_memory cause e f = cc
 
-frame_no_memory : (cause : RecordCause) (fault : FrameFault) → cause ≡ Frame fault → cause ≡ Memory → ⊥
+frame_no_memory : (cause : RecordCause) (fault : FrameFault) → cause ≡ Frame fault → cause ≡ Memory
+    → ⊥
 frame_no_memory cause fault e f = cc
 
 -- what the reader stands for, where its state is known
-pub at_state : (reader : RecordReading) (number : ℕ) (bytes : List ℕ) (state : RecordState) → reader.state ≡ state
+pub at_state : (reader : RecordReading) (number : ℕ) (bytes : List ℕ) (state : RecordState)
+    → reader.state ≡ state
     → StandsFor reader number bytes → IsKeptOfRecord reader.framer state bytes
-at_state reader number bytes state e stands = subst (λ s. IsKeptOfRecord reader.framer s bytes) e stands.kept
+at_state reader number bytes state e stands =
+    subst (λ s. IsKeptOfRecord reader.framer s bytes) e stands.kept
 
-kept_open : (framer : Reading) (state : RecordState) (bytes : List ℕ) → IsKeptOfRecord framer state bytes
+kept_open : (framer : Reading) (state : RecordState) (bytes : List ℕ)
+    → IsKeptOfRecord framer state bytes
     → IsOpenRecord (limits_of framer) bytes
 kept_open framer states.Marker bytes h = first_open h.0
-kept_open framer (states.Frame side) bytes h = second_open (marker side ∷ []) h.0 side h.1 (a_marker BadMarker side) (first_open h.2.is_open)
+kept_open framer (states.Frame side) bytes h =
+    second_open (marker side ∷ []) h.0 side h.1 (a_marker BadMarker side) (first_open h.2.is_open)
 kept_open framer (states.LineEnd whole) bytes h =
     second_open (marker whole.side ∷ []) h.0 whole.side h.1 (a_marker BadMarker whole.side)
     (second_open h.0 [] whole.content (sym (append-nil h.0)) h.2 refl)
 kept_open framer (states.Failed cause) bytes h = absurd h
 
-pub stands_open : (reader : RecordReading) (number : ℕ) (bytes : List ℕ) → StandsFor reader number bytes
+pub stands_open : (reader : RecordReading) (number : ℕ) (bytes : List ℕ)
+    → StandsFor reader number bytes
     → IsOpenRecord (record_limits reader) bytes
 stands_open reader number bytes stands = kept_open reader.framer reader.state bytes stands.kept
 
@@ -63,39 +72,60 @@ bad_marker limits bytes piece none some other =
       place = refl;
     }
 
-module _ (limits : FrameLimits) (bytes piece frame content : List ℕ) (side : Side) (from : ℕ) (inside : from < length piece)
-    (front : bytes ++ take from piece ≡ marker side ∷ frame) (is : IsFrame limits frame content) where
-  pub bad_line_end : (get_or piece from 0 ≡ 10 → ⊥) → (i : ℕ) × ShowsFault limits (bytes ++ piece) NoLineEnd i
+module _ (limits : FrameLimits) (bytes piece frame content : List ℕ) (side : Side) (from : ℕ)
+    (inside : from < length piece)
+    (front : bytes ++ take from piece
+    ≡ marker side ∷ frame) (is : IsFrame limits frame content) where
+  pub bad_line_end : (get_or piece from 0 ≡ 10 → ⊥)
+      → (i : ℕ) × ShowsFault limits (bytes ++ piece) NoLineEnd i
   bad_line_end apart = (
     length ((marker side ∷ frame) ++ get_or piece from 0 ∷ []),
     record {
       front = (marker side ∷ frame) ++ get_or piece from 0 ∷ [];
       more = drop (suc from) piece;
-      bytes_are = split_at bytes piece (marker side ∷ frame) from front ∙ ap (λ xs. (marker side ∷ frame) ++ xs) (drop-cons piece from 0 inside)
-          ∙ sym (append_assoc (marker side ∷ frame) (get_or piece from 0 ∷ []) (drop (suc from) piece));
-      ends = ends_line limits side frame content (get_or piece from 0) (Err NoLineEnd) is (apart, refl);
+      bytes_are =
+          split_at bytes piece (marker side ∷ frame) from front
+          ∙ ap (λ xs. (marker side ∷ frame) ++ xs) (drop-cons piece from 0 inside)
+          ∙ sym (append_assoc (marker side ∷ frame) (get_or piece from 0 ∷ [])
+          (drop (suc from) piece));
+      ends = ends_line limits side frame content (get_or piece from 0) (Err NoLineEnd) is
+          (apart, refl);
       place = refl;
     },
   )
 
-  pub good_line_end : get_or piece from 0 ≡ 10 → IsRecord limits (bytes ++ take (from + 1) piece) side content
+  pub good_line_end : get_or piece from 0 ≡ 10
+      → IsRecord limits (bytes ++ take (from + 1) piece) side content
   good_line_end lf =
-      let line : bytes ++ take (from + 1) piece ≡ (marker side ∷ frame) ++ get_or piece from 0 ∷ [] =
-      ap (λ xs. bytes ++ xs) (take_more piece from 0 inside) ∙ sym (append_assoc bytes (take from piece) (get_or piece from 0 ∷ []))
+      let line : bytes ++ take (from + 1) piece
+      ≡ (marker side ∷ frame) ++ get_or piece from 0 ∷ [] =
+      ap (λ xs. bytes ++ xs) (take_more piece from 0 inside)
+      ∙ sym (append_assoc bytes (take from piece) (get_or piece from 0 ∷ []))
       ∙ ap (λ xs. xs ++ get_or piece from 0 ∷ []) front in
-      subst (λ xs. IsRecord limits xs side content) (sym line) (ends_line limits side frame content (get_or piece from 0) (Ok (side, content)) is (lf, refl))
+      subst (λ xs. IsRecord limits xs side content) (sym line)
+      (ends_line limits side frame content (get_or piece from 0) (Ok (side, content)) is
+      (lf, refl))
 
-module _ (limits : FrameLimits) (number : ℕ) (bytes piece rest : List ℕ) (side : Side) (from : ℕ) (fault : FrameFault) (told : RecordFault) (old new : RecordReading) (framer : Reading)
-    (front : bytes ++ take from piece ≡ marker side ∷ rest) (gives : GivesFault limits rest (drop from piece) fault framer) (number_is : told.number ≡ number)
-    (memory : fault ≡ frame_fault.Memory → (told.cause ≡ Memory) × (new ≡ old)) (stands : fault ≡ frame_fault.Memory → StandsFor old number bytes)
+module _ (limits : FrameLimits) (number : ℕ) (bytes piece rest : List ℕ) (side : Side) (from : ℕ)
+    (fault : FrameFault) (told : RecordFault) (old new : RecordReading) (framer : Reading)
+    (front : bytes ++ take from piece
+    ≡ marker side ∷ rest) (gives : GivesFault limits rest (drop from piece) fault framer)
+    (number_is : told.number ≡ number)
+    (memory : fault ≡ frame_fault.Memory
+    → (told.cause ≡ Memory) × (new ≡ old)) (stands : fault ≡ frame_fault.Memory
+    → StandsFor old number bytes)
     (other : fault ≢ frame_fault.Memory → (told.cause ≡ Frame fault) × HasFailedAt new told) where
   -- what shows a fault of the frame shows it of the record
-  shown_in_frame : (i : ℕ) → Shows limits (rest ++ drop from piece) fault i → ShowsFault limits (bytes ++ piece) (Frame fault) (i + 1)
+  shown_in_frame : (i : ℕ) → Shows limits (rest ++ drop from piece) fault i
+      → ShowsFault limits (bytes ++ piece) (Frame fault) (i + 1)
   shown_in_frame i shows = record {
     front = marker side ∷ shows.front;
     more = shows.more;
-    bytes_are = split_at bytes piece (marker side ∷ rest) from front ∙ ap (λ xs. marker side ∷ xs) shows.bytes_are;
-    ends = in_second (marker side ∷ []) shows.front side refl (a_marker BadMarker side) (in_first fault shows.ends refl);
+    bytes_are =
+        split_at bytes piece (marker side ∷ rest) from front
+        ∙ ap (λ xs. marker side ∷ xs) shows.bytes_are;
+    ends = in_second (marker side ∷ []) shows.front side refl (a_marker BadMarker side)
+        (in_first fault shows.ends refl);
     place = omega (arith, shows.place);
   }
 
@@ -112,7 +142,8 @@ module _ (limits : FrameLimits) (number : ℕ) (bytes piece rest : List ℕ) (si
         memory = λ e. absurd (frame_no_memory told.cause fault (other d).0 e);
         shown = λ _. (
           (gives.shown d).0 + 1,
-          subst (λ cause. ShowsFault limits (bytes ++ piece) cause ((gives.shown d).0 + 1)) (sym (other d).0)
+          subst (λ cause. ShowsFault limits (bytes ++ piece) cause ((gives.shown d).0 + 1))
+              (sym (other d).0)
               (shown_in_frame (gives.shown d).0 (gives.shown d).1),
         );
         failed = λ _. (other d).1;

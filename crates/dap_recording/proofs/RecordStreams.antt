@@ -1,5 +1,6 @@
 -- Readers of records are readers of items.
-use Rattle.std.proofs.Common.{◌≡◌, ◌≢◌, ℕ, List, [], ◌∷◌, ◌++◌, length, take, Option, Some, None, MatchOption, Err, refl, sym, ap, ◌∙◌, subst, arith}
+use Rattle.std.proofs.Common.{◌≡◌, ◌≢◌, ℕ, List, [], ◌∷◌, ◌++◌, length, take, Option, Some, None}
+use Rattle.std.proofs.Common.{MatchOption, Err, refl, sym, ap, ◌∙◌, subst, arith}
 use Rattle.std.specs.List.{concat}
 use Rattle.std.proofs.lemmas.List.{append-nil, take_all, length-append}
 use Rattle.dap_items.specs.Items.{AreItems}
@@ -12,21 +13,26 @@ use Rattle.dap_recording.specs.declared.record.Record.{Record}
 use Rattle.dap_recording.specs.declared.record_fault.RecordCause.TheVariants.{Memory}
 use Rattle.dap_recording.specs.declared.record_fault.RecordFault.{RecordFault}
 use Rattle.dap_recording.specs.Recording.{IsRecord, IsOpenRecord, RecordStream, ShowsFault, records}
-use Rattle.dap_recording.specs.RecordReading.{RecordReading, StandsFor, HasFailedAt, next_number, number_behind, record_limits}
+use Rattle.dap_recording.specs.RecordReading.{RecordReading, StandsFor, HasFailedAt, next_number}
+use Rattle.dap_recording.specs.RecordReading.{number_behind, record_limits}
 use Rattle.dap_recording.specs.Feeding.{IsRecordCall, FeedsRecords, record_calls, message_in}
 use Rattle.dap_recording.proofs.Records.{record_grammar}
 use Rattle.dap_recording.proofs.RecordSteps.{stands_open}
 
 -- The reader has these limits and stands for the rest behind records of these messages.
 abbrev StandsBehind : FrameLimits → RecordReading → List (Side × List ℕ) → List ℕ → Type 0
-StandsBehind limits reader ms rest = StandsFor reader (number_behind ms) rest × (record_limits reader ≡ limits)
+StandsBehind limits reader ms rest = StandsFor reader (number_behind ms) rest
+    × (record_limits reader ≡ limits)
 
-gives : (limits : FrameLimits) (ms : List (Side × List ℕ)) (rest piece : List ℕ) (used : ℕ) (new : RecordReading) (whole : Option Record)
+gives : (limits : FrameLimits) (ms : List (Side × List ℕ)) (rest piece : List ℕ) (used : ℕ)
+    (new : RecordReading) (whole : Option Record)
     → MatchOption whole
     ((used ≡ length piece) × StandsFor new (number_behind ms) (rest ++ piece))
-    (λ r. IsRecord limits (rest ++ take used piece) r.side r.content × StandsFor new (next_number (number_behind ms)) [])
+    (λ r. IsRecord limits (rest ++ take used piece) r.side r.content
+    × StandsFor new (next_number (number_behind ms)) [])
     → (front : List ℕ) × (behind : List ℕ) × AreItems (records limits) front (message_in whole)
-    × (rest ++ take used piece ≡ front ++ behind) × StandsFor new (number_behind (ms ++ message_in whole)) behind
+    × (rest ++ take used piece ≡ front ++ behind)
+    × StandsFor new (number_behind (ms ++ message_in whole)) behind
 gives limits ms rest piece used new None (all, stands) = (
   [],
   rest ++ piece,
@@ -46,33 +52,47 @@ gives limits ms rest piece used new (Some r) (is, stands) =
 
 readers : (limits : FrameLimits) → IsReader (records limits) record_calls (StandsBehind limits)
 readers limits = record {
-  is_open = λ reader ms rest stands. subst (λ l. IsOpenRecord l rest) stands.1 (stands_open reader (number_behind ms) rest stands.0);
+  is_open = λ reader ms rest stands. subst (λ l. IsOpenRecord l rest) stands.1
+      (stands_open reader (number_behind ms) rest stands.0);
   takes = λ old new ms rest piece fed stands took.
-      let given = subst (λ l. MatchOption fed.whole ((fed.used ≡ length piece) × StandsFor new (number_behind ms) (rest ++ piece))
-      (λ r. IsRecord l (rest ++ take fed.used piece) r.side r.content × StandsFor new (next_number (number_behind ms)) [])) stands.1 (took.gives (number_behind ms) rest stands.0).1 in
+      let given =
+      subst (λ l. MatchOption fed.whole ((fed.used ≡ length piece)
+      × StandsFor new (number_behind ms) (rest ++ piece))
+      (λ r. IsRecord l (rest ++ take fed.used piece) r.side r.content
+      × StandsFor new (next_number (number_behind ms)) [])) stands.1
+      (took.gives (number_behind ms) rest stands.0).1 in
       let goes = gives limits ms rest piece fed.used new fed.whole given in
       (goes.0, goes.1, goes.2, goes.3, (goes.4, took.limits ∙ stands.1));
-  refuses = λ old new ms rest piece stands again. ((again.1.gives (number_behind ms) rest stands.0).memory again.2, again.1.limits ∙ stands.1);
+  refuses = λ old new ms rest piece stands again.
+      ((again.1.gives (number_behind ms) rest stands.0).memory again.2, again.1.limits ∙ stands.1);
 }
 
-pub any_pieces : (first last : RecordReading) (pieces : List (List ℕ)) (ms : List (Side × List ℕ)) → StandsFor first 1 []
+pub any_pieces : (first last : RecordReading) (pieces : List (List ℕ)) (ms : List (Side × List ℕ))
+    → StandsFor first 1 []
     → FeedsRecords first pieces ms [] last
-    → (rest : List ℕ) × RecordStream (record_limits first) (concat pieces) ms rest × StandsFor last (number_behind ms) rest
+    → (rest : List ℕ) × RecordStream (record_limits first) (concat pieces) ms rest
+    × StandsFor last (number_behind ms) rest
 any_pieces first last pieces ms stands feeds =
     let limits : FrameLimits = record_limits first in
-    let read = items.any_pieces (record_grammar limits) (readers limits) first last [] pieces ms (stands, refl) feeds in
+    let read = items.any_pieces (record_grammar limits) (readers limits) first last [] pieces ms
+    (stands, refl) feeds in
     (read.0, read.1, read.2.0)
 
-pub fault_in_any_pieces : (first last new : RecordReading) (piece : List ℕ) (pieces left : List (List ℕ)) (ms : List (Side × List ℕ)) (fault : RecordFault)
-    → StandsFor first 1 [] → FeedsRecords first pieces ms (piece ∷ left) last → IsRecordCall last piece (Err fault) new
+pub fault_in_any_pieces : (first last new : RecordReading) (piece : List ℕ)
+    (pieces left : List (List ℕ)) (ms : List (Side × List ℕ)) (fault : RecordFault)
+    → StandsFor first 1 [] → FeedsRecords first pieces ms (piece ∷ left) last
+    → IsRecordCall last piece (Err fault) new
     → fault.cause ≢ Memory
     → (rest : List ℕ) × (i : ℕ) × RecordStream (record_limits first) (concat pieces) ms rest
-    × ShowsFault (record_limits first) rest fault.cause i × (fault.number ≡ number_behind ms) × HasFailedAt new fault
+    × ShowsFault (record_limits first) rest fault.cause i × (fault.number ≡ number_behind ms)
+    × HasFailedAt new fault
 fault_in_any_pieces first last new piece pieces left ms fault stands feeds call apart =
     let limits : FrameLimits = record_limits first in
-    let was = items.read_so_far (record_grammar limits) (readers limits) first [] pieces ms (piece ∷ left) last (stands, refl) feeds in
+    let was = items.read_so_far (record_grammar limits) (readers limits) first [] pieces ms (piece
+    ∷ left) last (stands, refl) feeds in
     let given = call.gives (number_behind ms) was.rest was.stands.0 in
     let shown = given.shown apart in
-    let read = items.fault_in_any_pieces (record_grammar limits) (readers limits) (concat pieces) piece ms left last fault.cause shown.0 was
+    let read = items.fault_in_any_pieces (record_grammar limits) (readers limits) (concat pieces)
+    piece ms left last fault.cause shown.0 was
     (subst (λ l. ShowsFault l (was.rest ++ piece) fault.cause shown.0) was.stands.1 shown.1) in
     (read.0, shown.0, read.1, read.2, given.number_is, given.failed apart)

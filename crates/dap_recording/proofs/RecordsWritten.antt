@@ -12,7 +12,8 @@ use Rattle.dap_recording.proofs.Records.{ends_line}
 pub written_is_record : (limits : FrameLimits) (side : Side) (content : List ℕ) → IsSound limits
     → length content ≤ limits.content → IsRecord limits (record_text side content) side content
 written_is_record limits side content sound short =
-    ends_line limits side (frame_text content) content 10 (Ok (side, content)) (written_is_frame limits content sound short) (refl, refl)
+    ends_line limits side (frame_text content) content 10 (Ok (side, content))
+    (written_is_frame limits content sound short) (refl, refl)
 
 pub written_is_recording : (limits : FrameLimits) (messages : List (Side × List ℕ)) → IsSound limits
     → AllByRecursion (λ (message : Side × List ℕ). length message.1 ≤ limits.content) messages

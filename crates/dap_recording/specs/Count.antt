@@ -1,5 +1,6 @@
 -- What the reader of traces keeps of a count, and what it makes of a byte and of bytes.
-use Rattle.std.specs.Prelude.{◌≡◌, ◌≢◌, ℕ, ◌^◌, ◌<◌, ◌≤◌, ◌⊎◌, true, false, List, [], ◌∷◌, ◌++◌, length, take, slice_index}
+use Rattle.std.specs.Prelude.{◌≡◌, ◌≢◌, ℕ, ◌^◌, ◌<◌, ◌≤◌, ◌⊎◌, true, false, List, [], ◌∷◌, ◌++◌}
+use Rattle.std.specs.Prelude.{length, take, slice_index}
 use Rattle.std.specs.List.{list_all}
 use Rattle.std.specs.Char.{is_ascii_digit}
 use Rattle.dap_frame.specs.Lines.{number_of}
@@ -30,8 +31,10 @@ Steps text byte step.Bad = IsBadAt text byte
 abbrev pub Ends : List ℕ → List ℕ → CountEnd → Type 0
 Ends text rest (end.More next) = IsCountOf next (text ++ rest)
 Ends text rest (end.Ended used number) =
-    (count : List ℕ) × (text ++ take used rest ≡ count ++ 10 ∷ []) × IsCount count × (number ≡ number_of count)
-Ends text rest end.Bad = (k : ℕ) × (k < length rest) × IsBadAt (text ++ take k rest) (slice_index rest k)
+    (count : List ℕ) × (text ++ take used rest ≡ count ++ 10 ∷ []) × IsCount count
+    × (number ≡ number_of count)
+Ends text rest end.Bad = (k : ℕ) × (k < length rest)
+    × IsBadAt (text ++ take k rest) (slice_index rest k)
 
 -- the LF of a count that ended is one of the bytes
 abbrev pub IsEndWithin : List ℕ → CountEnd → Type 0

@@ -1,5 +1,5 @@
--- Calls of the readers and the recorder over a whole input, one after another. Each call gets what is
--- left of the present piece, a piece that is used up leads to the next, and a call that answered
+-- Calls of the readers and the recorder over a whole input, one after another. Each call gets what
+-- is left of the present piece, a piece that is used up leads to the next, and a call that answered
 -- Memory may be made again.
 use Rattle.std.specs.Prelude.{◌≡◌, ℕ, List, [], ◌∷◌, drop, Option, Some, None, Result, Ok, Err}
 use Rattle.dap_items.specs.Feeding.{Calls, Feeds}
@@ -14,11 +14,13 @@ use Rattle.dap_recording.specs.declared.trace_fault.TraceFault.{TraceFault}
 use Rattle.dap_recording.specs.declared.fed_trace.FedTrace.{FedTrace}
 use Rattle.dap_recording.specs.declared.fed_trace.TracePart.{TracePart}
 use Rattle.dap_recording.specs.RecordReading.{RecordReading, StandsFor, GivesRecord, record_limits}
-use Rattle.dap_recording.specs.RecorderReading.{RecorderReading, StandsForRests, GivesPiece, recorder_limits}
+use Rattle.dap_recording.specs.RecorderReading.{RecorderReading, StandsForRests, GivesPiece}
+use Rattle.dap_recording.specs.RecorderReading.{recorder_limits}
 use Rattle.dap_recording.specs.TraceReading.{TraceReading, StandsForPiece, GivesTrace}
 
 -- What the contract of one call of `RecordReader::feed` says of the reader before it and after it.
-pub record IsRecordCall (old : RecordReading) (piece : List ℕ) (result : Result FedRecord RecordFault) (new : RecordReading) : Type 0 where
+pub record IsRecordCall (old : RecordReading) (piece : List ℕ)
+    (result : Result FedRecord RecordFault) (new : RecordReading) : Type 0 where
   pub gives : (number : ℕ) (bytes : List ℕ) → StandsFor old number bytes
       → GivesRecord (record_limits old) number bytes piece result new
   pub limits : record_limits new ≡ record_limits old
@@ -34,16 +36,19 @@ record_calls = record {
   used = λ fed. fed.used;
   given = λ fed. message_in fed.whole;
   Took = λ old piece fed new. IsRecordCall old piece (Ok fed) new;
-  Refused = λ old piece new. (fault : RecordFault) × IsRecordCall old piece (Err fault) new × (fault.cause ≡ cause.Memory);
+  Refused = λ old piece new. (fault : RecordFault) × IsRecordCall old piece (Err fault) new
+      × (fault.cause ≡ cause.Memory);
 }
 
 -- Calls of `RecordReader::feed`, from the first reader on and over these pieces, have given these
 -- messages so far.
-abbrev pub FeedsRecords : RecordReading → List (List ℕ) → List (Side × List ℕ) → List (List ℕ) → RecordReading → Type 0
+abbrev pub FeedsRecords : RecordReading → List (List ℕ) → List (Side × List ℕ) → List (List ℕ)
+    → RecordReading → Type 0
 FeedsRecords = Feeds record_calls
 
 -- What the contract of one call of `TraceReader::feed` says of the reader before it and after it.
-pub record IsTraceCall (old : TraceReading) (input : List ℕ) (result : Result FedTrace TraceFault) (new : TraceReading) : Type 0 where
+pub record IsTraceCall (old : TraceReading) (input : List ℕ) (result : Result FedTrace TraceFault)
+    (new : TraceReading) : Type 0 where
   pub gives : (piece : ℕ) (bytes raw : List ℕ) → StandsForPiece old piece bytes raw
       → GivesTrace piece bytes raw input result new
 
@@ -67,25 +72,33 @@ trace_calls = record {
   Refused = λ old input new. ⊥;
 }
 
--- Calls of `TraceReader::feed`, from the first reader on and over these inputs, have given these runs
--- so far.
-abbrev pub FeedsTrace : TraceReading → List (List ℕ) → List Run → List (List ℕ) → TraceReading → Type 0
+-- Calls of `TraceReader::feed`, from the first reader on and over these inputs, have given these
+-- runs so far.
+abbrev pub FeedsTrace : TraceReading → List (List ℕ) → List Run → List (List ℕ) → TraceReading
+    → Type 0
 FeedsTrace = Feeds trace_calls
 
 -- What the contract of one call of `Recorder::piece` says of the recorder before it and after it.
-pub record IsPieceCall (old : RecorderReading) (side : Side) (piece : List ℕ) (result : Result ℕ RecorderFault) (new : RecorderReading) : Type 0 where
-  pub gives : (rests : Side → List ℕ) → StandsForRests old rests → GivesPiece side rests piece old new result
+pub record IsPieceCall (old : RecorderReading) (side : Side) (piece : List ℕ)
+    (result : Result ℕ RecorderFault) (new : RecorderReading) : Type 0 where
+  pub gives : (rests : Side → List ℕ) → StandsForRests old rests
+      → GivesPiece side rests piece old new result
   pub limits : recorder_limits new ≡ recorder_limits old
 
 -- Calls of `Recorder::piece`, from the first recorder on and over these pieces in order, have left
 -- these pieces, and the recorder is now this one.
-pub data Records (first : RecorderReading) (pieces : List (Side × List ℕ)) : List (Side × List ℕ) → RecorderReading → Type 0 where
+pub data Records (first : RecorderReading) (pieces : List (Side × List ℕ)) : List (Side × List ℕ)
+    → RecorderReading → Type 0 where
   begun : Records first pieces pieces first
   next_piece : {left : List (Side × List ℕ)} {recorder : RecorderReading} (side : Side)
       → Records first pieces ((side, []) ∷ left) recorder → Records first pieces left recorder
-  took : {left : List (Side × List ℕ)} {recorder new : RecorderReading} (side : Side) (piece : List ℕ) (used : ℕ)
-      → Records first pieces ((side, piece) ∷ left) recorder → IsPieceCall recorder side piece (Ok used) new
+  took : {left : List (Side × List ℕ)} {recorder new : RecorderReading} (side : Side)
+      (piece : List ℕ) (used : ℕ)
+      → Records first pieces ((side, piece) ∷ left) recorder
+      → IsPieceCall recorder side piece (Ok used) new
       → Records first pieces ((side, drop used piece) ∷ left) new
-  refused : {left : List (Side × List ℕ)} {recorder new : RecorderReading} (side : Side) (piece : List ℕ)
-      → Records first pieces ((side, piece) ∷ left) recorder → IsPieceCall recorder side piece (Err Memory) new
+  refused : {left : List (Side × List ℕ)} {recorder new : RecorderReading} (side : Side)
+      (piece : List ℕ)
+      → Records first pieces ((side, piece) ∷ left) recorder
+      → IsPieceCall recorder side piece (Err Memory) new
       → Records first pieces ((side, piece) ∷ left) new

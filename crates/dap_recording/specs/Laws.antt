@@ -1,5 +1,5 @@
--- Laws of recordings and traces, which hold of all bytes, and of the readers and the recorder, which
--- hold of any pieces.
+-- Laws of recordings and traces, which hold of all bytes, and of the readers and the recorder,
+-- which hold of any pieces.
 use Rattle.std.specs.Prelude.{◌≡◌, ◌≢◌, ℕ, ◌<◌, ◌≤◌, ◌⊎◌, List, [], ◌∷◌, ◌++◌, length, Err}
 use Rattle.std.specs.List.{concat, AllByRecursion}
 use Rattle.dap_frame.specs.declared.limits.FrameLimits.{FrameLimits}
@@ -12,13 +12,16 @@ use Rattle.dap_recording.specs.declared.record_fault.RecordCause.TheVariants.{Fr
 use Rattle.dap_recording.specs.declared.record_fault.RecordFault.{RecordFault}
 use Rattle.dap_recording.specs.declared.trace_fault.TraceCause.{TraceCause}
 use Rattle.dap_recording.specs.declared.trace_fault.TraceFault.{TraceFault}
-use Rattle.dap_recording.specs.Recording.{IsRecord, HasRecord, IsRecording, RecordStream, ShowsFault, IsOpenRecord, record_text, recording_text}
-use Rattle.dap_recording.specs.RecordReading.{RecordReading, StandsFor, HasFailedAt, number_behind, record_limits}
+use Rattle.dap_recording.specs.Recording.{IsRecord, HasRecord, IsRecording, RecordStream}
+use Rattle.dap_recording.specs.Recording.{ShowsFault, IsOpenRecord, record_text, recording_text}
+use Rattle.dap_recording.specs.RecordReading.{RecordReading, StandsFor, HasFailedAt, number_behind}
+use Rattle.dap_recording.specs.RecordReading.{record_limits}
 use Rattle.dap_recording.specs.Trace.{IsPiece, HasPiece, PieceStream, ShowsTraceFault, IsOpenPiece}
 use Rattle.dap_recording.specs.TraceReading.{TraceReading, StandsForPiece, HasFailedAtPiece}
 use Rattle.dap_recording.specs.RecorderReading.{RecorderReading, StandsForRests}
 use Rattle.dap_recording.specs.RecordedTraces.{AreRecorded, RecordedSoFar}
-use Rattle.dap_recording.specs.Feeding.{IsRecordCall, FeedsRecords, Records, Run, IsTraceCall, FeedsTrace}
+use Rattle.dap_recording.specs.Feeding.{IsRecordCall, FeedsRecords, Records, Run, IsTraceCall}
+use Rattle.dap_recording.specs.Feeding.{FeedsTrace}
 use Rattle.dap_recording.specs.Runs.{ReadSoFar}
 
 -- Bytes begin with at most one record.
@@ -28,7 +31,8 @@ OneRecord = (limits : FrameLimits) (f g y z : List ℕ) (s t : Side) (c d : List
 
 -- No record is empty.
 abbrev pub NoEmptyRecord : Type 0
-NoEmptyRecord = (limits : FrameLimits) (side : Side) (content : List ℕ) → IsRecord limits [] side content → ⊥
+NoEmptyRecord = (limits : FrameLimits) (side : Side) (content : List ℕ)
+    → IsRecord limits [] side content → ⊥
 
 -- Bytes show at most one fault, at one byte.
 abbrev pub OneCause : Type 0
@@ -43,7 +47,8 @@ ShownWithin = (limits : FrameLimits) (bytes : List ℕ) (cause : RecordCause) (i
 -- A frame shows neither the end of a stream nor a lack of memory.
 abbrev pub ShownOfFormat : Type 0
 ShownOfFormat = (limits : FrameLimits) (bytes : List ℕ) (fault : FrameFault) (i : ℕ)
-    → ShowsFault limits bytes (Frame fault) i → (fault ≢ frame_fault.Cut) × (fault ≢ frame_fault.Memory)
+    → ShowsFault limits bytes (Frame fault) i
+    → (fault ≢ frame_fault.Cut) × (fault ≢ frame_fault.Memory)
 
 -- A fault stays when more bytes come.
 abbrev pub ShownMore : Type 0
@@ -62,7 +67,9 @@ ShownLater = (limits : FrameLimits) (bytes more : List ℕ) (cause : RecordCause
 
 -- What begins with a record shows no fault.
 abbrev pub RecordNotFaulty : Type 0
-RecordNotFaulty = (limits : FrameLimits) (front more : List ℕ) (side : Side) (content : List ℕ) (cause : RecordCause) (i : ℕ)
+RecordNotFaulty =
+    (limits : FrameLimits) (front more : List ℕ) (side : Side) (content : List ℕ)
+    (cause : RecordCause) (i : ℕ)
     → IsRecord limits front side content → ShowsFault limits (front ++ more) cause i → ⊥
 
 -- What begins with a record is not open.
@@ -78,7 +85,9 @@ OpenNotFaulty = (limits : FrameLimits) (bytes : List ℕ) (cause : RecordCause) 
 -- All bytes begin with a record, or show a fault, or are open.
 abbrev pub SomeOutcome : Type 0
 SomeOutcome = (limits : FrameLimits) (bytes : List ℕ)
-    → HasRecord limits bytes ⊎ (((cause : RecordCause) × (i : ℕ) × ShowsFault limits bytes cause i) ⊎ IsOpenRecord limits bytes)
+    → HasRecord limits bytes
+    ⊎ (((cause : RecordCause) × (i : ℕ) × ShowsFault limits bytes cause i)
+    ⊎ IsOpenRecord limits bytes)
 
 -- No bytes are open.
 abbrev pub OpenNone : Type 0
@@ -87,7 +96,8 @@ OpenNone = (limits : FrameLimits) → IsOpenRecord limits []
 -- What is written for a message is a record of it.
 abbrev pub WrittenIsRecord : Type 0
 WrittenIsRecord = (limits : FrameLimits) (side : Side) (content : List ℕ)
-    → IsSound limits → length content ≤ limits.content → IsRecord limits (record_text side content) side content
+    → IsSound limits → length content ≤ limits.content
+    → IsRecord limits (record_text side content) side content
 
 -- What is written for messages is a recording of them.
 abbrev pub WrittenIsRecording : Type 0
@@ -111,7 +121,8 @@ SomeRecordStream = (limits : FrameLimits) (bytes : List ℕ)
 
 -- They are so in one way.
 abbrev pub OneRecordStream : Type 0
-OneRecordStream = (limits : FrameLimits) (bytes : List ℕ) (ms ns : List (Side × List ℕ)) (r s : List ℕ)
+OneRecordStream =
+    (limits : FrameLimits) (bytes : List ℕ) (ms ns : List (Side × List ℕ)) (r s : List ℕ)
     → RecordStream limits bytes ms r → RecordStream limits bytes ns s → (ms ≡ ns) × (r ≡ s)
 
 -- The bytes that a reader of records stands for are open.
@@ -122,20 +133,25 @@ StandsOpen = (reader : RecordReading) (number : ℕ) (bytes : List ℕ)
 -- Whatever the pieces: once they are used up, the records that a new reader gave are those of the
 -- joined pieces, and the reader stands for the rest behind them.
 abbrev pub AnyRecordPieces : Type 0
-AnyRecordPieces = (first last : RecordReading) (pieces : List (List ℕ)) (messages : List (Side × List ℕ))
+AnyRecordPieces =
+    (first last : RecordReading) (pieces : List (List ℕ)) (messages : List (Side × List ℕ))
     → StandsFor first 1 [] → FeedsRecords first pieces messages [] last
     → (rest : List ℕ) × RecordStream (record_limits first) (concat pieces) messages rest
     × StandsFor last (number_behind messages) rest
 
--- Whatever the pieces: where a call tells a fault of the format, the records that were given before are
--- those of the joined pieces, the rest behind them shows the fault, and it has the number of the next
--- record.
+-- Whatever the pieces: where a call tells a fault of the format, the records that were given before
+-- are those of the joined pieces, the rest behind them shows the fault, and it has the number of
+-- the next record.
 abbrev pub FaultInAnyRecordPieces : Type 0
-FaultInAnyRecordPieces = (first last new : RecordReading) (piece : List ℕ) (pieces left : List (List ℕ)) (messages : List (Side × List ℕ)) (fault : RecordFault)
-    → StandsFor first 1 [] → FeedsRecords first pieces messages (piece ∷ left) last → IsRecordCall last piece (Err fault) new
+FaultInAnyRecordPieces =
+    (first last new : RecordReading) (piece : List ℕ) (pieces left : List (List ℕ))
+    (messages : List (Side × List ℕ)) (fault : RecordFault)
+    → StandsFor first 1 [] → FeedsRecords first pieces messages (piece ∷ left) last
+    → IsRecordCall last piece (Err fault) new
     → fault.cause ≢ Memory
     → (rest : List ℕ) × (i : ℕ) × RecordStream (record_limits first) (concat pieces) messages rest
-    × ShowsFault (record_limits first) rest fault.cause i × (fault.number ≡ number_behind messages) × HasFailedAt new fault
+    × ShowsFault (record_limits first) rest fault.cause i × (fault.number ≡ number_behind messages)
+    × HasFailedAt new fault
 
 -- Bytes begin with at most one piece.
 abbrev pub OnePiece : Type 0
@@ -189,36 +205,45 @@ OpenPieceNotFaulty = (bytes : List ℕ) (cause : TraceCause) (i : ℕ)
 -- All bytes begin with a piece, or show a fault of a trace, or are open.
 abbrev pub SomeTraceOutcome : Type 0
 SomeTraceOutcome = (bytes : List ℕ)
-    → HasPiece bytes ⊎ (((cause : TraceCause) × (i : ℕ) × ShowsTraceFault bytes cause i) ⊎ IsOpenPiece bytes)
+    → HasPiece bytes
+    ⊎ (((cause : TraceCause) × (i : ℕ) × ShowsTraceFault bytes cause i) ⊎ IsOpenPiece bytes)
 
 -- The bytes that a reader of traces stands for are open.
 abbrev pub StandsOpenPiece : Type 0
 StandsOpenPiece = (reader : TraceReading) (piece : ℕ) (bytes raw : List ℕ)
     → StandsForPiece reader piece bytes raw → IsOpenPiece bytes
 
--- Whatever the pieces of the trace: the text of a new recorder has the records of what was taken, in
--- the order of the bytes that end their frames.
+-- Whatever the pieces of the trace: the text of a new recorder has the records of what was taken,
+-- in the order of the bytes that end their frames.
 abbrev pub AnyTracePieces : Type 0
 AnyTracePieces = (first last : RecorderReading) (pieces left : List (Side × List ℕ))
-    → StandsForRests first (λ side. []) → Records first pieces left last → RecordedSoFar first last pieces left
+    → StandsForRests first (λ side. []) → Records first pieces left last
+    → RecordedSoFar first last pieces left
 
--- Whatever the inputs: the runs that a new reader of traces gave are those of the pieces in what was
--- taken.
+-- Whatever the inputs: the runs that a new reader of traces gave are those of the pieces in what
+-- was taken.
 abbrev pub AnyTraceInputs : Type 0
 AnyTraceInputs = (first last : TraceReading) (inputs left : List (List ℕ)) (runs : List Run)
-    → StandsForPiece first 1 [] [] → FeedsTrace first inputs runs left last → ReadSoFar last inputs left runs
+    → StandsForPiece first 1 [] [] → FeedsTrace first inputs runs left last
+    → ReadSoFar last inputs left runs
 
--- Whatever the inputs: where a call tells a fault, the joined inputs are some pieces and a rest that
--- shows the fault, and it has the number of the next piece.
+-- Whatever the inputs: where a call tells a fault, the joined inputs are some pieces and a rest
+-- that shows the fault, and it has the number of the next piece.
 abbrev pub FaultInAnyTraceInputs : Type 0
-FaultInAnyTraceInputs = (first last new : TraceReading) (input : List ℕ) (inputs left : List (List ℕ)) (runs : List Run) (fault : TraceFault)
-    → StandsForPiece first 1 [] [] → FeedsTrace first inputs runs (input ∷ left) last → IsTraceCall last input (Err fault) new
-    → (pieces : List (Side × List ℕ)) × (rest : List ℕ) × (i : ℕ) × PieceStream (concat inputs) pieces rest
-    × ShowsTraceFault rest fault.cause i × (fault.piece ≡ number_behind pieces) × HasFailedAtPiece new fault
+FaultInAnyTraceInputs =
+    (first last new : TraceReading) (input : List ℕ) (inputs left : List (List ℕ)) (runs : List Run)
+    (fault : TraceFault)
+    → StandsForPiece first 1 [] [] → FeedsTrace first inputs runs (input ∷ left) last
+    → IsTraceCall last input (Err fault) new
+    → (pieces : List (Side × List ℕ)) × (rest : List ℕ) × (i : ℕ)
+    × PieceStream (concat inputs) pieces rest
+    × ShowsTraceFault rest fault.cause i × (fault.piece ≡ number_behind pieces)
+    × HasFailedAtPiece new fault
 
 -- All bytes are some pieces, and a rest with no piece at its front.
 abbrev pub SomePieceStream : Type 0
-SomePieceStream = (bytes : List ℕ) → (pieces : List (Side × List ℕ)) × (rest : List ℕ) × PieceStream bytes pieces rest
+SomePieceStream = (bytes : List ℕ)
+    → (pieces : List (Side × List ℕ)) × (rest : List ℕ) × PieceStream bytes pieces rest
 
 -- They are so in one way.
 abbrev pub OnePieceStream : Type 0
@@ -227,5 +252,7 @@ OnePieceStream = (bytes : List ℕ) (ps qs : List (Side × List ℕ)) (r s : Lis
 
 -- The bytes of a trace are recorded in at most one way.
 abbrev pub OneRecorded : Type 0
-OneRecorded = (limits : FrameLimits) (bytes : List (Side × ℕ)) (ms ns : List (Side × List ℕ)) (r q : Side → List ℕ)
+OneRecorded =
+    (limits : FrameLimits) (bytes : List (Side × ℕ)) (ms ns : List (Side × List ℕ)) (r q : Side
+    → List ℕ)
     → AreRecorded limits bytes ms r → AreRecorded limits bytes ns q → ms ≡ ns

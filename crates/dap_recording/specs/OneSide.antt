@@ -16,21 +16,26 @@ pub record TakesAll (rest piece before after : List ℕ) (new : Reading) (used :
   pub stands : Stands new (rest ++ piece)
 
 -- So much of the piece was taken, a frame ended there, and its record was appended.
-pub record TakesFrame (limits : FrameLimits) (side : Side) (rest piece before after : List ℕ) (new : Reading) (used : ℕ) : Type 0 where
+pub record TakesFrame (limits : FrameLimits) (side : Side) (rest piece before after : List ℕ)
+    (new : Reading) (used : ℕ) : Type 0 where
   pub content : List ℕ
   pub is_frame : IsFrame limits (rest ++ take used piece) content
   pub text : after ≡ before ++ record_text side content
   pub stands : Stands new []
 
--- The fault that was told: that of memory, and nothing is changed; or one that the rest and the piece
--- show.
-pub record TakesFault (limits : FrameLimits) (rest piece before after : List ℕ) (old new : Reading) (fault : FrameFault) : Type 0 where
+-- The fault that was told: that of memory, and nothing is changed; or one that the rest and the
+-- piece show.
+pub record TakesFault (limits : FrameLimits) (rest piece before after : List ℕ) (old new : Reading)
+    (fault : FrameFault) : Type 0 where
   pub text : after ≡ before
   pub memory : fault ≡ Memory → new ≡ old
   pub shown : fault ≢ Memory → (i : ℕ) × Shows limits (rest ++ piece) fault i
 
 -- what a call gives where the framer stood for the rest
-abbrev pub Takes : FrameLimits → Side → List ℕ → List ℕ → List ℕ → List ℕ → Reading → Reading → Result ℕ FrameFault → Type 0
+abbrev pub Takes : FrameLimits → Side → List ℕ → List ℕ → List ℕ → List ℕ → Reading → Reading
+    → Result ℕ FrameFault → Type 0
 Takes limits side rest piece before after old new (Ok used) =
-    TakesAll rest piece before after new used ⊎ TakesFrame limits side rest piece before after new used
-Takes limits side rest piece before after old new (Err fault) = TakesFault limits rest piece before after old new fault
+    TakesAll rest piece before after new used
+    ⊎ TakesFrame limits side rest piece before after new used
+Takes limits side rest piece before after old new (Err fault) =
+    TakesFault limits rest piece before after old new fault

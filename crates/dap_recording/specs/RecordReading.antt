@@ -1,6 +1,7 @@
 -- What a reader of records is to its callers: the number and the bytes that it stands for, and what
 -- a call gives.
-use Rattle.std.specs.Prelude.{◌≡◌, ◌≢◌, ℕ, ◌+◌, ◌-◌, ◌^◌, ◌≤◌, List, [], ◌∷◌, ◌++◌, length, take, min, Result, Ok, Err, MatchOption}
+use Rattle.std.specs.Prelude.{◌≡◌, ◌≢◌, ℕ, ◌+◌, ◌-◌, ◌^◌, ◌≤◌, List, [], ◌∷◌, ◌++◌, length, take}
+use Rattle.std.specs.Prelude.{min, Result, Ok, Err, MatchOption}
 use Rattle.dap_frame.specs.declared.limits.FrameLimits.{FrameLimits}
 use Rattle.dap_frame.specs.Frame.{IsFrame}
 use Rattle.dap_frame.specs.Reading.{Reading, Stands, limits_of}
@@ -8,7 +9,8 @@ use Rattle.dap_recording.specs.declared.record_fault.RecordCause.TheVariants.{Me
 use Rattle.dap_recording.specs.declared.record_fault.RecordFault.{RecordFault}
 use Rattle.dap_recording.specs.declared.fed_record.FedRecord.{FedRecord}
 use Rattle.dap_recording.specs.declared.record_state.RecordState.{RecordState}
-use Rattle.dap_recording.specs.declared.record_state.RecordState.TheVariants.{Marker, Frame, LineEnd, Failed}
+use Rattle.dap_recording.specs.declared.record_state.RecordState.TheVariants.{Marker, Frame}
+use Rattle.dap_recording.specs.declared.record_state.RecordState.TheVariants.{LineEnd, Failed}
 use Rattle.dap_recording.specs.Marker.{marker}
 use Rattle.dap_recording.specs.Recording.{IsRecord, ShowsFault}
 
@@ -31,9 +33,11 @@ pub record HasFailedAt (reader : RecordReading) (fault : RecordFault) : Type 0 w
 -- What is kept is that of these bytes behind whole records.
 abbrev pub IsKeptOfRecord : Reading → RecordState → List ℕ → Type 0
 IsKeptOfRecord framer Marker bytes = (bytes ≡ []) × Stands framer []
-IsKeptOfRecord framer (Frame side) bytes = (rest : List ℕ) × (bytes ≡ marker side ∷ rest) × Stands framer rest
+IsKeptOfRecord framer (Frame side) bytes = (rest : List ℕ) × (bytes ≡ marker side ∷ rest)
+    × Stands framer rest
 IsKeptOfRecord framer (LineEnd whole) bytes =
-    (frame : List ℕ) × (bytes ≡ marker whole.side ∷ frame) × IsFrame (limits_of framer) frame whole.content
+    (frame : List ℕ) × (bytes ≡ marker whole.side ∷ frame)
+    × IsFrame (limits_of framer) frame whole.content
     × Stands framer []
 IsKeptOfRecord framer (Failed cause) bytes = ⊥
 
@@ -58,15 +62,19 @@ GivesFedRecord limits number bytes piece fed new = (fed.used ≤ length piece) �
     (λ whole. IsRecord limits (bytes ++ take fed.used piece) whole.side whole.content
     × StandsFor new (next_number number) [])
 
--- The fault that was told: that of memory, and the reader still stands for the bytes; or one that the
--- bytes and the piece show.
-pub record GivesRecordFault (limits : FrameLimits) (number : ℕ) (bytes piece : List ℕ) (fault : RecordFault) (new : RecordReading) : Type 0 where
+-- The fault that was told: that of memory, and the reader still stands for the bytes; or one that
+-- the bytes and the piece show.
+pub record GivesRecordFault (limits : FrameLimits) (number : ℕ) (bytes piece : List ℕ)
+    (fault : RecordFault) (new : RecordReading) : Type 0 where
   pub number_is : fault.number ≡ number
   pub memory : fault.cause ≡ Memory → StandsFor new number bytes
   pub shown : fault.cause ≢ Memory → (i : ℕ) × ShowsFault limits (bytes ++ piece) fault.cause i
   pub failed : fault.cause ≢ Memory → HasFailedAt new fault
 
 -- What a call gives where the reader stood for the bytes, and what the reader is then.
-abbrev pub GivesRecord : FrameLimits → ℕ → List ℕ → List ℕ → Result FedRecord RecordFault → RecordReading → Type 0
-GivesRecord limits number bytes piece (Ok fed) new = GivesFedRecord limits number bytes piece fed new
-GivesRecord limits number bytes piece (Err fault) new = GivesRecordFault limits number bytes piece fault new
+abbrev pub GivesRecord : FrameLimits → ℕ → List ℕ → List ℕ → Result FedRecord RecordFault
+    → RecordReading → Type 0
+GivesRecord limits number bytes piece (Ok fed) new =
+    GivesFedRecord limits number bytes piece fed new
+GivesRecord limits number bytes piece (Err fault) new =
+    GivesRecordFault limits number bytes piece fault new

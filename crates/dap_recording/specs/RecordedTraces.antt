@@ -6,7 +6,8 @@ use Rattle.dap_frame.specs.Frame.{Stream}
 use Rattle.dap_tree.specs.declared.side.Side.{Side}
 use Rattle.dap_tree.specs.declared.side.Side.TheVariants.{Client, Adapter}
 use Rattle.dap_recording.specs.Recording.{recording_text}
-use Rattle.dap_recording.specs.RecorderReading.{RecorderReading, StandsForRests, text_of, recorder_limits}
+use Rattle.dap_recording.specs.RecorderReading.{RecorderReading, StandsForRests, text_of}
+use Rattle.dap_recording.specs.RecorderReading.{recorder_limits}
 
 -- whether the two are one side
 abbrev pub is_side : Side → Side → Bool
@@ -23,23 +24,27 @@ of_side side sent = map (λ x. x.1) (filter (λ x. is_side side x.0) sent)
 abbrev pub bytes_of : List (Side × List ℕ) → List (Side × ℕ)
 bytes_of pieces = flat_map (λ piece. map (λ byte. (piece.0, byte)) piece.1) pieces
 
--- In these bytes, of each side the frames that have ended are those of these messages, and this rest
--- has not ended (own).
-abbrev pub HaveEnded : FrameLimits → List (Side × ℕ) → List (Side × List ℕ) → (Side → List ℕ) → Type 0
+-- In these bytes, of each side the frames that have ended are those of these messages, and this
+-- rest has not ended (own).
+abbrev pub HaveEnded : FrameLimits → List (Side × ℕ) → List (Side × List ℕ) → (Side → List ℕ)
+    → Type 0
 HaveEnded limits bytes messages rests =
     (side : Side) → Stream limits (of_side side bytes) (of_side side messages) (rests side)
 
--- The messages are those of the bytes, in the order of the bytes that end their frames (own): whatever
--- front of the bytes has come, the frames that have ended in it are a front of the messages.
-pub record AreRecorded (limits : FrameLimits) (bytes : List (Side × ℕ)) (messages : List (Side × List ℕ)) (rests : Side → List ℕ) : Type 0 where
+-- The messages are those of the bytes, in the order of the bytes that end their frames (own):
+-- whatever front of the bytes has come, the frames that have ended in it are a front of the
+-- messages.
+pub record AreRecorded (limits : FrameLimits) (bytes : List (Side × ℕ))
+    (messages : List (Side × List ℕ)) (rests : Side → List ℕ) : Type 0 where
   pub all : HaveEnded limits bytes messages rests
   pub so_far : (front back : List (Side × ℕ)) → bytes ≡ front ++ back
       → (before : List (Side × List ℕ)) × (after : List (Side × List ℕ)) × (others : Side → List ℕ)
       × (messages ≡ before ++ after) × HaveEnded limits front before others
 
--- Of the trace's pieces, all but those left have been taken: the recorder stands for the rests of what
--- was taken, and its text has the records of what was taken, in order.
-pub record RecordedSoFar (first last : RecorderReading) (pieces left : List (Side × List ℕ)) : Type 0 where
+-- Of the trace's pieces, all but those left have been taken: the recorder stands for the rests of
+-- what was taken, and its text has the records of what was taken, in order.
+pub record RecordedSoFar (first last : RecorderReading) (pieces left : List (Side × List ℕ)) : Type
+    0 where
   pub taken : List (Side × ℕ)
   pub messages : List (Side × List ℕ)
   pub rests : Side → List ℕ

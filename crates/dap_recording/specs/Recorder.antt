@@ -7,13 +7,21 @@ use Rattle.dap_recording.specs.RecorderReading.{RecorderReading}
 
 -- what callers see: all of it
 abbrev pub reading : Inside → RecorderReading
-reading a = record { limits = a.limits; client = a.client; adapter = a.adapter; text = a.text.items; fault = a.fault }
+reading a =
+    record {
+      limits = a.limits;
+      client = a.client;
+      adapter = a.adapter;
+      text = a.text.items;
+      fault = a.fault;
+    }
 
--- The fields fit each other: both framers have the recorder's limits, and stand for some rests where
--- no fault was met.
+-- The fields fit each other: both framers have the recorder's limits, and stand for some rests
+-- where no fault was met.
 pub record IsConsistent (recorder : RecorderReading) : Type 0 where
   pub sound : IsSound recorder.limits
   pub client_limits : limits_of recorder.client ≡ recorder.limits
   pub adapter_limits : limits_of recorder.adapter ≡ recorder.limits
   pub going : recorder.fault ≡ None
-      → ((rest : List ℕ) × Stands recorder.client rest) × ((rest : List ℕ) × Stands recorder.adapter rest)
+      → ((rest : List ℕ) × Stands recorder.client rest)
+      × ((rest : List ℕ) × Stands recorder.adapter rest)

@@ -1,6 +1,7 @@
--- What a recorder is to its callers: the rest of each side's stream that it stands for, its text, and
--- what a call gives.
-use Rattle.std.specs.Prelude.{◌≡◌, ℕ, ◌≤◌, ◌⊎◌, List, [], ◌++◌, length, take, Result, Ok, Err, Option, Some, None}
+-- What a recorder is to its callers: the rest of each side's stream that it stands for, its text,
+-- and what a call gives.
+use Rattle.std.specs.Prelude.{◌≡◌, ℕ, ◌≤◌, ◌⊎◌, List, [], ◌++◌, length, take, Result, Ok, Err}
+use Rattle.std.specs.Prelude.{Option, Some, None}
 use Rattle.dap_frame.specs.declared.limits.FrameLimits.{FrameLimits}
 use Rattle.dap_frame.specs.declared.fault.FrameFault.{FrameFault}
 use Rattle.dap_frame.specs.Frame.{IsFrame, Shows}
@@ -11,8 +12,8 @@ use Rattle.dap_recording.specs.declared.recorder_fault.RecorderFault.{RecorderFa
 use Rattle.dap_recording.specs.declared.recorder_fault.RecorderFault.TheVariants.{Frame, Memory}
 use Rattle.dap_recording.specs.Recording.{record_text}
 
--- What is kept: the limits, a framer for each side, the recording so far, and the fault that was met.
--- Callers need only `recorder_limits`, `text_of`, `HasFailedWith` and `StandsForRests` of it.
+-- What is kept: the limits, a framer for each side, the recording so far, and the fault that was
+-- met. Callers need only `recorder_limits`, `text_of`, `HasFailedWith` and `StandsForRests` of it.
 pub record RecorderReading : Type 0 where
   pub limits : FrameLimits
   pub client : Reading
@@ -51,13 +52,15 @@ with_rest Adapter rest rests Client = rests Client
 with_rest Adapter rest rests Adapter = rest
 
 -- The whole piece was taken, and the side's frame goes on.
-pub record GoesOn (side : Side) (rests : Side → List ℕ) (piece : List ℕ) (old new : RecorderReading) (used : ℕ) : Type 0 where
+pub record GoesOn (side : Side) (rests : Side
+    → List ℕ) (piece : List ℕ) (old new : RecorderReading) (used : ℕ) : Type 0 where
   pub all : used ≡ length piece
   pub text : text_of new ≡ text_of old
   pub stands : StandsForRests new (with_rest side (rests side ++ piece) rests)
 
 -- So much of the piece was taken, a frame of the side ended there, and its record was appended.
-pub record HasRecorded (side : Side) (rests : Side → List ℕ) (piece : List ℕ) (old new : RecorderReading) (used : ℕ) : Type 0 where
+pub record HasRecorded (side : Side) (rests : Side
+    → List ℕ) (piece : List ℕ) (old new : RecorderReading) (used : ℕ) : Type 0 where
   pub within : used ≤ length piece
   pub content : List ℕ
   pub is_frame : IsFrame (recorder_limits old) (rests side ++ take used piece) content
@@ -65,7 +68,8 @@ pub record HasRecorded (side : Side) (rests : Side → List ℕ) (piece : List �
   pub stands : StandsForRests new (with_rest side [] rests)
 
 -- A fault of the side's frame, which its rest and the piece show; the text is kept.
-pub record HasNotRecorded (side : Side) (rests : Side → List ℕ) (piece : List ℕ) (old new : RecorderReading) (fault : RecorderFault) : Type 0 where
+pub record HasNotRecorded (side : Side) (rests : Side
+    → List ℕ) (piece : List ℕ) (old new : RecorderReading) (fault : RecorderFault) : Type 0 where
   pub cause : FrameFault
   pub fault_is : fault ≡ Frame side cause
   pub shown : (i : ℕ) × Shows (recorder_limits old) (rests side ++ piece) cause i
@@ -73,7 +77,8 @@ pub record HasNotRecorded (side : Side) (rests : Side → List ℕ) (piece : Lis
   pub text : text_of new ≡ text_of old
 
 -- What a call gives where the recorder stood for the rests, and what the recorder is then.
-abbrev pub GivesPiece : Side → (Side → List ℕ) → List ℕ → RecorderReading → RecorderReading → Result ℕ RecorderFault → Type 0
+abbrev pub GivesPiece : Side → (Side → List ℕ) → List ℕ → RecorderReading → RecorderReading
+    → Result ℕ RecorderFault → Type 0
 GivesPiece side rests piece old new (Ok used) =
     GoesOn side rests piece old new used ⊎ HasRecorded side rests piece old new used
 GivesPiece side rests piece old new (Err fault) =

@@ -1,5 +1,5 @@
--- Recordings, and what the bytes of one hold. The format is this project's own; its frames are those
--- of the DAP base protocol. A message is its side and its content.
+-- Recordings, and what the bytes of one hold. The format is this project's own; its frames are
+-- those of the DAP base protocol. A message is its side and its content.
 use Rattle.std.specs.Prelude.{◌≡◌, ◌≢◌, ℕ, List, [], ◌∷◌, ◌++◌, Result, Ok, Err}
 use Rattle.std.specs.List.{flat_map}
 use Rattle.dap_items.specs.Items.{Items, IsItem, AreItems, HasItem, IsStream, Shows}
@@ -8,7 +8,8 @@ use Rattle.dap_frame.specs.declared.limits.FrameLimits.{FrameLimits}
 use Rattle.dap_frame.specs.Frame.{frames, frame_text}
 use Rattle.dap_tree.specs.declared.side.Side.{Side}
 use Rattle.dap_recording.specs.declared.record_fault.RecordCause.{RecordCause}
-use Rattle.dap_recording.specs.declared.record_fault.RecordCause.TheVariants.{BadMarker, Frame, NoLineEnd}
+use Rattle.dap_recording.specs.declared.record_fault.RecordCause.TheVariants.{BadMarker, Frame}
+use Rattle.dap_recording.specs.declared.record_fault.RecordCause.TheVariants.{NoLineEnd}
 use Rattle.dap_recording.specs.Marker.{marker, markers}
 
 -- the record that is written for a message (own)
@@ -19,7 +20,8 @@ record_text side content = (marker side ∷ frame_text content) ++ 10 ∷ []
 abbrev pub recording_text : List (Side × List ℕ) → List ℕ
 recording_text messages = flat_map (λ message. record_text message.0 message.1) messages
 
--- what the byte behind a frame says (own): it is LF, and the record is of this message, or it shows a fault
+-- what the byte behind a frame says (own): it is LF, and the record is of this message, or it shows
+-- a fault
 abbrev pub EndsLine : Side × List ℕ → ℕ → Result (Side × List ℕ) RecordCause → Type 0
 EndsLine message byte (Ok whole) = (byte ≡ 10) × (whole ≡ message)
 EndsLine message byte (Err cause) = (byte ≢ 10) × (cause ≡ NoLineEnd)

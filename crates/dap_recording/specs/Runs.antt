@@ -10,7 +10,8 @@ use Rattle.dap_recording.specs.Feeding.{Run}
 
 -- The runs are of this number and side, none is empty, and joined they are these bytes.
 pub record AreRunsOf (number : ℕ) (side : Side) (raw : List ℕ) (runs : List Run) : Type 0 where
-  pub each : AllByRecursion (λ run. (run.piece ≡ number) × (run.side ≡ side) × (run.bytes ≢ [])) runs
+  pub each : AllByRecursion (λ run. (run.piece ≡ number) × (run.side ≡ side)
+      × (run.bytes ≢ [])) runs
   pub joined : flat_map (λ run. run.bytes) runs ≡ raw
 
 -- The runs of a whole piece (own): those of its raw bytes, or one empty run where it has none.
@@ -24,11 +25,14 @@ abbrev pub AreRunsOfPieces : List (Side × List ℕ) → List Run → List (Side
 AreRunsOfPieces before runs [] = runs ≡ []
 AreRunsOfPieces before runs (piece ∷ pieces) =
     (mine : List Run) × (others : List Run) × (runs ≡ mine ++ others)
-    × AreRunsOfPiece (number_behind before) piece.0 piece.1 mine × AreRunsOfPieces (before ++ piece ∷ []) others pieces
+    × AreRunsOfPiece (number_behind before) piece.0 piece.1 mine
+    × AreRunsOfPieces (before ++ piece ∷ []) others pieces
 
--- Of the inputs, all but those left have been taken: they are whole pieces and bytes of the next one,
--- for which the reader stands, and the runs are those of the pieces and then those of the next one.
-pub record ReadSoFar (reader : TraceReading) (inputs left : List (List ℕ)) (runs : List Run) : Type 0 where
+-- Of the inputs, all but those left have been taken: they are whole pieces and bytes of the next
+-- one, for which the reader stands, and the runs are those of the pieces and then those of the next
+-- one.
+pub record ReadSoFar (reader : TraceReading) (inputs left : List (List ℕ)) (runs : List Run) : Type
+    0 where
   pub front : List ℕ
   pub pieces : List (Side × List ℕ)
   pub trace : IsTrace front pieces

@@ -1,5 +1,6 @@
 -- Traces, and what the bytes of one hold. The format is this project's own.
-use Rattle.std.specs.Prelude.{◌≡◌, ◌≢◌, ℕ, ◌<◌, ◌≤◌, ◌⊎◌, true, List, [], ◌∷◌, ◌++◌, length, slice_index, Result, Ok, Err}
+use Rattle.std.specs.Prelude.{◌≡◌, ◌≢◌, ℕ, ◌<◌, ◌≤◌, ◌⊎◌, true, List, [], ◌∷◌, ◌++◌, length}
+use Rattle.std.specs.Prelude.{slice_index, Result, Ok, Err}
 use Rattle.std.specs.List.{list_all}
 use Rattle.std.specs.Char.{is_ascii_digit}
 use Rattle.dap_items.specs.Items.{Items, IsItem, AreItems, HasItem, IsStream, Shows}
@@ -27,7 +28,8 @@ pub record IsBadAt (text : List ℕ) (byte : ℕ) : Type 0 where
   pub no_end : byte ≡ 10 → text ≡ []
   pub no_count : IsCount (text ++ byte ∷ []) → ⊥
 
--- what the byte behind the digits of a count says (own): it is LF, and they are this number, or it shows a fault
+-- what the byte behind the digits of a count says (own): it is LF, and they are this number, or it
+-- shows a fault
 abbrev pub EndsCount : List ℕ → ℕ → Result ℕ TraceCause → Type 0
 EndsCount text byte (Ok number) = (byte ≡ 10) × IsCount text × (number ≡ number_of text)
 EndsCount text byte (Err cause) = IsBadAt text byte × (cause ≡ BadCount)

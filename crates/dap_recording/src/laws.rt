@@ -1,7 +1,48 @@
 //! Theorems on recordings and traces, which hold of all bytes, and on the readers and the recorder,
 //! which hold of all pieces. Each function does nothing: a call of it gives its clauses to a proof.
 
-ghost use Rattle.dap_recording.specs.Laws.{OneRecord, NoEmptyRecord, OneCause, ShownWithin, ShownOfFormat, ShownMore, ShownFront, ShownLater, RecordNotFaulty, RecordNotOpen, OpenNotFaulty, SomeOutcome, OpenNone, WrittenIsRecord, WrittenIsRecording, EmptyRecording, OneRecording, SomeRecordStream, OneRecordStream, StandsOpen, AnyRecordPieces, FaultInAnyRecordPieces, OnePiece, NoEmptyPiece, OneTraceCause, TraceShownWithin, TraceShownMore, TraceShownFront, TraceShownLater, PieceNotFaulty, PieceNotOpen, OpenPieceNotFaulty, SomeTraceOutcome, StandsOpenPiece, OneRecorded, AnyTracePieces, AnyTraceInputs, FaultInAnyTraceInputs, SomePieceStream, OnePieceStream};
+ghost use Rattle.dap_recording.specs.Laws.{
+  OneRecord,
+  NoEmptyRecord,
+  OneCause,
+  ShownWithin,
+  ShownOfFormat,
+  ShownMore,
+  ShownFront,
+  ShownLater,
+  RecordNotFaulty,
+  RecordNotOpen,
+  OpenNotFaulty,
+  SomeOutcome,
+  OpenNone,
+  WrittenIsRecord,
+  WrittenIsRecording,
+  EmptyRecording,
+  OneRecording,
+  SomeRecordStream,
+  OneRecordStream,
+  StandsOpen,
+  AnyRecordPieces,
+  FaultInAnyRecordPieces,
+  OnePiece,
+  NoEmptyPiece,
+  OneTraceCause,
+  TraceShownWithin,
+  TraceShownMore,
+  TraceShownFront,
+  TraceShownLater,
+  PieceNotFaulty,
+  PieceNotOpen,
+  OpenPieceNotFaulty,
+  SomeTraceOutcome,
+  StandsOpenPiece,
+  OneRecorded,
+  AnyTracePieces,
+  AnyTraceInputs,
+  FaultInAnyTraceInputs,
+  SomePieceStream,
+  OnePieceStream,
+};
 
 /// Bytes begin with at most one record, and no record is empty.
 pub fn one_record()
@@ -87,8 +128,8 @@ pub fn one_trace_outcome()
     ensures stands_open { StandsOpenPiece }
 {}
 
-/// Whatever the pieces of a trace, calls of `Recorder::piece` record the frames of both sides in the
-/// order of the bytes that end them, and that is one order.
+/// Whatever the pieces of a trace, calls of `Recorder::piece` record the frames of both sides in
+/// the order of the bytes that end them, and that is one order.
 pub fn any_trace_pieces()
     ensures one { OneRecorded }
     ensures recorded { AnyTracePieces }

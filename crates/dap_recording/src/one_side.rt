@@ -21,7 +21,8 @@ pub fn record_frame(
     requires sound { IsSound limits }
     requires same { limits_of framer.old ≡ limits }
     ensures takes { (rest : List ℕ) → Stands framer.old rest
-        → Takes limits side rest piece.now text.old.items text.new.items framer.old framer.new result }
+        → Takes limits side rest piece.now text.old.items text.new.items framer.old framer.new
+        result }
     ensures used { IfOk result (λ used. used ≤ length piece.now) }
     ensures progress { IfOk result (λ used. 0 < length piece.now → 0 < used) }
     ensures limits { limits_of framer.new ≡ limits_of framer.old }

@@ -1,10 +1,32 @@
 //! Records read from the pieces of a recording.
-ghost use Rattle.std.specs.Prelude.{◌≡◌, ◌≢◌, ℕ, ◌<◌, ◌≤◌, ◌↔◌, List, [], ◌∷◌, ◌++◌, length, take, Err, IfErr, IfOk, IsOk};
+ghost use Rattle.std.specs.Prelude.{
+  ◌≡◌,
+  ◌≢◌,
+  ℕ,
+  ◌<◌,
+  ◌≤◌,
+  ◌↔◌,
+  List,
+  [],
+  ◌∷◌,
+  ◌++◌,
+  length,
+  take,
+  Err,
+  IfErr,
+  IfOk,
+  IsOk,
+};
 ghost use Rattle.dap_frame.specs.Limits.{IsSound};
 ghost use Rattle.dap_frame.specs.Frame.{IsFrame};
 ghost use Rattle.dap_frame.specs.Reading.{Stands};
 ghost use Rattle.dap_recording.specs.Marker.{marker};
-ghost use Rattle.dap_recording.specs.RecordReading.{StandsFor, HasFailedAt, GivesRecord, record_limits};
+ghost use Rattle.dap_recording.specs.RecordReading.{
+  StandsFor,
+  HasFailedAt,
+  GivesRecord,
+  record_limits,
+};
 
 use crate::fed_record::FedRecord;
 use crate::marker::side_of;

@@ -1,10 +1,33 @@
 //! Pieces read from a trace.
-ghost use Rattle.std.specs.Prelude.{◌≡◌, ◌≢◌, ℕ, ◌+◌, ◌<◌, ◌≤◌, ◌↔◌, List, [], ◌∷◌, ◌++◌, length, take, Err, IfErr, IfOk, IsOk};
+ghost use Rattle.std.specs.Prelude.{
+  ◌≡◌,
+  ◌≢◌,
+  ℕ,
+  ◌+◌,
+  ◌<◌,
+  ◌≤◌,
+  ◌↔◌,
+  List,
+  [],
+  ◌∷◌,
+  ◌++◌,
+  length,
+  take,
+  Err,
+  IfErr,
+  IfOk,
+  IsOk,
+};
 ghost use Rattle.dap_frame.specs.Lines.{number_of};
 ghost use Rattle.dap_recording.specs.Marker.{marker};
 ghost use Rattle.dap_recording.specs.Trace.{IsCount};
 ghost use Rattle.dap_recording.specs.Count.{IsCountOf};
-ghost use Rattle.dap_recording.specs.TraceReading.{StandsForPiece, HasFailedAtPiece, GivesTrace, GivesFedTrace};
+ghost use Rattle.dap_recording.specs.TraceReading.{
+  StandsForPiece,
+  HasFailedAtPiece,
+  GivesTrace,
+  GivesFedTrace,
+};
 
 use crate::count::{Count, CountEnd, count_end};
 use crate::fed_trace::{FedTrace, TracePart};
@@ -148,7 +171,8 @@ impl TraceReader {
     /// stand before them.
     fn read_raw<'a>(&mut self, side: Side, left: u64, input: &'a [u8], from: usize) -> FedTrace<'a>
         requires { from ≤ length input.now }
-        ensures gives { (piece : ℕ) (bytes raw text : List ℕ) → self.old.piece ≡ piece → IsCount text
+        ensures gives { (piece : ℕ) (bytes raw text : List ℕ) → self.old.piece ≡ piece
+            → IsCount text
             → bytes ++ take from input.now ≡ (marker side ∷ text) ++ (10 ∷ raw)
             → number_of text ≡ length raw + left → (left ≡ 0 → raw ≡ [])
             → GivesFedTrace piece bytes raw input.now result self.new }

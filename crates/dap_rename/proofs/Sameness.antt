@@ -1,5 +1,7 @@
--- What it is to be the same: one skeleton and one list of names. From it the laws of fresh lists and of the normal form.
-use Rattle.std.proofs.Common.{◌≡◌, ℕ, suc, ℤ, pos, true, false, cond, List, [], ◌∷◌, ◌++◌, map, length, inl, inr, refl, sym, ◌∙◌, ap, subst, arith, true≢false}
+-- What it is to be the same: one skeleton and one list of names. From it the laws of fresh lists
+-- and of the normal form.
+use Rattle.std.proofs.Common.{◌≡◌, ℕ, suc, ℤ, pos, true, false, cond, List, [], ◌∷◌, ◌++◌, map}
+use Rattle.std.proofs.Common.{length, inl, inr, refl, sym, ◌∙◌, ap, subst, arith, true≢false}
 use Rattle.std.proofs.lemmas.List.{length-map, map-append}
 use Rattle.std.proofs.lemmas.Bool.Decides.{Decides-int_eq}
 use Rattle.std.specs.List.{list_any, AllByRecursion}
@@ -11,14 +13,20 @@ use Rattle.dap_message.specs.Message.{Sent}
 use Rattle.dap_message.specs.Numbers.{is_proper_number}
 use Rattle.dap_rename.specs.Numbering.{table, name, named, IsFresh}
 use Rattle.dap_rename.specs.Renamings.{IsIn, IsRenaming, AreRelated, pairs}
-use Rattle.dap_rename.specs.Messages.{Class, IsProperId, class_after, occurrence, occurrences, message_skeleton, same_class, sort_number, AreSame, IsNormal, Carries, in_whole, whole_classes}
-use Rattle.dap_rename.specs.Laws.{SameAsItself, SameBothWays, SameAlong, SameIsProper, SameFronts, FreshIsUnique, NormalIsUnique, NormalIsComplete, NamedIsNormal, NormalIsItsOwn, EqualPlacesRename, EqualPlacesCarry}
+use Rattle.dap_rename.specs.Messages.{Class, IsProperId, class_after, occurrence, occurrences}
+use Rattle.dap_rename.specs.Messages.{message_skeleton, same_class, sort_number, AreSame, IsNormal}
+use Rattle.dap_rename.specs.Messages.{Carries, in_whole, whole_classes}
+use Rattle.dap_rename.specs.Laws.{SameAsItself, SameBothWays, SameAlong, SameIsProper, SameFronts}
+use Rattle.dap_rename.specs.Laws.{FreshIsUnique, NormalIsUnique, NormalIsComplete, NamedIsNormal}
+use Rattle.dap_rename.specs.Laws.{NormalIsItsOwn, EqualPlacesRename, EqualPlacesCarry}
 use Rattle.dap_rename.proofs.Additions.{by_bool}
 use Rattle.dap_rename.proofs.FreshLists.{IsCounted, named-fresh, fresh_named}
 use Rattle.dap_rename.proofs.Lists.{front_told, each-append, each-more}
 use Rattle.dap_rename.proofs.RelatedLists.{Tied, named-related, Distinct}
 use Rattle.dap_rename.proofs.RenamingBetween.{pairs_renaming, related_by_pairs}
-use Rattle.dap_rename.proofs.Occurrences.{class_decides, occurrences_alike, occurrences-append, messages_told, seconds, seconds-occurrences, proper_occurrences, proper_messages}
+use Rattle.dap_rename.proofs.Occurrences.{class_decides, occurrences_alike, occurrences-append}
+use Rattle.dap_rename.proofs.Occurrences.{messages_told, seconds, seconds-occurrences}
+use Rattle.dap_rename.proofs.Occurrences.{proper_occurrences, proper_messages}
 
 -- ---- the classes of a list
 
@@ -28,9 +36,12 @@ classes (o ∷ os) = cond (list_any (same_class o.0) (classes os)) (classes os) 
 
 pub in_any : (c : Class) (cs : List Class) → list_any (same_class c) cs ≡ true → IsIn c cs
 in_any c [] h = absurd cc
-in_any c (d ∷ cs) h = by_bool (same_class c d) (λ a. inl ((class_decides c d).0 a)) (λ a. inr (in_any c cs (rw a at h)))
+in_any c (d ∷ cs) h =
+    by_bool (same_class c d) (λ a. inl ((class_decides c d).0 a))
+    (λ a. inr (in_any c cs (rw a at h)))
 
-pub none_any : (c : Class) (cs : List Class) → list_any (same_class c) cs ≡ false → AllByRecursion (λ d. c ≡ d → ⊥) cs
+pub none_any : (c : Class) (cs : List Class) → list_any (same_class c) cs ≡ false
+    → AllByRecursion (λ d. c ≡ d → ⊥) cs
 none_any c [] h = tt
 none_any c (d ∷ cs) h =
     by_bool (same_class c d)
@@ -44,31 +55,39 @@ classes_distinct (o ∷ os) =
     (λ a. rw a (classes_distinct os))
     (λ a. rw a (none_any o.0 (classes os) a, classes_distinct os))
 
-pub in_more : (o : Class × ℤ) (os : List (Class × ℤ)) (c : Class) → IsIn c (classes os) → IsIn c (classes (o ∷ os))
-in_more o os c i = by_bool (list_any (same_class o.0) (classes os)) (λ a. rw a i) (λ a. rw a (inr i))
+pub in_more : (o : Class × ℤ) (os : List (Class × ℤ)) (c : Class) → IsIn c (classes os)
+    → IsIn c (classes (o ∷ os))
+in_more o os c i =
+    by_bool (list_any (same_class o.0) (classes os)) (λ a. rw a i) (λ a. rw a (inr i))
 
 pub in_first : (o : Class × ℤ) (os : List (Class × ℤ)) → IsIn o.0 (classes (o ∷ os))
-in_first o os = by_bool (list_any (same_class o.0) (classes os)) (λ a. rw a (in_any o.0 (classes os) a)) (λ a. rw a (inl refl))
+in_first o os =
+    by_bool (list_any (same_class o.0) (classes os)) (λ a. rw a (in_any o.0 (classes os) a))
+    (λ a. rw a (inl refl))
 
 pub classes_all : (os : List (Class × ℤ)) → AllByRecursion (λ o. IsIn o.0 (classes os)) os
 classes_all [] = tt
-classes_all (o ∷ os) = (in_first o os, each-more _ _ os (λ p i. in_more o os p.0 i) (classes_all os))
+classes_all (o ∷ os) =
+    (in_first o os, each-more _ _ os (λ p i. in_more o os p.0 i) (classes_all os))
 
 -- ---- what it is to be the same
 
 -- the two lists have one skeleton and one list of names, and both are proper
 pub record Alike (stop : Sent → ℕ) (ms ns : List Sent) : Type 0 where
   pub skeletons : map message_skeleton ms ≡ map message_skeleton ns
-  pub names : named same_class [] (occurrences stop 0 ms) ≡ named same_class [] (occurrences stop 0 ns)
+  pub names : named same_class [] (occurrences stop 0 ms)
+      ≡ named same_class [] (occurrences stop 0 ns)
   pub left : AllByRecursion IsProperId (occurrences stop 0 ms)
   pub right : AllByRecursion IsProperId (occurrences stop 0 ns)
 
-pub in_is : (r : List (Class × ℤ × ℤ)) → IsRenaming IsProperId r → (p : Class × ℤ × ℤ) → IsIn p r → IsProperId (p.0, p.1) × IsProperId (p.0, p.2)
+pub in_is : (r : List (Class × ℤ × ℤ)) → IsRenaming IsProperId r → (p : Class × ℤ × ℤ) → IsIn p r
+    → IsProperId (p.0, p.1) × IsProperId (p.0, p.2)
 in_is [] h p i = absurd i
 in_is (q ∷ r) h p (inl e) = rw e h.0
 in_is (q ∷ r) h p (inr i) = in_is r h.2 p i
 
-pub related_ids : (r : List (Class × ℤ × ℤ)) → IsRenaming IsProperId r → (xs ys : List (Class × ℤ)) → AreRelated r xs ys → AllByRecursion IsProperId xs × AllByRecursion IsProperId ys
+pub related_ids : (r : List (Class × ℤ × ℤ)) → IsRenaming IsProperId r → (xs ys : List (Class × ℤ))
+    → AreRelated r xs ys → AllByRecursion IsProperId xs × AllByRecursion IsProperId ys
 related_ids r h [] [] k = (tt, tt)
 related_ids r h [] (p ∷ ys) k = absurd k
 related_ids r h (o ∷ xs) [] k = absurd k
@@ -84,19 +103,25 @@ alike stop ms ns s =
     let ids = related_ids s.0 s.1 (occurrences stop 0 ms) (occurrences stop 0 ns) s.2.1 in
     record {
       skeletons = s.2.0;
-      names = named-related same_class class_decides IsProperId s.0 s.1 [] [] (occurrences stop 0 ms) (occurrences stop 0 ns) (λ c. tt) s.2.1;
+      names = named-related same_class class_decides IsProperId s.0 s.1 [] []
+          (occurrences stop 0 ms) (occurrences stop 0 ns) (λ c. tt) s.2.1;
       left = ids.0;
       right = ids.1;
     }
 
 -- the pairs of equal places, of classes in any order, carry the one list to the other
-pub carried : (stop : Sent → ℕ) (cs : List Class) (ms ns : List Sent) → Distinct cs → AllByRecursion (λ o. IsIn o.0 cs) (occurrences stop 0 ms) → Alike stop ms ns →
-    let r = pairs same_class cs (occurrences stop 0 ms) (occurrences stop 0 ns) in IsRenaming IsProperId r × Carries stop r ms ns
+pub carried : (stop : Sent → ℕ) (cs : List Class) (ms ns : List Sent) → Distinct cs
+    → AllByRecursion (λ o. IsIn o.0 cs) (occurrences stop 0 ms) → Alike stop ms ns →
+    let r = pairs same_class cs (occurrences stop 0 ms) (occurrences stop 0 ns) in IsRenaming
+    IsProperId r × Carries stop r ms ns
 carried stop cs ms ns distinct all a =
     let xs = occurrences stop 0 ms in
     let ys = occurrences stop 0 ns in (
       pairs_renaming same_class class_decides IsProperId cs xs ys distinct a.left a.right,
-      (a.skeletons, related_by_pairs same_class class_decides cs xs ys [] [] xs ys all refl refl a.names),
+      (
+        a.skeletons,
+        related_by_pairs same_class class_decides cs xs ys [] [] xs ys all refl refl a.names,
+      ),
     )
 
 pub same_of : (stop : Sent → ℕ) (ms ns : List Sent) → Alike stop ms ns → AreSame stop ms ns
@@ -107,34 +132,63 @@ same_of stop ms ns a =
     (pairs same_class (classes xs) xs (occurrences stop 0 ns), c.0, c.1)
 
 pub same_as_itself : SameAsItself
-same_as_itself stop ms p = let q = proper_occurrences stop 0 ms p in same_of stop ms ms (record { skeletons = refl; names = refl; left = q; right = q })
+same_as_itself stop ms p = let q =
+    proper_occurrences stop 0 ms p in same_of stop ms ms
+    (record { skeletons = refl; names = refl; left = q; right = q })
 
 pub same_both_ways : SameBothWays
-same_both_ways stop ms ns s = let a = alike stop ms ns s in same_of stop ns ms (record { skeletons = sym a.skeletons; names = sym a.names; left = a.right; right = a.left })
+same_both_ways stop ms ns s = let a =
+    alike stop ms ns s in same_of stop ns ms
+    (record { skeletons = sym a.skeletons; names = sym a.names; left = a.right; right = a.left })
 
 pub same_along : SameAlong
 same_along stop ms ns ks s t =
     let a = alike stop ms ns s in
     let b = alike stop ns ks t in
-    same_of stop ms ks (record { skeletons = a.skeletons ∙ b.skeletons; names = a.names ∙ b.names; left = a.left; right = b.right })
+    same_of stop ms ks
+    (record {
+      skeletons = a.skeletons ∙ b.skeletons;
+      names = a.names
+          ∙ b.names;
+      left = a.left;
+      right = b.right;
+    })
 
 pub same_is_proper : SameIsProper
-same_is_proper stop ms ns s = let a = alike stop ms ns s in (proper_messages stop 0 ms a.left, proper_messages stop 0 ns a.right)
+same_is_proper stop ms ns s = let a =
+    alike stop ms ns s in (proper_messages stop 0 ms a.left, proper_messages stop 0 ns a.right)
 
-pub related_front : {K : Type 0} (r : List (K × ℤ × ℤ)) (xs more ys rest : List (K × ℤ)) → length xs ≡ length ys → AreRelated r (xs ++ more) (ys ++ rest) → AreRelated r xs ys
+pub related_front : {K : Type 0} (r : List (K × ℤ × ℤ)) (xs more ys rest : List (K × ℤ))
+    → length xs ≡ length ys → AreRelated r (xs ++ more) (ys ++ rest) → AreRelated r xs ys
 related_front r [] more [] rest n h = tt
 related_front r [] more (p ∷ ys) rest n h = absurd (omega (arith, n))
 related_front r (o ∷ xs) more [] rest n h = absurd (omega (arith, n))
-related_front r (o ∷ xs) more (p ∷ ys) rest n h = (h.0, h.1, related_front r xs more ys rest (omega (arith, n)) h.2)
+related_front r (o ∷ xs) more (p ∷ ys) rest n h =
+    (h.0, h.1, related_front r xs more ys rest (omega (arith, n)) h.2)
 
 pub same_fronts : SameFronts
 unfolding AreSame
 same_fronts stop ms more ns rest n s =
-    let count : length (map message_skeleton ms) ≡ length (map message_skeleton ns) = length-map ms message_skeleton ∙ (n ∙ sym (length-map ns message_skeleton)) in
-    let split : map message_skeleton ms ++ map message_skeleton more ≡ map message_skeleton ns ++ map message_skeleton rest = sym (map-append message_skeleton ms more) ∙ (s.2.0 ∙ map-append message_skeleton ns rest) in
-    let skeletons = front_told (map message_skeleton ms) (map message_skeleton more) (map message_skeleton ns) (map message_skeleton rest) count split in
-    let related = subst (λ xs. AreRelated s.0 xs (occurrences stop 0 (ns ++ rest))) (occurrences-append stop 0 ms more) s.2.1 in
-    (s.0, s.1, (skeletons, related_front s.0 (occurrences stop 0 ms) _ (occurrences stop 0 ns) _ (occurrences_alike stop 0 0 ms ns skeletons) (subst (AreRelated s.0 _) (occurrences-append stop 0 ns rest) related)))
+    let count : length (map message_skeleton ms) ≡ length (map message_skeleton ns) =
+    length-map ms message_skeleton ∙ (n ∙ sym (length-map ns message_skeleton)) in
+    let split : map message_skeleton ms ++ map message_skeleton more
+    ≡ map message_skeleton ns ++ map message_skeleton rest =
+    sym (map-append message_skeleton ms more) ∙ (s.2.0 ∙ map-append message_skeleton ns rest) in
+    let skeletons =
+    front_told (map message_skeleton ms) (map message_skeleton more) (map message_skeleton ns)
+    (map message_skeleton rest) count split in
+    let related =
+    subst (λ xs. AreRelated s.0 xs (occurrences stop 0 (ns ++ rest)))
+    (occurrences-append stop 0 ms more) s.2.1 in (
+      s.0,
+      s.1,
+      (
+        skeletons,
+        related_front s.0 (occurrences stop 0 ms) _ (occurrences stop 0 ns) _
+            (occurrences_alike stop 0 0 ms ns skeletons)
+            (subst (AreRelated s.0 _) (occurrences-append stop 0 ns rest) related),
+      ),
+    )
 
 -- ---- fresh lists and the normal form
 
@@ -145,12 +199,16 @@ fresh_names os f = named-fresh same_class class_decides [] os (λ c. refl) f
 pub fresh_is_unique : FreshIsUnique
 fresh_is_unique stop n k s f g =
     let a = alike stop n k s in
-    let e : occurrences stop 0 n ≡ occurrences stop 0 k = sym (fresh_names _ f) ∙ a.names ∙ fresh_names _ g in
-    messages_told n k a.skeletons (sym (seconds-occurrences stop 0 n) ∙ ap seconds e ∙ seconds-occurrences stop 0 k)
+    let e : occurrences stop 0 n ≡ occurrences stop 0 k =
+    sym (fresh_names _ f) ∙ a.names ∙ fresh_names _ g in
+    messages_told n k a.skeletons (sym (seconds-occurrences stop 0 n) ∙ ap seconds e
+    ∙ seconds-occurrences stop 0 k)
 
 pub normal_is_unique : NormalIsUnique
 unfolding IsNormal
-normal_is_unique stop ms ns n k s p q = fresh_is_unique stop n k (same_along stop n ms k (same_both_ways stop ms n p.0) (same_along stop ms ns k s q.0)) p.1 q.1
+normal_is_unique stop ms ns n k s p q =
+    fresh_is_unique stop n k
+    (same_along stop n ms k (same_both_ways stop ms n p.0) (same_along stop ms ns k s q.0)) p.1 q.1
 
 pub normal_is_complete : NormalIsComplete
 unfolding IsNormal
@@ -164,7 +222,9 @@ pub proper_suc : (s : Sort) (k : ℕ) → is_proper_number s (pos (suc k)) ≡ t
 proper_suc ClientSeq k = refl
 proper_suc AdapterSeq k = refl
 proper_suc Frame k = refl
-proper_suc Reference k = by_bool (int_eq (pos (suc k)) (pos 0)) (λ a. let e : pos (suc k) ≡ pos 0 = (Decides-int_eq (pos (suc k)) (pos 0)).0 a in absurd cc) (λ a. rw a refl)
+proper_suc Reference k =
+    by_bool (int_eq (pos (suc k)) (pos 0)) (λ a. let e : pos (suc k)
+    ≡ pos 0 = (Decides-int_eq (pos (suc k)) (pos 0)).0 a in absurd cc) (λ a. rw a refl)
 
 pub named_proper : (e os : List (Class × ℤ)) → AllByRecursion IsProperId (named same_class e os)
 unfolding name
@@ -176,8 +236,16 @@ unfolding IsNormal
 named_is_normal stop ms n p h e =
     let xs = occurrences stop 0 ms in
     let f : IsFresh same_class (named same_class [] xs) = fresh_named same_class class_decides xs in
-    let g : IsFresh same_class (occurrences stop 0 n) = rw e f in
-    (same_of stop ms n (record { skeletons = sym h; names = sym (fresh_names _ g ∙ e); left = proper_occurrences stop 0 ms p; right = rw e (named_proper [] xs) }), g)
+    let g : IsFresh same_class (occurrences stop 0 n) = rw e f in (
+      same_of stop ms n
+          (record {
+            skeletons = sym h;
+            names = sym (fresh_names _ g ∙ e);
+            left = proper_occurrences stop 0 ms p;
+            right = rw e (named_proper [] xs);
+          }),
+      g,
+    )
 
 -- ---- pairs of equal places, in the whole of a recording
 
@@ -186,8 +254,14 @@ other_class c d n e = n (ap (λ (k : Class). sort_number k.0) e)
 
 pub whole_distinct : Distinct whole_classes
 whole_distinct = (
-  (other_class _ _ (λ e. omega (arith, e)), (other_class _ _ (λ e. omega (arith, e)), (other_class _ _ (λ e. omega (arith, e)), tt))),
-  ((other_class _ _ (λ e. omega (arith, e)), (other_class _ _ (λ e. omega (arith, e)), tt)), ((other_class _ _ (λ e. omega (arith, e)), tt), (tt, tt))),
+  (
+    other_class _ _ (λ e. omega (arith, e)),
+    (other_class _ _ (λ e. omega (arith, e)), (other_class _ _ (λ e. omega (arith, e)), tt)),
+  ),
+  (
+    (other_class _ _ (λ e. omega (arith, e)), (other_class _ _ (λ e. omega (arith, e)), tt)),
+    ((other_class _ _ (λ e. omega (arith, e)), tt), (tt, tt)),
+  ),
 )
 
 pub whole_class : (s : Sort) → IsIn (class_after 0 s) whole_classes
@@ -196,17 +270,25 @@ whole_class AdapterSeq = inr (inl refl)
 whole_class Frame = inr (inr (inl refl))
 whole_class Reference = inr (inr (inr (inl refl)))
 
-pub whole_ids : (is : List (Sort × ℤ)) → AllByRecursion (λ o. IsIn o.0 whole_classes) (map (occurrence 0) is)
+pub whole_ids : (is : List (Sort × ℤ))
+    → AllByRecursion (λ o. IsIn o.0 whole_classes) (map (occurrence 0) is)
 whole_ids [] = tt
 whole_ids (i ∷ is) = (whole_class i.0, whole_ids is)
 
-pub whole_occurrences : (ms : List Sent) → AllByRecursion (λ o. IsIn o.0 whole_classes) (occurrences in_whole 0 ms)
+pub whole_occurrences : (ms : List Sent)
+    → AllByRecursion (λ o. IsIn o.0 whole_classes) (occurrences in_whole 0 ms)
 whole_occurrences [] = tt
-whole_occurrences (m ∷ ms) = each-append _ (map (occurrence 0) (ids m.doc)) (occurrences in_whole 0 ms) (whole_ids (ids m.doc)) (whole_occurrences ms)
+whole_occurrences (m ∷ ms) =
+    each-append _ (map (occurrence 0) (ids m.doc)) (occurrences in_whole 0 ms)
+    (whole_ids (ids m.doc)) (whole_occurrences ms)
 
 pub equal_places_carry : EqualPlacesCarry
-equal_places_carry ms ns s = (carried in_whole whole_classes ms ns whole_distinct (whole_occurrences ms) (alike in_whole ms ns s)).1
+equal_places_carry ms ns s =
+    (carried in_whole whole_classes ms ns whole_distinct (whole_occurrences ms)
+    (alike in_whole ms ns s)).1
 
 pub equal_places_rename : EqualPlacesRename
 equal_places_rename ms ns p q =
-    pairs_renaming same_class class_decides IsProperId whole_classes (occurrences in_whole 0 ms) (occurrences in_whole 0 ns) whole_distinct (proper_occurrences in_whole 0 ms p) (proper_occurrences in_whole 0 ns q)
+    pairs_renaming same_class class_decides IsProperId whole_classes (occurrences in_whole 0 ms)
+    (occurrences in_whole 0 ns) whole_distinct (proper_occurrences in_whole 0 ms p)
+    (proper_occurrences in_whole 0 ns q)

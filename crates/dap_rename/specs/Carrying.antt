@@ -1,9 +1,11 @@
--- For private clauses: a test whether pairs carry one document, message or list of messages to another.
+-- For private clauses: a test whether pairs carry one document, message or list of messages to
+-- another.
 use Rattle.std.specs.Prelude.{ℤ, Bool, true, false, ◌&&◌, List, [], ◌∷◌, bytes_eq}
 use Rattle.std.specs.Bool.{beq}
 use Rattle.std.specs.List.{list_any}
 use Rattle.std.specs.Ordering.{int_eq}
-use Rattle.dap_tree.specs.Doc.{Doc, null, boolean, whole, text, list, object, id, Items, no_items, item, Members, no_members, member}
+use Rattle.dap_tree.specs.Doc.{Doc, null, boolean, whole, text, list, object, id, Items, no_items}
+use Rattle.dap_tree.specs.Doc.{item, Members, no_members, member}
 use Rattle.dap_tree.specs.declared.side.Side.{Side}
 use Rattle.dap_tree.specs.declared.side.Side.TheVariants.{Client, Adapter}
 use Rattle.dap_tree.specs.declared.sort.Sort.{Sort}
@@ -33,7 +35,8 @@ abbrev mutual
 
   pub carries_members : List Pair → Members → Members → Bool
   carries_members ps no_members no_members = true
-  carries_members ps (member k d ms) (member l e ns) = bytes_eq k l && (carries_doc ps d e && carries_members ps ms ns)
+  carries_members ps (member k d ms) (member l e ns) =
+      bytes_eq k l && (carries_doc ps d e && carries_members ps ms ns)
   carries_members ps ms ns = false
 
 abbrev pub same_side : Side → Side → Bool

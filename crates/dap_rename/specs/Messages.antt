@@ -1,5 +1,7 @@
--- Lists of messages: their ids, what it is that one list is a renaming of another, and the normal form.
-use Rattle.std.specs.Prelude.{◌≡◌, ℕ, ◌+◌, ◌<◌, ◌≤◌, ℤ, Bool, true, ◌&&◌, eqb, List, [], ◌∷◌, ◌++◌, length, map}
+-- Lists of messages: their ids, what it is that one list is a renaming of another, and the normal
+-- form.
+use Rattle.std.specs.Prelude.{◌≡◌, ℕ, ◌+◌, ◌<◌, ◌≤◌, ℤ, Bool, true, ◌&&◌, eqb, List, [], ◌∷◌, ◌++◌}
+use Rattle.std.specs.Prelude.{length, map}
 use Rattle.std.specs.List.{AllByRecursion}
 use Rattle.dap_tree.specs.Ids.{ids, skeleton, with_ids}
 use Rattle.dap_tree.specs.declared.sort.Sort.{Sort}
@@ -11,7 +13,8 @@ use Rattle.dap_rename.specs.Renamings.{IsRenaming, AreRelated, pairs}
 
 -- ---- classes
 
--- A class of ids (own): a sort, and how many times classes began anew before. Ids of different classes have nothing to do with each other.
+-- A class of ids (own): a sort, and how many times classes began anew before. Ids of different
+-- classes have nothing to do with each other.
 abbrev pub Class : Type 0
 Class = Sort × ℕ
 
@@ -24,14 +27,17 @@ sort_number Reference = 3
 abbrev pub same_class : Class → Class → Bool
 same_class c d = eqb (sort_number c.0) (sort_number d.0) && eqb c.1 d.1
 
--- The class of an id of this sort, behind so many stops (own). Frames and references are good until the debuggee goes on (DAP specification, "Lifetime of Objects References"); sequence numbers are of the whole recording.
+-- The class of an id of this sort, behind so many stops (own). Frames and references are good until
+-- the debuggee goes on (DAP specification, "Lifetime of Objects References"); sequence numbers are
+-- of the whole recording.
 abbrev pub class_after : ℕ → Sort → Class
 class_after stops ClientSeq = (ClientSeq, 0)
 class_after stops AdapterSeq = (AdapterSeq, 0)
 class_after stops Frame = (Frame, stops)
 class_after stops Reference = (Reference, stops)
 
--- What says how many stops a message is: behind them the classes of frames and references begin anew. In a whole recording no message is one (own), so that there is one class for each sort.
+-- What says how many stops a message is: behind them the classes of frames and references begin
+-- anew. In a whole recording no message is one (own), so that there is one class for each sort.
 abbrev pub in_whole : Sent → ℕ
 in_whole m = 0
 
@@ -41,7 +47,8 @@ in_whole m = 0
 abbrev pub occurrence : ℕ → Sort × ℤ → Class × ℤ
 occurrence stops i = (class_after stops i.0, i.1)
 
--- A number of a class that may be an id: a variables reference of 0 is none (DAP specification, Variable.variablesReference).
+-- A number of a class that may be an id: a variables reference of 0 is none (DAP specification,
+-- Variable.variablesReference).
 abbrev pub IsProperId : Class × ℤ → Type 0
 IsProperId o = is_proper_number o.0.0 o.1 ≡ true
 
@@ -49,13 +56,15 @@ IsProperId o = is_proper_number o.0.0 o.1 ≡ true
 abbrev pub AreProper : List Sent → Type 0
 AreProper ms = AllByRecursion (λ m. is_proper m.doc ≡ true) ms
 
--- The message with 0 for the number of each id (own): what two messages share that differ at most in the numbers of their ids.
+-- The message with 0 for the number of each id (own): what two messages share that differ at most
+-- in the numbers of their ids.
 abbrev pub message_skeleton : Sent → Sent
 message_skeleton m = record { side = m.side; doc = skeleton m.doc }
 
 -- The names of the ids of a message behind these occurrences and so many stops.
 abbrev pub names_of : List (Class × ℤ) → ℕ → Sent → List ℤ
-names_of before stops m = map (λ o. o.1) (named same_class before (map (occurrence stops) (ids m.doc)))
+names_of before stops m =
+    map (λ o. o.1) (named same_class before (map (occurrence stops) (ids m.doc)))
 
 module _ (stop : Sent → ℕ) where
   -- How many stops there are behind the messages, if there were so many before them.
@@ -83,9 +92,12 @@ module _ (stop : Sent → ℕ) where
 
   -- ---- renamings
 
-  -- The entries carry the one list to the other (own): the messages are equal but for the numbers of their ids, and at each id an entry of its class takes the number of the one and gives that of the other.
+  -- The entries carry the one list to the other (own): the messages are equal but for the numbers
+  -- of their ids, and at each id an entry of its class takes the number of the one and gives that
+  -- of the other.
   abbrev pub Carries : List (Class × ℤ × ℤ) → List Sent → List Sent → Type 0
-  Carries r ms ns = (map message_skeleton ms ≡ map message_skeleton ns) × AreRelated r (occurrences 0 ms) (occurrences 0 ns)
+  Carries r ms ns = (map message_skeleton ms ≡ map message_skeleton ns)
+      × AreRelated r (occurrences 0 ms) (occurrences 0 ns)
 
   -- Some renaming carries the one list to the other (own).
   unfoldable pub AreSame : List Sent → List Sent → Type 0
@@ -93,7 +105,8 @@ module _ (stop : Sent → ℕ) where
 
   -- ---- the normal form
 
-  -- The names are given by first appearance: each id is known in its class, or one more than the count of those before it (own).
+  -- The names are given by first appearance: each id is known in its class, or one more than the
+  -- count of those before it (own).
   abbrev pub AreFresh : List Sent → Type 0
   AreFresh ms = IsFresh same_class (occurrences 0 ms)
 
@@ -104,13 +117,15 @@ module _ (stop : Sent → ℕ) where
   -- The message m with the names that its ids get behind the messages ms (own).
   pub record IsRenamed (ms : List Sent) (m new : Sent) : Type 0 where
     pub skeleton : message_skeleton new ≡ message_skeleton m
-    pub names : map (occurrence (stops_after 0 ms)) (ids new.doc) ≡ named same_class (occurrences 0 ms) (map (occurrence (stops_after 0 ms)) (ids m.doc))
+    pub names : map (occurrence (stops_after 0 ms)) (ids new.doc)
+        ≡ named same_class (occurrences 0 ms) (map (occurrence (stops_after 0 ms)) (ids m.doc))
 
   -- The messages with the names of their ids, behind these occurrences and so many stops.
   abbrev pub normal_from : List (Class × ℤ) → ℕ → List Sent → List Sent
   normal_from before stops [] = []
   normal_from before stops (m ∷ ms) =
-      record { side = m.side; doc = with_ids m.doc (names_of before stops m) } ∷ normal_from (before ++ map (occurrence stops) (ids m.doc)) (stops + stop m) ms
+      record { side = m.side; doc = with_ids m.doc (names_of before stops m) }
+      ∷ normal_from (before ++ map (occurrence stops) (ids m.doc)) (stops + stop m) ms
 
   -- The messages with the names of their ids (own).
   abbrev pub normal_of : List Sent → List Sent
@@ -122,4 +137,5 @@ whole_classes = (ClientSeq, 0) ∷ (AdapterSeq, 0) ∷ (Frame, 0) ∷ (Reference
 
 -- Sort by sort, the i-th distinct number of the one list with the i-th of the other (own).
 abbrev pub equal_places : List Sent → List Sent → List (Class × ℤ × ℤ)
-equal_places ms ns = pairs same_class whole_classes (occurrences in_whole 0 ms) (occurrences in_whole 0 ns)
+equal_places ms ns =
+    pairs same_class whole_classes (occurrences in_whole 0 ms) (occurrences in_whole 0 ns)

@@ -1,4 +1,5 @@
--- What names are to their callers: the numbers that they have for each sort, and the messages that they stand for.
+-- What names are to their callers: the numbers that they have for each sort, and the messages that
+-- they stand for.
 use Rattle.std.specs.Prelude.{◌≡◌, ℕ, ℤ, List, [], length}
 use Rattle.dap_tree.specs.declared.sort.Sort.{Sort}
 use Rattle.dap_tree.specs.declared.sort.Sort.TheVariants.{ClientSeq, AdapterSeq, Frame, Reference}
@@ -10,7 +11,8 @@ use Rattle.dap_rename.specs.declared.tables.Tables.{Tables}
 
 -- All tables are empty.
 abbrev pub AreEmpty : {T : Type 0} → (T → List ℤ) → Tables T → Type 0
-AreEmpty numbers t = (numbers t.client_seq ≡ []) × (numbers t.adapter_seq ≡ []) × (numbers t.frame ≡ []) × (numbers t.reference ≡ [])
+AreEmpty numbers t = (numbers t.client_seq ≡ []) × (numbers t.adapter_seq ≡ [])
+    × (numbers t.frame ≡ []) × (numbers t.reference ≡ [])
 
 -- The numbers of a sort that have names, the i-th the one with the name i.
 abbrev pub numbers_in : {T : Type 0} → (T → List ℤ) → Names T → Sort → List ℤ
@@ -20,9 +22,12 @@ numbers_in numbers names s = numbers (table_of names.tables s)
 abbrev pub limit_in : {T : Type 0} → (T → ℕ) → Names T → Sort → ℕ
 limit_in limit names s = limit (table_of names.tables s)
 
--- The names stand for the messages (own): for each sort they are the distinct numbers of its class, in the order of their first occurrence.
+-- The names stand for the messages (own): for each sort they are the distinct numbers of its class,
+-- in the order of their first occurrence.
 abbrev pub StandFor : {T : Type 0} → (T → List ℤ) → Names T → List Sent → Type 0
-StandFor numbers names ms = (s : Sort) → numbers_in numbers names s ≡ numbers_of_class in_whole (class_after (stops_after in_whole 0 ms) s) ms
+StandFor numbers names ms = (s : Sort)
+    → numbers_in numbers names s
+    ≡ numbers_of_class in_whole (class_after (stops_after in_whole 0 ms) s) ms
 
 -- The names are as before.
 abbrev pub AreUnchanged : {T : Type 0} → (T → List ℤ) → Names T → Names T → Type 0
@@ -31,5 +36,7 @@ AreUnchanged numbers old new = (s : Sort) → numbers_in numbers new s ≡ numbe
 -- For each sort there are as many numbers with names in the one as in the other.
 abbrev pub HaveEqualCounts : {T : Type 0} → (T → List ℤ) → Names T → Names T → Type 0
 HaveEqualCounts numbers a b =
-    (length (numbers_in numbers a ClientSeq) ≡ length (numbers_in numbers b ClientSeq)) × (length (numbers_in numbers a AdapterSeq) ≡ length (numbers_in numbers b AdapterSeq))
-    × (length (numbers_in numbers a Frame) ≡ length (numbers_in numbers b Frame)) × (length (numbers_in numbers a Reference) ≡ length (numbers_in numbers b Reference))
+    (length (numbers_in numbers a ClientSeq) ≡ length (numbers_in numbers b ClientSeq))
+    × (length (numbers_in numbers a AdapterSeq) ≡ length (numbers_in numbers b AdapterSeq))
+    × (length (numbers_in numbers a Frame) ≡ length (numbers_in numbers b Frame))
+    × (length (numbers_in numbers a Reference) ≡ length (numbers_in numbers b Reference))

@@ -1,4 +1,5 @@
--- The occurrences of ids and their names, over any type of classes. An occurrence is a class and a number; a list of them is in the order of the text.
+-- The occurrences of ids and their names, over any type of classes. An occurrence is a class and a
+-- number; a list of them is in the order of the text.
 use Rattle.std.specs.Prelude.{◌≡◌, suc, ℤ, pos, Bool, false, cond, List, [], ◌∷◌, ◌++◌, length}
 use Rattle.std.specs.List.{list_any, position_or_len}
 use Rattle.std.specs.Ordering.{int_eq}
@@ -22,13 +23,15 @@ module _ {K : Type 0} (same : K → K → Bool) where
   unfoldable pub table : K → List (K × ℤ) → List ℤ
   table c os = add_all [] (numbers c os)
 
-  -- Each number stood earlier in its class, or is one more than the count of distinct earlier numbers of its class (own).
+  -- Each number stood earlier in its class, or is one more than the count of distinct earlier
+  -- numbers of its class (own).
   unfoldable pub IsFresh : List (K × ℤ) → Type 0
   IsFresh os =
       (before after : List (K × ℤ)) (c : K) (x : ℤ) → os ≡ before ++ (c, x) ∷ after →
       list_any (int_eq x) (numbers c before) ≡ false → x ≡ pos (suc (length (table c before)))
 
-  -- The name of an occurrence after others (own): the place from 1 that its number has among the distinct numbers of its class, or would get.
+  -- The name of an occurrence after others (own): the place from 1 that its number has among the
+  -- distinct numbers of its class, or would get.
   unfoldable pub name : List (K × ℤ) → K × ℤ → ℤ
   name before o = pos (suc (position_or_len (int_eq o.1) (table o.0 before)))
 

@@ -1,5 +1,6 @@
 -- Pairs of numbers as the entries of a renaming, and why pairs are none.
-use Rattle.std.specs.Prelude.{◌≡◌, suc, ℤ, Bool, true, false, ◌&&◌, eqb, List, [], ◌∷◌, ◌++◌, length, map}
+use Rattle.std.specs.Prelude.{◌≡◌, suc, ℤ, Bool, true, false, ◌&&◌, eqb, List, [], ◌∷◌, ◌++◌}
+use Rattle.std.specs.Prelude.{length, map}
 use Rattle.std.specs.List.{list_any}
 use Rattle.std.specs.Ordering.{int_eq}
 use Rattle.dap_tree.specs.declared.sort.Sort.{Sort}
@@ -9,7 +10,8 @@ use Rattle.dap_rename.specs.Messages.{Class, IsProperId, sort_number}
 use Rattle.dap_rename.specs.Renamings.{IsRenaming, pairs_of_class}
 use Rattle.dap_rename.specs.declared.pair.Pair.{Pair}
 use Rattle.dap_rename.specs.declared.pair.PairFault.{PairFault}
-use Rattle.dap_rename.specs.declared.pair.PairFault.TheVariants.{ZeroReference, FromTwice, ToTwice, Memory}
+use Rattle.dap_rename.specs.declared.pair.PairFault.TheVariants.{ZeroReference, FromTwice, ToTwice}
+use Rattle.dap_rename.specs.declared.pair.PairFault.TheVariants.{Memory}
 
 -- The entry that a pair is, in the whole of a recording.
 abbrev pub entry : Pair → Class × ℤ × ℤ
@@ -34,16 +36,20 @@ is_given before p = list_any (λ q. same_sort q.sort p.sort && int_eq q.to p.to)
 
 -- The pair may stand behind these.
 abbrev pub MayFollow : List Pair → Pair → Type 0
-MayFollow before p = (is_proper_pair p ≡ true) × (is_taken before p ≡ false) × (is_given before p ≡ false)
+MayFollow before p = (is_proper_pair p ≡ true) × (is_taken before p ≡ false)
+    × (is_given before p ≡ false)
 
 -- Behind these pairs the pair has that fault (own).
 abbrev pub PairFails : List Pair → Pair → PairFault → Type 0
 PairFails before p (ZeroReference n) = (n ≡ suc (length before)) × (is_proper_pair p ≡ false)
-PairFails before p (FromTwice n) = (n ≡ suc (length before)) × (is_proper_pair p ≡ true) × (is_taken before p ≡ true)
-PairFails before p (ToTwice n) = (n ≡ suc (length before)) × (is_proper_pair p ≡ true) × (is_taken before p ≡ false) × (is_given before p ≡ true)
+PairFails before p (FromTwice n) = (n ≡ suc (length before)) × (is_proper_pair p ≡ true)
+    × (is_taken before p ≡ true)
+PairFails before p (ToTwice n) = (n ≡ suc (length before)) × (is_proper_pair p ≡ true)
+    × (is_taken before p ≡ false) × (is_given before p ≡ true)
 PairFails before p Memory = ⊥
 
--- The fault is that of the first pair that may not stand behind those before it: they are a renaming (own).
+-- The fault is that of the first pair that may not stand behind those before it: they are a
+-- renaming (own).
 pub record FailsFirst (ps : List Pair) (f : PairFault) : Type 0 where
   pub before : List Pair
   pub pair : Pair
@@ -52,15 +58,19 @@ pub record FailsFirst (ps : List Pair) (f : PairFault) : Type 0 where
   pub renaming : IsRenaming IsProperId (entries before)
   pub fails : PairFails before pair f
 
--- Why pairs are refused. Memory is answered of a renaming alone, since the pairs are judged before any growth.
+-- Why pairs are refused. Memory is answered of a renaming alone, since the pairs are judged before
+-- any growth.
 abbrev pub RefusesPairs : List Pair → PairFault → Type 0
 RefusesPairs ps (ZeroReference n) = FailsFirst ps (ZeroReference n)
 RefusesPairs ps (FromTwice n) = FailsFirst ps (FromTwice n)
 RefusesPairs ps (ToTwice n) = FailsFirst ps (ToTwice n)
 RefusesPairs ps Memory = IsRenaming IsProperId (entries ps)
 
--- The entries of the i-th number of the one with the i-th of the other, in the order of the sorts (own).
+-- The entries of the i-th number of the one with the i-th of the other, in the order of the sorts
+-- (own).
 abbrev pub equal_names : (Sort → List ℤ) → (Sort → List ℤ) → List (Class × ℤ × ℤ)
 equal_names f g =
     pairs_of_class (ClientSeq, 0) (f ClientSeq) (g ClientSeq)
-    ++ (pairs_of_class (AdapterSeq, 0) (f AdapterSeq) (g AdapterSeq) ++ (pairs_of_class (Frame, 0) (f Frame) (g Frame) ++ (pairs_of_class (Reference, 0) (f Reference) (g Reference) ++ [])))
+    ++ (pairs_of_class (AdapterSeq, 0) (f AdapterSeq) (g AdapterSeq)
+    ++ (pairs_of_class (Frame, 0) (f Frame) (g Frame)
+    ++ (pairs_of_class (Reference, 0) (f Reference) (g Reference) ++ [])))

@@ -1,4 +1,5 @@
--- What a table of names is to its callers: a list of distinct numbers, where a number's name is its place from 1.
+-- What a table of names is to its callers: a list of distinct numbers, where a number's name is its
+-- place from 1.
 use Rattle.std.specs.Prelude.{◌≡◌, ℕ, suc, ◌<◌, ℤ, pos, Bool, List, length, slice_index_or}
 use Rattle.std.specs.List.{list_any, position_or_len}
 use Rattle.std.specs.Ordering.{int_eq}
@@ -13,4 +14,5 @@ place t x = pos (suc (position_or_len (int_eq x) t))
 
 -- No two elements are equal.
 abbrev pub AllDiffer : List ℤ → Type 0
-AllDiffer t = (i j : ℕ) → i < j → j < length t → slice_index_or t i (pos 0) ≡ slice_index_or t j (pos 0) → ⊥
+AllDiffer t = (i j : ℕ) → i < j → j < length t
+    → slice_index_or t i (pos 0) ≡ slice_index_or t j (pos 0) → ⊥

@@ -1,4 +1,5 @@
--- The tables of the four sorts, and for private clauses what they hold as four lists, and the names that those give.
+-- The tables of the four sorts, and for private clauses what they hold as four lists, and the names
+-- that those give.
 use Rattle.std.specs.Prelude.{◌≡◌, ◌≤◌, ◌<◌, ℕ, ℤ, List, [], ◌∷◌, length, take}
 use Rattle.dap_tree.specs.declared.sort.Sort.{Sort}
 use Rattle.dap_tree.specs.declared.sort.Sort.TheVariants.{ClientSeq, AdapterSeq, Frame, Reference}
@@ -28,7 +29,13 @@ list_of l Reference = l.reference
 
 -- What the four tables hold.
 abbrev pub lists : {T : Type 0} → (T → List ℤ) → Tables T → Lists
-lists numbers t = record { client_seq = numbers t.client_seq; adapter_seq = numbers t.adapter_seq; frame = numbers t.frame; reference = numbers t.reference }
+lists numbers t =
+    record {
+      client_seq = numbers t.client_seq;
+      adapter_seq = numbers t.adapter_seq;
+      frame = numbers t.frame;
+      reference = numbers t.reference;
+    }
 
 -- The lists after an id was named.
 abbrev pub added : Lists → Sort → ℤ → Lists
@@ -53,7 +60,8 @@ Begins old new = (length old ≤ length new) × (take (length old) new ≡ old)
 
 -- Each new list begins with its old one.
 unfoldable pub AllBegin : Lists → Lists → Type 0
-AllBegin old new = Begins old.client_seq new.client_seq × Begins old.adapter_seq new.adapter_seq × Begins old.frame new.frame × Begins old.reference new.reference
+AllBegin old new = Begins old.client_seq new.client_seq × Begins old.adapter_seq new.adapter_seq
+    × Begins old.frame new.frame × Begins old.reference new.reference
 
 -- The limits of the four tables.
 pub record Limits : Type 0 where
@@ -69,7 +77,13 @@ limit_of m Frame = m.frame
 limit_of m Reference = m.reference
 
 abbrev pub limits : {T : Type 0} → (T → ℕ) → Tables T → Limits
-limits limit t = record { client_seq = limit t.client_seq; adapter_seq = limit t.adapter_seq; frame = limit t.frame; reference = limit t.reference }
+limits limit t =
+    record {
+      client_seq = limit t.client_seq;
+      adapter_seq = limit t.adapter_seq;
+      frame = limit t.frame;
+      reference = limit t.reference;
+    }
 
 -- No list is longer than its limit.
 unfoldable pub AllFit : Limits → Lists → Type 0

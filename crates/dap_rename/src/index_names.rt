@@ -1,5 +1,17 @@
 //! A table of names with an index by hash.
-ghost use Rattle.std.specs.Prelude.{◌≡◌, suc, ◌<◌, ◌≤◌, ◌^◌, pos, true, false, [], length, MatchOption};
+ghost use Rattle.std.specs.Prelude.{
+  ◌≡◌,
+  suc,
+  ◌<◌,
+  ◌≤◌,
+  ◌^◌,
+  pos,
+  true,
+  false,
+  [],
+  length,
+  MatchOption,
+};
 ghost use Rattle.dap_rename.specs.Table.{has, place, AllDiffer};
 
 use crate::name_table::{NameFault, NameTable};
@@ -9,9 +21,10 @@ use std::hash::BuildHasher;
 
 /// A table that looks for a number by its hash.
 ///
-/// A look-up takes one hash, and a new number one more. Where many numbers have one hash, a look-up goes over all of them, and
-/// with a fixed hasher an adapter could choose such numbers: a program hands in a random one, as `RandomState`. The hasher
-/// has to give equal numbers equal hashes, as the contract of `BuildHasher` says.
+/// A look-up takes one hash, and a new number one more. Where many numbers have one hash, a look-up
+/// goes over all of them, and with a fixed hasher an adapter could choose such numbers: a program
+/// hands in a random one, as `RandomState`. The hasher has to give equal numbers equal hashes, as
+/// the contract of `BuildHasher` says.
 #[derive(Drop)]
 pub struct IndexNames<S: BuildHasher> {
     items: IndexSet<i64, S>,

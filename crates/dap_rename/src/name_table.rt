@@ -1,5 +1,27 @@
 //! What a table of names is.
-ghost use Rattle.std.specs.Prelude.{◌≡◌, ℕ, suc, ◌<◌, ◌≤◌, ◌^◌, ℤ, pos, ◌≤ℤ◌, ◌↔◌, true, false, List, length, take, slice_index_or, MatchOption, IfOk, OnErr, OnOk, IsOk};
+ghost use Rattle.std.specs.Prelude.{
+  ◌≡◌,
+  ℕ,
+  suc,
+  ◌<◌,
+  ◌≤◌,
+  ◌^◌,
+  ℤ,
+  pos,
+  ◌≤ℤ◌,
+  ◌↔◌,
+  true,
+  false,
+  List,
+  length,
+  take,
+  slice_index_or,
+  MatchOption,
+  IfOk,
+  OnErr,
+  OnOk,
+  IsOk,
+};
 ghost use Rattle.dap_rename.specs.Numbering.{add};
 ghost use Rattle.dap_rename.specs.Table.{has, place, AllDiffer};
 
@@ -37,8 +59,8 @@ pub trait NameTable {
 
     /// The name of `number`: a new number goes last.
     ///
-    /// `Full` is answered only where a new number meets a list at the limit, and before any growth. On every fault the
-    /// table is as before.
+    /// `Full` is answered only where a new number meets a list at the limit, and before any growth.
+    /// On every fault the table is as before.
     fn name(&mut self, number: i64) -> Result<i64, NameFault>
         ensures named { IfOk result (λ n. n ≡ place (numbers self.old) number) }
         ensures grown { OnOk result (numbers self.new ≡ add (numbers self.old) number) }
@@ -47,7 +69,8 @@ pub trait NameTable {
         // A number that has a name is told it without any growth.
         ensures known { has (numbers self.old) number ≡ true → IsOk result }
         ensures full { result ≡ Err NameFault.Full
-            ↔ ((has (numbers self.old) number ≡ false) × (limit self.old ≤ length (numbers self.old))) }
+            ↔ ((has (numbers self.old) number ≡ false)
+            × (limit self.old ≤ length (numbers self.old))) }
         ensures same_limit { limit self.new ≡ limit self.old };
 
     /// The name of `number`, if it has one. Takes no memory.

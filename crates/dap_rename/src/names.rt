@@ -17,7 +17,13 @@ pub struct Names<T> {
 }
 
 impl<T: NameTable> Names<T> {
-    ghost use Rattle.dap_rename.specs.Names.{AreEmpty, StandFor, AreUnchanged, numbers_in, limit_in};
+    ghost use Rattle.dap_rename.specs.Names.{
+      AreEmpty,
+      StandFor,
+      AreUnchanged,
+      numbers_in,
+      limit_in,
+    };
     ghost use Rattle.dap_rename.specs.Tables.{table_of};
 
     /// Names of no message yet. Takes no memory.
@@ -29,10 +35,11 @@ impl<T: NameTable> Names<T> {
         Names { tables, alloc }
     }
 
-    /// The message with the names of its ids in their place, where its new ids are given the next names.
+    /// The message with the names of its ids in their place, where its new ids are given the next
+    /// names.
     ///
-    /// `Full` is answered only where some sort would have more names than its table's limit. On every fault the names are as
-    /// before, and the message is dropped.
+    /// `Full` is answered only where some sort would have more names than its table's limit. On
+    /// every fault the names are as before, and the message is dropped.
     pub fn rename(&mut self, message: Message) -> Result<Message, NameFault>
         ensures renamed { IfOk result (λ new. (ms : List Sent) → StandFor T.numbers self.old ms
             → IsRenamed in_whole ms (sent message) (sent new)) }

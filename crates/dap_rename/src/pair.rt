@@ -10,7 +10,8 @@ pub struct Pair {
     pub to: i64,
 }
 
-/// Why pairs are no renaming: the place, from 1, of the first pair that may not stand behind those before it.
+/// Why pairs are no renaming: the place, from 1, of the first pair that may not stand behind those
+/// before it.
 ///
 /// Of several reasons at that place the first is told, in the order of the variants.
 #[derive(Clone, Copy, Debug, PartialEq, Eq, Drop, Error)]

@@ -1,5 +1,17 @@
 //! A table of names as a list.
-ghost use Rattle.std.specs.Prelude.{◌≡◌, suc, ◌<◌, ◌≤◌, ◌^◌, pos, true, false, [], length, MatchOption};
+ghost use Rattle.std.specs.Prelude.{
+  ◌≡◌,
+  suc,
+  ◌<◌,
+  ◌≤◌,
+  ◌^◌,
+  pos,
+  true,
+  false,
+  [],
+  length,
+  MatchOption,
+};
 ghost use Rattle.std.specs.List.{position};
 ghost use Rattle.std.specs.Ordering.{int_eq};
 ghost use Rattle.dap_rename.specs.Table.{has, place, AllDiffer};

@@ -1,9 +1,31 @@
 //! Renamings: made of pairs or between two tables, and asked whether they carry messages.
-ghost use Rattle.std.specs.Prelude.{◌≡◌, ◌++◌, ◌↔◌, List, length, map, IsTrue, MatchOption, IfOk, IfErr, OnOk};
+ghost use Rattle.std.specs.Prelude.{
+  ◌≡◌,
+  ◌++◌,
+  ◌↔◌,
+  List,
+  length,
+  map,
+  IsTrue,
+  MatchOption,
+  IfOk,
+  IfErr,
+  OnOk,
+};
 ghost use Rattle.dap_message.specs.Message.{Sent, sent};
 ghost use Rattle.dap_rename.specs.Messages.{IsProperId, Carries, equal_places, in_whole};
 ghost use Rattle.dap_rename.specs.Names.{StandFor, HaveEqualCounts, numbers_in};
-ghost use Rattle.dap_rename.specs.Pairs.{entries, is_proper_pair, is_taken, is_given, MayFollow, PairFails, FailsFirst, RefusesPairs, equal_names};
+ghost use Rattle.dap_rename.specs.Pairs.{
+  entries,
+  is_proper_pair,
+  is_taken,
+  is_given,
+  MayFollow,
+  PairFails,
+  FailsFirst,
+  RefusesPairs,
+  equal_names,
+};
 ghost use Rattle.dap_rename.specs.Renamings.{IsRenaming, pairs_of_class};
 
 use crate::carries::carries_list;
@@ -23,8 +45,8 @@ pub struct Renaming {
 impl Renaming {
     ghost use Rattle.dap_rename.specs.Renaming.{pairs_of};
 
-    /// The renaming of these pairs. It is refused if they are none: if some sort has one number twice on either side, or a
-    /// variables reference is 0.
+    /// The renaming of these pairs. It is refused if they are none: if some sort has one number
+    /// twice on either side, or a variables reference is 0.
     pub fn new(alloc: Global, pairs: &[Pair]) -> Result<Renaming, PairFault>
         ensures pairs { IfOk result (λ r. pairs_of r ≡ pairs.now) }
         ensures renaming { OnOk result (IsRenaming IsProperId (entries pairs.now)) }
@@ -81,8 +103,9 @@ impl Renaming {
         Ok(Renaming { pairs })
     }
 
-    /// Whether the pairs carry the one list to the other: the messages are equal but for the numbers of their ids, and for
-    /// each id there is a pair of its sort with its number in the one and in the other. Takes no memory.
+    /// Whether the pairs carry the one list to the other: the messages are equal but for the
+    /// numbers of their ids, and for each id there is a pair of its sort with its number in the one
+    /// and in the other. Takes no memory.
     pub fn carries(&self, from: &[Message], to: &[Message]) -> bool
         ensures { IsTrue result
             ↔ Carries in_whole (entries (pairs_of self.now)) (map sent from.now) (map sent to.now) }

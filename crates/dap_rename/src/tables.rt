@@ -1,7 +1,18 @@
 //! A table of names for each sort of ids.
 ghost use Rattle.std.specs.Prelude.{◌≡◌, ◌≤◌, false, Err, IfOk, OnOk, OnErr, length, take};
 ghost use Rattle.dap_rename.specs.Table.{has, place};
-ghost use Rattle.dap_rename.specs.Tables.{lists, list_of, added, added_all, names_from, AllBegin, limits, limit_of, AllFit, SomeIsOver};
+ghost use Rattle.dap_rename.specs.Tables.{
+  lists,
+  list_of,
+  added,
+  added_all,
+  names_from,
+  AllBegin,
+  limits,
+  limit_of,
+  AllFit,
+  SomeIsOver,
+};
 
 use crate::name_table::{NameFault, NameTable};
 use dap_tree::Sort;
@@ -18,7 +29,7 @@ pub struct Tables<T> {
 
 // How many names each table has.
 #[derive(Clone, Copy, Drop)]
-struct Marks {
+struct Lengths {
     client_seq: usize,
     adapter_seq: usize,
     frame: usize,
@@ -42,11 +53,11 @@ impl<T: NameTable> Tables<T> {
             → SomeIsOver (limits T.limit self.old) (added_all (lists T.numbers self.old) ids.now) }
         ensures same_limits { limits T.limit self.new ≡ limits T.limit self.old }
     {
-        let marks = self.marks();
+        let lengths = self.lengths();
         match self.name_all(alloc, ids) {
             Ok(names) => Ok(names),
             Err(fault) => {
-                self.cut(marks);
+                self.cut(lengths);
                 Err(fault)
             }
         }
@@ -72,7 +83,8 @@ impl<T: NameTable> Tables<T> {
     }
 
     fn name(&mut self, id: (Sort, i64)) -> Result<i64, NameFault>
-        ensures named { IfOk result (λ n. n ≡ place (list_of (lists T.numbers self.old) id.0) id.1) }
+        ensures named { IfOk result (λ n. n
+            ≡ place (list_of (lists T.numbers self.old) id.0) id.1) }
         ensures grown { OnOk result
             (lists T.numbers self.new ≡ added (lists T.numbers self.old) id.0 id.1) }
         ensures refused { OnErr result (lists T.numbers self.new ≡ lists T.numbers self.old) }
@@ -90,13 +102,13 @@ impl<T: NameTable> Tables<T> {
         }
     }
 
-    fn marks(&self) -> Marks
+    fn lengths(&self) -> Lengths
         ensures client_seq { result.client_seq ≡ length (T.numbers self.now.client_seq) }
         ensures adapter_seq { result.adapter_seq ≡ length (T.numbers self.now.adapter_seq) }
         ensures frame { result.frame ≡ length (T.numbers self.now.frame) }
         ensures reference { result.reference ≡ length (T.numbers self.now.reference) }
     {
-        Marks {
+        Lengths {
             client_seq: self.client_seq.len(),
             adapter_seq: self.adapter_seq.len(),
             frame: self.frame.len(),
@@ -104,23 +116,23 @@ impl<T: NameTable> Tables<T> {
         }
     }
 
-    fn cut(&mut self, marks: Marks)
-        requires client_seq { marks.client_seq ≤ length (T.numbers self.old.client_seq) }
-        requires adapter_seq { marks.adapter_seq ≤ length (T.numbers self.old.adapter_seq) }
-        requires frame { marks.frame ≤ length (T.numbers self.old.frame) }
-        requires reference { marks.reference ≤ length (T.numbers self.old.reference) }
+    fn cut(&mut self, lengths: Lengths)
+        requires client_seq { lengths.client_seq ≤ length (T.numbers self.old.client_seq) }
+        requires adapter_seq { lengths.adapter_seq ≤ length (T.numbers self.old.adapter_seq) }
+        requires frame { lengths.frame ≤ length (T.numbers self.old.frame) }
+        requires reference { lengths.reference ≤ length (T.numbers self.old.reference) }
         ensures client_seq { T.numbers self.new.client_seq
-            ≡ take marks.client_seq (T.numbers self.old.client_seq) }
+            ≡ take lengths.client_seq (T.numbers self.old.client_seq) }
         ensures adapter_seq { T.numbers self.new.adapter_seq
-            ≡ take marks.adapter_seq (T.numbers self.old.adapter_seq) }
-        ensures frame { T.numbers self.new.frame ≡ take marks.frame (T.numbers self.old.frame) }
+            ≡ take lengths.adapter_seq (T.numbers self.old.adapter_seq) }
+        ensures frame { T.numbers self.new.frame ≡ take lengths.frame (T.numbers self.old.frame) }
         ensures reference { T.numbers self.new.reference
-            ≡ take marks.reference (T.numbers self.old.reference) }
+            ≡ take lengths.reference (T.numbers self.old.reference) }
         ensures same_limits { limits T.limit self.new ≡ limits T.limit self.old }
     {
-        self.client_seq.cut(marks.client_seq);
-        self.adapter_seq.cut(marks.adapter_seq);
-        self.frame.cut(marks.frame);
-        self.reference.cut(marks.reference);
+        self.client_seq.cut(lengths.client_seq);
+        self.adapter_seq.cut(lengths.adapter_seq);
+        self.frame.cut(lengths.frame);
+        self.reference.cut(lengths.reference);
     }
 }

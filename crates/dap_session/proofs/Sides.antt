@@ -6,7 +6,8 @@ use Rattle.dap_tree.specs.declared.side.Side.TheVariants.{Client, Adapter}
 use Rattle.dap_message.specs.declared.profile.Kind.{Kind}
 use Rattle.dap_message.specs.declared.profile.Kind.TheVariants.{Request, Response, Event}
 use Rattle.dap_message.specs.Message.{Sent}
-use Rattle.dap_session.specs.Messages.{side_of, kind_of, other, same_side, same_kind, is_request, is_response, is_event, is_from}
+use Rattle.dap_session.specs.Messages.{side_of, kind_of, other, same_side, same_kind, is_request}
+use Rattle.dap_session.specs.Messages.{is_response, is_event, is_from}
 
 pub same_side-Decides : (s r : Side) → Decides (same_side s r) (s ≡ r)
 same_side-Decides Client Client = (λ h. refl, λ h. refl)
@@ -43,7 +44,8 @@ no_request_kind Event h = refl
 pub no_request : (m : Sent) → is_response m ≡ true → is_request m ≡ false
 no_request m h = no_request_kind (kind_of m) h
 
-event_kind : (k : Kind) → same_kind Event k ≡ true → (same_kind Request k ≡ false) × (same_kind Response k ≡ false)
+event_kind : (k : Kind) → same_kind Event k ≡ true
+    → (same_kind Request k ≡ false) × (same_kind Response k ≡ false)
 event_kind Request h = absurd (cc)
 event_kind Response h = absurd (cc)
 event_kind Event h = (refl, refl)

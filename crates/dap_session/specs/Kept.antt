@@ -1,5 +1,7 @@
--- What a session keeps, and what it keeps after one more message. Callers see a `Session` as a `Kept`.
-use Rattle.std.specs.Prelude.{ℕ, ℤ, Bool, true, false, cond, not, ◌&&◌, ◌||◌, List, Option, Some, None}
+-- What a session keeps, and what it keeps after one more message. Callers see a `Session` as a
+-- `Kept`.
+use Rattle.std.specs.Prelude.{ℕ, ℤ, Bool, true, false, cond, not, ◌&&◌, ◌||◌, List, Option, Some}
+use Rattle.std.specs.Prelude.{None}
 use Rattle.std.specs.List.{count_by}
 use Rattle.std.specs.Map.{lookup, set_value}
 use Rattle.std.specs.BTreeMap.{is_at, insert_entry}
@@ -9,7 +11,9 @@ use Rattle.dap_tree.specs.declared.side.Side.TheVariants.{Client, Adapter}
 use Rattle.dap_message.specs.Message.{Sent}
 use Rattle.dap_session.specs.declared.phase.Phase.{Phase}
 use Rattle.dap_session.specs.declared.phase.Phase.TheVariants.{Waiting, Asked, Answered}
-use Rattle.dap_session.specs.Messages.{name_of, seq_of, request_seq_of, other, is_request, is_response, is_from, is_response_to, is_client_initialize, is_configuration_done, is_initialized, is_farewell}
+use Rattle.dap_session.specs.Messages.{name_of, seq_of, request_seq_of, other, is_request}
+use Rattle.dap_session.specs.Messages.{is_response, is_from, is_response_to, is_client_initialize}
+use Rattle.dap_session.specs.Messages.{is_configuration_done, is_initialized, is_farewell}
 
 -- The command of a request, and whether it is answered.
 abbrev pub Noted : Type 0
@@ -20,8 +24,8 @@ abbrev pub Requests : Type 0
 Requests = List (ℤ × Noted)
 
 -- The request with this number.
-abbrev pub found : ℤ → Requests → Option Noted
-found n es = lookup (is_at (int_cmp n)) es
+abbrev pub request_numbered : ℤ → Requests → Option Noted
+request_numbered n es = lookup (is_at (int_cmp n)) es
 
 -- How many requests have no response.
 abbrev pub unanswered : Requests → ℕ
@@ -35,7 +39,8 @@ with_request n command es = insert_entry int_cmp es n (command, false)
 abbrev pub with_answer : ℤ → List ℕ → Requests → Requests
 with_answer n command es = set_value (is_at (int_cmp n)) es (command, true)
 
--- The requests of both sides, how far `initialize` has come, and whether an `initialized` event, a `configurationDone` request and a successful `disconnect` response have come.
+-- The requests of both sides, how far `initialize` has come, and whether an `initialized` event, a
+-- `configurationDone` request and a successful `disconnect` response have come.
 pub record Kept : Type 0 where
   pub client : Requests
   pub adapter : Requests
@@ -59,7 +64,8 @@ abbrev pub requests_after : Side → Requests → Sent → Requests
 requests_after side es m =
     cond (is_request m && is_from side m)
     (with_request (seq_of m) (name_of m) es)
-    (cond (is_response m && is_from (other side) m) (answered_in (request_seq_of m) (name_of m) es) es)
+    (cond (is_response m && is_from (other side) m) (answered_in (request_seq_of m) (name_of m) es)
+    es)
 
 -- The message is the response that the `initialize` request waits for.
 abbrev pub answers_asked : Phase → Sent → Bool
@@ -69,7 +75,8 @@ answers_asked Answered m = false
 
 -- How far `initialize` has come after one more message.
 abbrev pub phase_after : Phase → Sent → Phase
-phase_after phase m = cond (is_client_initialize m) (Asked (seq_of m)) (cond (answers_asked phase m) Answered phase)
+phase_after phase m =
+    cond (is_client_initialize m) (Asked (seq_of m)) (cond (answers_asked phase m) Answered phase)
 
 -- What is kept after one more message.
 abbrev pub kept_after : Kept → Sent → Kept

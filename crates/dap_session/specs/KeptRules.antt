@@ -1,15 +1,22 @@
 -- For private clauses: the rules as a session tells them, by what it keeps.
-use Rattle.std.specs.Prelude.{ℕ, ℤ, Bool, true, false, cond, not, ◌&&◌, List, Option, Some, None, is_some}
+use Rattle.std.specs.Prelude.{ℕ, ℤ, Bool, true, false, cond, not, ◌&&◌, List, Option, Some, None}
+use Rattle.std.specs.Prelude.{is_some}
 use Rattle.std.specs.Str.{bytes_eq}
 use Rattle.dap_tree.specs.declared.side.Side.TheVariants.{Client, Adapter}
 use Rattle.dap_message.specs.Message.{Sent}
 use Rattle.dap_session.specs.declared.rule.Rule.{Rule}
-use Rattle.dap_session.specs.declared.rule.Rule.TheVariants.{EventFromClient, NotInitialized, StillInitializing, InitializeTwice, AfterDisconnect, SeqUsed, ConfiguredEarly, ConfiguredTwice, NoRequest, AnsweredTwice, OtherCommand}
+use Rattle.dap_session.specs.declared.rule.Rule.TheVariants.{EventFromClient, NotInitialized}
+use Rattle.dap_session.specs.declared.rule.Rule.TheVariants.{StillInitializing, InitializeTwice}
+use Rattle.dap_session.specs.declared.rule.Rule.TheVariants.{AfterDisconnect, SeqUsed}
+use Rattle.dap_session.specs.declared.rule.Rule.TheVariants.{ConfiguredEarly, ConfiguredTwice}
+use Rattle.dap_session.specs.declared.rule.Rule.TheVariants.{NoRequest, AnsweredTwice, OtherCommand}
 use Rattle.dap_session.specs.declared.phase.Phase.{Phase}
 use Rattle.dap_session.specs.declared.phase.Phase.TheVariants.{Waiting, Asked, Answered}
-use Rattle.dap_session.specs.Messages.{side_of, name_of, seq_of, request_seq_of, other, is_request, is_response, is_event, is_from, is_initialize, is_client_initialize, is_configuration_done, is_output}
+use Rattle.dap_session.specs.Messages.{side_of, name_of, seq_of, request_seq_of, other, is_request}
+use Rattle.dap_session.specs.Messages.{is_response, is_event, is_from, is_initialize}
+use Rattle.dap_session.specs.Messages.{is_client_initialize, is_configuration_done, is_output}
 use Rattle.dap_session.specs.Rules.{rules, first_of}
-use Rattle.dap_session.specs.Kept.{Kept, Requests, Noted, found, requests_of}
+use Rattle.dap_session.specs.Kept.{Kept, Requests, Noted, request_numbered, requests_of}
 
 -- No `initialize` request of the client has come.
 abbrev pub is_waiting : Phase → Bool
@@ -18,19 +25,19 @@ is_waiting (Asked n) = false
 is_waiting Answered = false
 
 -- One has come, and no response to it.
-abbrev pub is_asked : Phase → Bool
-is_asked Waiting = false
-is_asked (Asked n) = true
-is_asked Answered = false
+abbrev pub is_unanswered : Phase → Bool
+is_unanswered Waiting = false
+is_unanswered (Asked n) = true
+is_unanswered Answered = false
 
 -- The request with the number, where there is a number.
-abbrev pub found_at : Option ℤ → Requests → Option Noted
-found_at None es = None
-found_at (Some n) es = found n es
+abbrev pub request_if_numbered : Option ℤ → Requests → Option Noted
+request_if_numbered None es = None
+request_if_numbered (Some n) es = request_numbered n es
 
 -- The request that a response answers.
 abbrev pub asked_for : Kept → Sent → Option Noted
-asked_for k m = found_at (request_seq_of m) (requests_of (other (side_of m)) k)
+asked_for k m = request_if_numbered (request_seq_of m) (requests_of (other (side_of m)) k)
 
 -- There is a request, and it is answered.
 abbrev pub has_answer : Option Noted → Bool
@@ -46,10 +53,11 @@ has_other_command name (Some a) = not (bytes_eq a.0 name)
 unfoldable pub tells : Rule → Kept → Sent → Bool
 tells EventFromClient k m = is_from Client m && is_event m
 tells NotInitialized k m = not (is_client_initialize m) && is_waiting k.phase
-tells StillInitializing k m = is_asked k.phase && not (is_from Adapter m && is_response m)
+tells StillInitializing k m = is_unanswered k.phase && not (is_from Adapter m && is_response m)
 tells InitializeTwice k m = is_initialize m && not (is_waiting k.phase)
 tells AfterDisconnect k m = is_from Client m && is_request m && k.disconnected
-tells SeqUsed k m = is_request m && is_some (found (seq_of m) (requests_of (side_of m) k))
+tells SeqUsed k m =
+    is_request m && is_some (request_numbered (seq_of m) (requests_of (side_of m) k))
 tells ConfiguredEarly k m = is_configuration_done m && not k.initialized
 tells ConfiguredTwice k m = is_configuration_done m && k.configured
 tells NoRequest k m = is_response m && not (is_some (asked_for k m))
@@ -57,5 +65,5 @@ tells AnsweredTwice k m = is_response m && has_answer (asked_for k m)
 tells OtherCommand k m = is_response m && has_other_command (name_of m) (asked_for k m)
 
 -- The first rule that the message breaks, by what is kept.
-unfoldable pub judged : Kept → Sent → Option Rule
-judged k m = cond (is_output m) None (first_of (λ r. tells r k m) rules)
+unfoldable pub first_told : Kept → Sent → Option Rule
+first_told k m = cond (is_output m) None (first_of (λ r. tells r k m) rules)

@@ -3,11 +3,12 @@ use Rattle.dap_tree.specs.Doc.{Doc}
 use Rattle.dap_tree.specs.Ids.{skeleton}
 use Rattle.dap_tree.specs.declared.side.Side.{Side}
 use Rattle.dap_tree.specs.declared.sort.Sort.{Sort}
-use Rattle.std.specs.Prelude.{◌≡◌, ◌⊎◌, ◌↔◌, ℤ, List, [], ◌∷◌, ◌++◌, length, Some, None, All, Contains, MatchOption}
+use Rattle.std.specs.Prelude.{◌≡◌, ◌⊎◌, ◌↔◌, ℤ, List, [], ◌∷◌, ◌++◌, length, Some, None, All}
+use Rattle.std.specs.Prelude.{Contains, MatchOption}
 use Rattle.std.specs.Bool.{Decides}
 use Rattle.dap_message.specs.Message.{Sent, IsTyped}
 use Rattle.dap_session.specs.Positions.{BreaksAt, BreaksNone, BreaksFirst}
-use Rattle.dap_session.specs.RenamedLists.{IsNumbered, AreRenamed, IsOneToOne}
+use Rattle.dap_session.specs.RenamedLists.{IsNumbered, DifferInIds, IsOneToOne}
 use Rattle.dap_session.specs.Rules.{is_broken, first_broken, KeepsRules, open_requests}
 use Rattle.dap_session.specs.declared.rule.Rule.{Rule}
 
@@ -15,12 +16,14 @@ use Rattle.dap_session.specs.declared.rule.Rule.{Rule}
 
 -- The test of each rule decides the statement over positions.
 abbrev pub RulesByPosition : Type 0
-RulesByPosition = (rule : Rule) (before after : List Sent) (m : Sent) → Decides (is_broken rule before m) (BreaksAt rule (before ++ m ∷ after) (length before) m)
+RulesByPosition = (rule : Rule) (before after : List Sent) (m : Sent)
+    → Decides (is_broken rule before m) (BreaksAt rule (before ++ m ∷ after) (length before) m)
 
 -- What is told of a message is the first rule of the list that it breaks at its position.
 abbrev pub FirstByPosition : Type 0
 FirstByPosition = (before after : List Sent) (m : Sent) →
-    MatchOption (first_broken before m) (BreaksNone (before ++ m ∷ after) (length before) m) (λ rule. BreaksFirst rule (before ++ m ∷ after) (length before) m)
+    MatchOption (first_broken before m) (BreaksNone (before ++ m ∷ after) (length before) m)
+    (λ rule. BreaksFirst rule (before ++ m ∷ after) (length before) m)
 
 -- ---- lists that keep the rules
 
@@ -28,9 +31,11 @@ FirstByPosition = (before after : List Sent) (m : Sent) →
 abbrev pub NoneKeepRules : Type 0
 NoneKeepRules = KeepsRules []
 
--- A list with one more message keeps the rules exactly where the list does and the message breaks none.
+-- A list with one more message keeps the rules exactly where the list does and the message breaks
+-- none.
 abbrev pub KeepsOneMore : Type 0
-KeepsOneMore = (ms : List Sent) (m : Sent) → KeepsRules (ms ++ m ∷ []) ↔ (KeepsRules ms × (first_broken ms m ≡ None))
+KeepsOneMore = (ms : List Sent) (m : Sent) → KeepsRules (ms ++ m ∷ [])
+    ↔ (KeepsRules ms × (first_broken ms m ≡ None))
 
 -- The front of a list that keeps the rules keeps them too.
 abbrev pub FrontKeepsRules : Type 0
@@ -38,17 +43,22 @@ FrontKeepsRules = (ms ns : List Sent) → KeepsRules (ms ++ ns) → KeepsRules m
 
 -- Every list keeps the rules, or has a first message that breaks one.
 abbrev pub KeepsOrBreaks : Type 0
-KeepsOrBreaks = (ms : List Sent) → KeepsRules ms ⊎ ((before after : List Sent) × (m : Sent) × (rule : Rule) × (ms ≡ before ++ m ∷ after) × KeepsRules before × (first_broken before m ≡ Some rule))
+KeepsOrBreaks = (ms : List Sent)
+    → KeepsRules ms
+    ⊎ ((before after : List Sent) × (m : Sent) × (rule : Rule) × (ms ≡ before ++ m ∷ after)
+    × KeepsRules before × (first_broken before m ≡ Some rule))
 
 -- ---- renamed messages
 
 -- A typed message has numbers of its sides' sorts.
 abbrev pub TypedIsNumbered : Type 0
-TypedIsNumbered = (side : Side) (d m : Doc) → IsTyped side d m → IsNumbered (record { side = side; doc = m })
+TypedIsNumbered = (side : Side) (d m : Doc) → IsTyped side d m
+    → IsNumbered (record { side = side; doc = m })
 
 -- A message that differs from such a one in the numbers of its ids alone has them too.
 abbrev pub RenamedIsNumbered : Type 0
-RenamedIsNumbered = (m n : Sent) → m.side ≡ n.side → skeleton m.doc ≡ skeleton n.doc → IsNumbered m → IsNumbered n
+RenamedIsNumbered = (m n : Sent) → m.side ≡ n.side → skeleton m.doc ≡ skeleton n.doc → IsNumbered m
+    → IsNumbered n
 
 -- The pairs of a renaming: the number y stands where x of the sort s stood.
 abbrev pub Renaming : Type 0
@@ -59,12 +69,18 @@ Renames pairs s x y = Contains pairs (s, x, y)
 
 -- A one-to-one renaming breaks the rules that were broken, and no others.
 abbrev pub RenamingKeepsRules : Type 0
-RenamingKeepsRules = (pairs : Renaming) (ms ns : List Sent) (m n : Sent) → IsOneToOne (Renames pairs) → All IsNumbered (ms ++ m ∷ []) → AreRenamed (Renames pairs) (ms ++ m ∷ []) (ns ++ n ∷ []) → first_broken ms m ≡ first_broken ns n
+RenamingKeepsRules = (pairs : Renaming) (ms ns : List Sent) (m n : Sent)
+    → IsOneToOne (Renames pairs) → All IsNumbered (ms ++ m ∷ [])
+    → DifferInIds (Renames pairs) (ms ++ m ∷ []) (ns ++ n ∷ [])
+    → first_broken ms m ≡ first_broken ns n
 
 -- It leaves as many requests open.
 abbrev pub RenamingKeepsOpen : Type 0
-RenamingKeepsOpen = (pairs : Renaming) (side : Side) (ms ns : List Sent) → IsOneToOne (Renames pairs) → All IsNumbered ms → AreRenamed (Renames pairs) ms ns → open_requests side ms ≡ open_requests side ns
+RenamingKeepsOpen = (pairs : Renaming) (side : Side) (ms ns : List Sent)
+    → IsOneToOne (Renames pairs) → All IsNumbered ms → DifferInIds (Renames pairs) ms ns
+    → open_requests side ms ≡ open_requests side ns
 
 -- And the renamed list keeps the rules where the list does.
 abbrev pub RenamingKeepsKept : Type 0
-RenamingKeepsKept = (pairs : Renaming) (ms ns : List Sent) → IsOneToOne (Renames pairs) → All IsNumbered ms → AreRenamed (Renames pairs) ms ns → KeepsRules ms ↔ KeepsRules ns
+RenamingKeepsKept = (pairs : Renaming) (ms ns : List Sent) → IsOneToOne (Renames pairs)
+    → All IsNumbered ms → DifferInIds (Renames pairs) ms ns → KeepsRules ms ↔ KeepsRules ns

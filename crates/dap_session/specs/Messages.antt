@@ -1,7 +1,8 @@
 -- What the rules ask of one message: six words on it, and the tests that are made of them.
 use Rattle.dap_tree.specs.declared.side.Side.{Side}
 use Rattle.dap_tree.specs.declared.side.Side.TheVariants.{Client, Adapter}
-use Rattle.std.specs.Prelude.{ℕ, ℤ, pos, Bool, true, false, ◌&&◌, List, [], Option, Some, None, codes, unwrap_or}
+use Rattle.std.specs.Prelude.{ℕ, ℤ, pos, Bool, true, false, ◌&&◌, List, [], Option, Some, None}
+use Rattle.std.specs.Prelude.{codes, unwrap_or}
 use Rattle.std.specs.Str.{bytes_eq}
 use Rattle.std.specs.Ordering.{int_eq}
 use Rattle.dap_message.specs.Envelope as envelope
@@ -19,15 +20,18 @@ side_of m = m.side
 unfoldable pub kind_of : Sent → Kind
 kind_of m = envelope.kind_of m.doc
 
--- The command of a request or response, the name of an event. Every `Message` has one; what has none is read as if its name were empty.
+-- The command of a request or response, the name of an event. Every `Message` has one; what has
+-- none is read as if its name were empty.
 unfoldable pub name_of : Sent → List ℕ
 name_of m = unwrap_or (envelope.name_of m.doc) []
 
--- The sequence number (DAP specification, ProtocolMessage.seq). Every `Message` has one; what has none is read as if it were 0.
+-- The sequence number (DAP specification, ProtocolMessage.seq). Every `Message` has one; what has
+-- none is read as if it were 0.
 unfoldable pub seq_of : Sent → ℤ
 seq_of m = unwrap_or (envelope.seq_of m.doc) (pos 0)
 
--- The number of the request that a response answers (DAP specification, Response.request_seq): None but for a response.
+-- The number of the request that a response answers (DAP specification, Response.request_seq): None
+-- but for a response.
 unfoldable pub request_seq_of : Sent → Option ℤ
 request_seq_of m = envelope.request_seq_of m.doc
 
@@ -93,7 +97,8 @@ is_named name m = bytes_eq (name_of m) name
 abbrev pub is_request_of : Side → ℤ → Sent → Bool
 is_request_of side n m = is_request m && is_from side m && int_eq n (seq_of m)
 
--- It is a response to the request of this side with this number (DAP specification, Response.request_seq).
+-- It is a response to the request of this side with this number (DAP specification,
+-- Response.request_seq).
 abbrev pub is_response_to : Side → ℤ → Sent → Bool
 is_response_to side n m = is_response m && is_from (other side) m && is_number (request_seq_of m) n
 
@@ -115,7 +120,8 @@ is_initialized m = is_event m && is_named (codes "initialized") m
 
 -- It is a successful `disconnect` response of the adapter (DAP specification, DisconnectResponse).
 abbrev pub is_farewell : Sent → Bool
-is_farewell m = is_from Adapter m && is_response m && is_named (codes "disconnect") m && is_yes (success_of m)
+is_farewell m =
+    is_from Adapter m && is_response m && is_named (codes "disconnect") m && is_yes (success_of m)
 
 -- It is an `output` event of the adapter (DAP specification, OutputEvent).
 abbrev pub is_output : Sent → Bool

@@ -6,8 +6,13 @@ use Rattle.dap_tree.specs.declared.side.Side.TheVariants.{Client, Adapter}
 use Rattle.dap_message.specs.declared.profile.Kind.TheVariants.{Request, Response, Event}
 use Rattle.dap_message.specs.Message.{Sent}
 use Rattle.dap_session.specs.declared.rule.Rule.{Rule}
-use Rattle.dap_session.specs.declared.rule.Rule.TheVariants.{EventFromClient, NotInitialized, StillInitializing, InitializeTwice, AfterDisconnect, SeqUsed, ConfiguredEarly, ConfiguredTwice, NoRequest, AnsweredTwice, OtherCommand}
-use Rattle.dap_session.specs.Messages.{side_of, kind_of, name_of, seq_of, request_seq_of, success_of, other}
+use Rattle.dap_session.specs.declared.rule.Rule.TheVariants.{EventFromClient, NotInitialized}
+use Rattle.dap_session.specs.declared.rule.Rule.TheVariants.{StillInitializing, InitializeTwice}
+use Rattle.dap_session.specs.declared.rule.Rule.TheVariants.{AfterDisconnect, SeqUsed}
+use Rattle.dap_session.specs.declared.rule.Rule.TheVariants.{ConfiguredEarly, ConfiguredTwice}
+use Rattle.dap_session.specs.declared.rule.Rule.TheVariants.{NoRequest, AnsweredTwice, OtherCommand}
+use Rattle.dap_session.specs.Messages.{side_of, kind_of, name_of, seq_of, request_seq_of}
+use Rattle.dap_session.specs.Messages.{success_of, other}
 use Rattle.dap_session.specs.Rules.{rules}
 
 -- It is from this side.
@@ -46,7 +51,8 @@ IsInitialized m = IsEvent m × IsNamed (codes "initialized") m
 
 -- It is a successful `disconnect` response of the adapter (DAP specification, DisconnectResponse).
 abbrev pub IsFarewell : Sent → Type 0
-IsFarewell m = ((IsFrom Adapter m × IsResponse m) × IsNamed (codes "disconnect") m) × (success_of m ≡ Some true)
+IsFarewell m = ((IsFrom Adapter m × IsResponse m) × IsNamed (codes "disconnect") m)
+    × (success_of m ≡ Some true)
 
 -- It is a request of this side with this number.
 abbrev pub IsRequestOf : Side → ℤ → Sent → Type 0
@@ -68,9 +74,11 @@ Earlier P ms k = (j : ℕ) × (q : Sent) × (j < k) × At ms j q × P q
 abbrev pub NoneBetween : (Sent → Type 0) → List Sent → ℕ → ℕ → Type 0
 NoneBetween P ms j k = (i : ℕ) (r : Sent) → j < i → i < k → At ms i r → P r → ⊥
 
--- Before position k stands an `initialize` request of the client, and between the two no response of the adapter to it.
+-- Before position k stands an `initialize` request of the client, and between the two no response
+-- of the adapter to it.
 abbrev pub IsInitializingAt : List Sent → ℕ → Type 0
-IsInitializingAt ms k = (j : ℕ) × (q : Sent) × (j < k) × At ms j q × IsClientInitialize q × NoneBetween (IsResponseOf Adapter (seq_of q)) ms j k
+IsInitializingAt ms k = (j : ℕ) × (q : Sent) × (j < k) × At ms j q × IsClientInitialize q
+    × NoneBetween (IsResponseOf Adapter (seq_of q)) ms j k
 
 -- The message has a `request_seq`, and P holds of it.
 abbrev pub OfRequestSeq : Sent → (ℤ → Type 0) → Type 0
@@ -86,9 +94,13 @@ BreaksAt AfterDisconnect ms k m = (IsFrom Client m × IsRequest m) × Earlier Is
 BreaksAt SeqUsed ms k m = IsRequest m × Earlier (IsRequestOf (side_of m) (seq_of m)) ms k
 BreaksAt ConfiguredEarly ms k m = IsConfigurationDone m × ¬ Earlier IsInitialized ms k
 BreaksAt ConfiguredTwice ms k m = IsConfigurationDone m × Earlier IsConfigurationDone ms k
-BreaksAt NoRequest ms k m = IsResponse m × ¬ OfRequestSeq m (λ n. Earlier (IsRequestOf (other (side_of m)) n) ms k)
-BreaksAt AnsweredTwice ms k m = IsResponse m × OfRequestSeq m (λ n. Earlier (IsResponseOf (side_of m) n) ms k)
-BreaksAt OtherCommand ms k m = IsResponse m × OfRequestSeq m (λ n. Earlier (λ q. IsRequestOf (other (side_of m)) n q × ¬ (name_of q ≡ name_of m)) ms k)
+BreaksAt NoRequest ms k m = IsResponse m
+    × ¬ OfRequestSeq m (λ n. Earlier (IsRequestOf (other (side_of m)) n) ms k)
+BreaksAt AnsweredTwice ms k m = IsResponse m
+    × OfRequestSeq m (λ n. Earlier (IsResponseOf (side_of m) n) ms k)
+BreaksAt OtherCommand ms k m = IsResponse m
+    × OfRequestSeq m
+    (λ n. Earlier (λ q. IsRequestOf (other (side_of m)) n q × ¬ (name_of q ≡ name_of m)) ms k)
 
 -- It is an `output` event of the adapter (DAP specification, OutputEvent).
 abbrev pub IsOutput : Sent → Type 0
@@ -98,8 +110,10 @@ IsOutput m = (IsFrom Adapter m × IsEvent m) × IsNamed (codes "output") m
 abbrev pub BreaksNone : List Sent → ℕ → Sent → Type 0
 BreaksNone ms k m = ¬ IsOutput m → (rule : Rule) → ¬ BreaksAt rule ms k m
 
--- It is no such event, breaks this rule, and breaks none that stands before it in the list of rules.
+-- It is no such event, breaks this rule, and breaks none that stands before it in the list of
+-- rules.
 abbrev pub BreaksFirst : Rule → List Sent → ℕ → Sent → Type 0
 BreaksFirst rule ms k m =
     (i : ℕ) × (slice_get rules i ≡ Some rule) × (¬ IsOutput m) × BreaksAt rule ms k m
-    × ((j : ℕ) (other_rule : Rule) → j < i → slice_get rules j ≡ Some other_rule → ¬ BreaksAt other_rule ms k m)
+    × ((j : ℕ) (other_rule : Rule) → j < i → slice_get rules j ≡ Some other_rule
+    → ¬ BreaksAt other_rule ms k m)

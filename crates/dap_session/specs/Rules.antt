@@ -1,22 +1,35 @@
--- The rules of a session, each as a test of a message and of the list of those before it. `Positions` states them without tests, over the positions of the list; `laws` has that both say the same.
-use Rattle.std.specs.Prelude.{◌≡◌, ◌++◌, ℕ, ℤ, Bool, false, cond, not, ◌&&◌, ◌||◌, List, [], ◌∷◌, Option, Some, None}
+-- The rules of a session, each as a test of a message and of the list of those before it.
+-- `Positions` states them without tests, over the positions of the list; `laws` has that both say
+-- the same.
+use Rattle.std.specs.Prelude.{◌≡◌, ◌++◌, ℕ, ℤ, Bool, false, cond, not, ◌&&◌, ◌||◌, List, [], ◌∷◌}
+use Rattle.std.specs.Prelude.{Option, Some, None}
 use Rattle.std.specs.Str.{bytes_eq}
 use Rattle.std.specs.List.{list_any, count_by}
 use Rattle.dap_tree.specs.declared.side.Side.{Side}
 use Rattle.dap_tree.specs.declared.side.Side.TheVariants.{Client, Adapter}
 use Rattle.dap_message.specs.Message.{Sent}
 use Rattle.dap_session.specs.declared.rule.Rule.{Rule}
-use Rattle.dap_session.specs.declared.rule.Rule.TheVariants.{EventFromClient, NotInitialized, StillInitializing, InitializeTwice, AfterDisconnect, SeqUsed, ConfiguredEarly, ConfiguredTwice, NoRequest, AnsweredTwice, OtherCommand}
-use Rattle.dap_session.specs.Messages.{side_of, name_of, seq_of, request_seq_of, other, is_request, is_response, is_event, is_from, is_request_of, is_response_to, is_initialize, is_client_initialize, is_configuration_done, is_initialized, is_farewell, is_output}
+use Rattle.dap_session.specs.declared.rule.Rule.TheVariants.{EventFromClient, NotInitialized}
+use Rattle.dap_session.specs.declared.rule.Rule.TheVariants.{StillInitializing, InitializeTwice}
+use Rattle.dap_session.specs.declared.rule.Rule.TheVariants.{AfterDisconnect, SeqUsed}
+use Rattle.dap_session.specs.declared.rule.Rule.TheVariants.{ConfiguredEarly, ConfiguredTwice}
+use Rattle.dap_session.specs.declared.rule.Rule.TheVariants.{NoRequest, AnsweredTwice, OtherCommand}
+use Rattle.dap_session.specs.Messages.{side_of, name_of, seq_of, request_seq_of, other, is_request}
+use Rattle.dap_session.specs.Messages.{is_response, is_event, is_from, is_request_of}
+use Rattle.dap_session.specs.Messages.{is_response_to, is_initialize, is_client_initialize}
+use Rattle.dap_session.specs.Messages.{is_configuration_done, is_initialized, is_farewell}
+use Rattle.dap_session.specs.Messages.{is_output}
 
--- Some response in the list answers the request of this side with this number (DAP specification, Response.request_seq).
+-- Some response in the list answers the request of this side with this number (DAP specification,
+-- Response.request_seq).
 abbrev pub is_answered : Side → ℤ → List Sent → Bool
 is_answered side n ms = list_any (λ r. is_response_to side n r) ms
 
 -- Some `initialize` request of the client has no response after it.
 abbrev pub is_initializing : List Sent → Bool
 is_initializing [] = false
-is_initializing (m ∷ ms) = (is_client_initialize m && not (is_answered Client (seq_of m) ms)) || is_initializing ms
+is_initializing (m ∷ ms) =
+    (is_client_initialize m && not (is_answered Client (seq_of m) ms)) || is_initializing ms
 
 -- There is a number, and p holds of it.
 abbrev pub at_number : Option ℤ → (ℤ → Bool) → Bool
@@ -31,7 +44,8 @@ event_from_client ms m = is_from Client m && is_event m
 abbrev pub not_initialized : List Sent → Sent → Bool
 not_initialized ms m = not (is_client_initialize m) && not (list_any is_client_initialize ms)
 
--- Until the adapter has responded to `initialize`, the client sends nothing else, and the adapter neither requests nor events (DAP specification, InitializeRequest).
+-- Until the adapter has responded to `initialize`, the client sends nothing else, and the adapter
+-- neither requests nor events (DAP specification, InitializeRequest).
 abbrev pub still_initializing : List Sent → Sent → Bool
 still_initializing ms m = is_initializing ms && not (is_from Adapter m && is_response m)
 
@@ -57,15 +71,23 @@ configured_twice ms m = is_configuration_done m && list_any is_configuration_don
 
 -- A response answers a request of the other side (DAP specification, Response.request_seq).
 abbrev pub no_request : List Sent → Sent → Bool
-no_request ms m = is_response m && not (at_number (request_seq_of m) (λ n. list_any (λ q. is_request_of (other (side_of m)) n q) ms))
+no_request ms m =
+    is_response m
+    && not (at_number (request_seq_of m)
+    (λ n. list_any (λ q. is_request_of (other (side_of m)) n q) ms))
 
 -- A request has one response (DAP specification, Response).
 abbrev pub answered_twice : List Sent → Sent → Bool
-answered_twice ms m = is_response m && at_number (request_seq_of m) (λ n. is_answered (other (side_of m)) n ms)
+answered_twice ms m =
+    is_response m && at_number (request_seq_of m) (λ n. is_answered (other (side_of m)) n ms)
 
 -- The command of a response is that of its request (DAP specification, Response.command).
 abbrev pub other_command : List Sent → Sent → Bool
-other_command ms m = is_response m && at_number (request_seq_of m) (λ n. list_any (λ q. is_request_of (other (side_of m)) n q && not (bytes_eq (name_of q) (name_of m))) ms)
+other_command ms m =
+    is_response m
+    && at_number (request_seq_of m)
+    (λ n. list_any (λ q. is_request_of (other (side_of m)) n q
+    && not (bytes_eq (name_of q) (name_of m))) ms)
 
 -- The message breaks the rule after these messages.
 abbrev pub is_broken : Rule → List Sent → Sent → Bool
@@ -83,21 +105,25 @@ is_broken OtherCommand ms m = other_command ms m
 
 -- The rules in the order in which they are told (own).
 abbrev pub rules : List Rule
-rules = EventFromClient ∷ NotInitialized ∷ StillInitializing ∷ InitializeTwice ∷ AfterDisconnect ∷ SeqUsed ∷ ConfiguredEarly ∷ ConfiguredTwice ∷ NoRequest ∷ AnsweredTwice ∷ OtherCommand ∷ []
+rules = EventFromClient ∷ NotInitialized ∷ StillInitializing ∷ InitializeTwice ∷ AfterDisconnect
+    ∷ SeqUsed ∷ ConfiguredEarly ∷ ConfiguredTwice ∷ NoRequest ∷ AnsweredTwice ∷ OtherCommand ∷ []
 
 -- The first rule of a list of which the test holds.
 abbrev pub first_of : (Rule → Bool) → List Rule → Option Rule
 first_of test [] = None
 first_of test (r ∷ rs) = cond (test r) (Some r) (first_of test rs)
 
--- The first rule that the message breaks after these messages. An `output` event of the adapter breaks none: an adapter may log at any time (own).
+-- The first rule that the message breaks after these messages. An `output` event of the adapter
+-- breaks none: an adapter may log at any time (own).
 unfoldable pub first_broken : List Sent → Sent → Option Rule
 first_broken ms m = cond (is_output m) None (first_of (λ r. is_broken r ms m) rules)
 
 -- No message of the list breaks a rule after those before it.
 abbrev pub KeepsRules : List Sent → Type 0
-KeepsRules ms = (before after : List Sent) (m : Sent) → ms ≡ before ++ m ∷ after → first_broken before m ≡ None
+KeepsRules ms = (before after : List Sent) (m : Sent) → ms ≡ before ++ m ∷ after
+    → first_broken before m ≡ None
 
 -- How many requests of a side no response of the other side answers (own).
 unfoldable pub open_requests : Side → List Sent → ℕ
-open_requests side ms = count_by (λ q. is_request q && is_from side q && not (is_answered side (seq_of q) ms)) ms
+open_requests side ms =
+    count_by (λ q. is_request q && is_from side q && not (is_answered side (seq_of q) ms)) ms

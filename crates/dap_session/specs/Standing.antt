@@ -1,5 +1,6 @@
 -- The lists of messages that a session stands for.
-use Rattle.std.specs.Prelude.{◌≡◌, ◌≤◌, ◌++◌, ℤ, true, false, cond, List, [], ◌∷◌, Option, Some, None, option_map, Result, Ok, Err}
+use Rattle.std.specs.Prelude.{◌≡◌, ◌≤◌, ◌++◌, ℤ, true, false, cond, List, [], ◌∷◌, Option, Some}
+use Rattle.std.specs.Prelude.{None, option_map, Result, Ok, Err}
 use Rattle.std.specs.List.{list_any, count_by}
 use Rattle.dap_tree.specs.declared.side.Side.{Side}
 use Rattle.dap_tree.specs.declared.side.Side.TheVariants.{Client, Adapter}
@@ -8,9 +9,11 @@ use Rattle.dap_session.specs.declared.rule.SessionFault.{SessionFault}
 use Rattle.dap_session.specs.declared.rule.SessionFault.TheVariants.{Broken, Memory}
 use Rattle.dap_session.specs.declared.phase.Phase.{Phase}
 use Rattle.dap_session.specs.declared.phase.Phase.TheVariants.{Waiting, Asked, Answered}
-use Rattle.dap_session.specs.Messages.{name_of, seq_of, is_request_of, is_client_initialize, is_configuration_done, is_initialized, is_farewell}
-use Rattle.dap_session.specs.Rules.{is_answered, is_initializing, first_broken, KeepsRules, open_requests}
-use Rattle.dap_session.specs.Kept.{Kept, Requests, found, unanswered}
+use Rattle.dap_session.specs.Messages.{name_of, seq_of, is_request_of, is_client_initialize}
+use Rattle.dap_session.specs.Messages.{is_configuration_done, is_initialized, is_farewell}
+use Rattle.dap_session.specs.Rules.{is_answered, is_initializing, first_broken, KeepsRules}
+use Rattle.dap_session.specs.Rules.{open_requests}
+use Rattle.dap_session.specs.Kept.{Kept, Requests, request_numbered, unanswered}
 
 -- The first request of this side with this number.
 abbrev pub request_at : Side → ℤ → List Sent → Option Sent
@@ -19,7 +22,9 @@ request_at side n (m ∷ ms) = cond (is_request_of side n m) (Some m) (request_a
 
 -- The requests are those of this side in the list: number, command, answered or not.
 pub record AreRequests (side : Side) (es : Requests) (ms : List Sent) : Type 0 where
-  pub listed : (n : ℤ) → found n es ≡ option_map (λ q. (name_of q, is_answered side n ms)) (request_at side n ms)
+  pub listed : (n : ℤ)
+      → request_numbered n es
+      ≡ option_map (λ q. (name_of q, is_answered side n ms)) (request_at side n ms)
   pub count : unanswered es ≡ open_requests side ms
   -- no two of them have one number
   pub once : (n : ℤ) → count_by (λ q. is_request_of side n q) ms ≤ 1
@@ -34,7 +39,8 @@ HaveNumber n (m ∷ ms) = (is_client_initialize m ≡ true → seq_of m ≡ n) �
 -- The phase tells how far the client's `initialize` request has come in the list.
 abbrev pub IsPhase : Phase → List Sent → Type 0
 IsPhase Waiting ms = list_any is_client_initialize ms ≡ false
-IsPhase (Asked n) ms = (list_any is_client_initialize ms ≡ true) × HaveNumber n ms × (is_answered Client n ms ≡ false)
+IsPhase (Asked n) ms = (list_any is_client_initialize ms ≡ true) × HaveNumber n ms
+    × (is_answered Client n ms ≡ false)
 IsPhase Answered ms = (list_any is_client_initialize ms ≡ true) × (is_initializing ms ≡ false)
 
 -- The session stands for these messages: they keep the rules, and what it keeps is what they say.
@@ -47,7 +53,8 @@ pub record Stands (k : Kept) (ms : List Sent) : Type 0 where
   pub configured : k.configured ≡ list_any is_configuration_done ms
   pub disconnected : k.disconnected ≡ list_any is_farewell ms
 
--- What a session that stood for ms says of the message m, and what it is then. Memory that was refused tells nothing.
+-- What a session that stood for ms says of the message m, and what it is then. Memory that was
+-- refused tells nothing.
 abbrev pub Says : List Sent → Sent → Result (Unit {0}) SessionFault → Kept → Kept → Type 0
 Says ms m (Ok u) old new = (first_broken ms m ≡ None) × Stands new (ms ++ m ∷ [])
 Says ms m (Err (Broken rule)) old new = (first_broken ms m ≡ Some rule) × (new ≡ old)

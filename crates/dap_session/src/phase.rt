@@ -26,7 +26,7 @@ impl Phase {
     }
 
     pub fn is_asked(&self) -> bool
-        ensures { result ≡ tells.is_asked self.now }
+        ensures { result ≡ tells.is_unanswered self.now }
     {
         matches!(self, Phase::Asked(_))
     }

@@ -1,8 +1,28 @@
 //! The requests of one side.
-ghost use Rattle.std.specs.Prelude.{◌≡◌, ℤ, [], OnOk, OnErr, option_map, false, true, None, Some, IfOk, IsOk, ◌&&◌};
+ghost use Rattle.std.specs.Prelude.{
+  ◌≡◌,
+  ℤ,
+  [],
+  OnOk,
+  OnErr,
+  option_map,
+  false,
+  true,
+  None,
+  Some,
+  IfOk,
+  IsOk,
+  ◌&&◌,
+};
 ghost use Rattle.dap_message.specs.Message.{sent};
-ghost use Rattle.dap_session.specs.Kept.{found, unanswered, with_request, with_answer, requests_after};
-ghost use Rattle.dap_session.specs.RequestSteps.{MayFollow, adds_to};
+ghost use Rattle.dap_session.specs.Kept.{
+  request_numbered,
+  unanswered,
+  with_request,
+  with_answer,
+  requests_after,
+};
+ghost use Rattle.dap_session.specs.RequestSteps.{FitsRequests, adds_to};
 
 use crate::message::{is_from, is_request, is_response, name_of, request_seq_of, seq_of};
 use dap_message::{Message, Side};
@@ -57,7 +77,7 @@ impl Requests {
 
     /// The command of the request of this number, and whether it is answered.
     pub fn find(&self, number: i64) -> Option<(&str, bool)>
-        ensures { option_map (λ a. (a.0.now, a.1)) result ≡ found number self.now }
+        ensures { option_map (λ a. (a.0.now, a.1)) result ≡ request_numbered number self.now }
     {
         match self.seen.get(&number) {
             Some(request) => Some((request.command.as_str(), request.answered)),
@@ -67,7 +87,7 @@ impl Requests {
 
     /// Keeps a request with a new number.
     pub fn ask(&mut self, number: i64, command: &str) -> Result<(), AllocError>
-        requires { found number self.old ≡ None }
+        requires { request_numbered number self.old ≡ None }
         ensures ok { OnOk result (self.new ≡ with_request number command.now self.old) }
         ensures err { OnErr result (self.new ≡ self.old) }
     {
@@ -86,7 +106,7 @@ impl Requests {
 
     /// Marks the request of this number, which has this command and no response, as answered.
     fn answer(&mut self, number: i64, command: &str)
-        requires { found number self.old ≡ Some (command.now, false) }
+        requires { request_numbered number self.old ≡ Some (command.now, false) }
         ensures { self.new ≡ with_answer number command.now self.old }
     {
         if let Some(request) = self.seen.get_mut(&number) {
@@ -97,7 +117,7 @@ impl Requests {
 
     /// Keeps what a message asks or answers here.
     pub fn note(&mut self, side: Side, message: &Message) -> Result<(), AllocError>
-        requires { MayFollow side self.old (sent message.now) }
+        requires { FitsRequests side self.old (sent message.now) }
         ensures ok { OnOk result (self.new ≡ requests_after side self.old (sent message.now)) }
         ensures err { OnErr result (self.new ≡ self.old) }
         ensures memory { OnErr result (adds_to side (sent message.now) ≡ true) }

@@ -1,10 +1,23 @@
 //! A session as its messages come: each is taken or breaks a rule.
-ghost use Rattle.std.specs.Prelude.{◌≡◌, ℕ, [], List, Some, None, option_map, OnOk, OnErr, true, false, IsErrOf};
+ghost use Rattle.std.specs.Prelude.{
+  ◌≡◌,
+  ℕ,
+  [],
+  List,
+  Some,
+  None,
+  option_map,
+  OnOk,
+  OnErr,
+  true,
+  false,
+  IsErrOf,
+};
 ghost use Rattle.dap_message.specs.Message.{Sent, sent};
 ghost use Rattle.dap_session.specs.Messages.{is_request};
 ghost use Rattle.dap_session.specs.Rules.{open_requests};
 ghost use Rattle.dap_session.specs.Kept.{requests_of, kept_after};
-ghost use Rattle.dap_session.specs.KeptRules.{judged, tells, asked_for};
+ghost use Rattle.dap_session.specs.KeptRules.{first_told, tells, asked_for};
 ghost use Rattle.dap_session.specs.Standing.{Stands, Says};
 
 use crate::message::{
@@ -145,9 +158,9 @@ impl Session {
     }
 
     /// The first rule that the message breaks.
-    #[tactic(auto, unfolding(crate::specs::KeptRules::judged))]
+    #[tactic(auto, unfolding(crate::specs::KeptRules::first_told))]
     fn broken_by(&self, message: &Message) -> Option<Rule>
-        ensures { result ≡ judged self.now (sent message.now) }
+        ensures { result ≡ first_told self.now (sent message.now) }
     {
         if is_output(message) {
             return None;
@@ -174,7 +187,7 @@ impl Session {
 
     /// Keeps what the rules need to know of a message that breaks none.
     fn keep(&mut self, message: &Message) -> Result<(), AllocError>
-        requires { judged self.old (sent message.now) ≡ None }
+        requires { first_told self.old (sent message.now) ≡ None }
         ensures ok { OnOk result (self.new ≡ kept_after self.old (sent message.now)) }
         ensures err { OnErr result (self.new ≡ self.old) }
         ensures memory { OnErr result (is_request (sent message.now) ≡ true) }

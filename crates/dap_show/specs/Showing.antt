@@ -1,5 +1,7 @@
--- What `show` prints of a recording, and what it refuses. Source: own, over recordings and the messages of the DAP specification.
-use Rattle.std.specs.Prelude.{◌≡◌, ℕ, ◌+◌, ◌≤◌, ℤ, Bool, cond, List, [], ◌∷◌, ◌++◌, length, Option, codes, decimal}
+-- What `show` prints of a recording, and what it refuses. Source: own, over recordings and the
+-- messages of the DAP specification.
+use Rattle.std.specs.Prelude.{◌≡◌, ℕ, ◌+◌, ◌≤◌, ℤ, Bool, cond, List, [], ◌∷◌, ◌++◌, length, Option}
+use Rattle.std.specs.Prelude.{codes, decimal}
 use Rattle.std.specs.Fmt.{signed_decimal}
 use Rattle.std.specs.List.{flat_map}
 use Rattle.std.specs.Option.{option_map_or}
@@ -8,19 +10,15 @@ use Rattle.dap_tree.specs.Json.{text_of}
 use Rattle.dap_tree.specs.declared.side.Side.{Side}
 use Rattle.dap_tree.specs.declared.side.Side.TheVariants.{Client, Adapter}
 use Rattle.dap_message.specs.Envelope.{kind_of, name_of, seq_of, request_seq_of, success_of}
-use Rattle.dap_message.specs.Message.{Sent, Refusal, no_reading, fraction, faulty as profile_fault, HasRefusal}
+use Rattle.dap_message.specs.Message.{Sent}
 use Rattle.dap_message.specs.Views.{StackFrame, Scope, Variable, frames_of, scopes_of, variables_of}
 use Rattle.dap_message.specs.declared.profile.Kind.{Kind}
 use Rattle.dap_message.specs.declared.profile.Kind.TheVariants.{Request, Response, Event}
-use Rattle.dap_recording.specs.declared.record_fault.RecordCause.{RecordCause}
-use Rattle.dap_recording.specs.declared.record_fault.RecordCause.TheVariants as cause
 use Rattle.dap_recording.specs.Recording.{IsRecording, records}
 use Rattle.dap_input.specs.declared.limits.Limits.{Limits}
-use Rattle.dap_input.specs.declared.refused.Refused.{Refused}
-use Rattle.dap_input.specs.declared.refused.Refused.TheVariants.{InputTooLong, Record, Json, Fraction, Message}
-use Rattle.dap_normal.specs.Accepting.{Held, IsMessage, AreMessages}
+use Rattle.dap_normal.specs.Accepting.{Held, IsMessage, HoldsNoMessage, AreMessages}
 use Rattle.dap_input.specs.Limits.{AreSound}
-use Rattle.dap_input.specs.Judging.{Judging, faulty, input_too_long, cut, objected, IsFirstRefusal, HasOneOutcome, RefusalStays}
+use Rattle.dap_input.specs.Judging.{Judging, HasOneOutcome, RefusalStays}
 
 -- ---- the lines
 
@@ -30,17 +28,22 @@ in_quotes s = text_of (text s)
 
 -- the id of a stack frame and where it stands
 abbrev pub place_words : StackFrame → List ℕ
-place_words f = codes "  frame " ++ signed_decimal f.id ++ codes " " ++ signed_decimal f.line ++ codes ":" ++ signed_decimal f.column
+place_words f =
+    codes "  frame " ++ signed_decimal f.id ++ codes " " ++ signed_decimal f.line ++ codes ":"
+    ++ signed_decimal f.column
 
 -- a stack frame, a scope and a variable, each in a line
 abbrev pub frame_line : StackFrame → List ℕ
 frame_line f = place_words f ++ codes " " ++ in_quotes f.name ++ codes "\n"
 
 abbrev pub scope_line : Scope → List ℕ
-scope_line s = codes "  scope " ++ signed_decimal s.reference ++ codes " " ++ in_quotes s.name ++ codes "\n"
+scope_line s =
+    codes "  scope " ++ signed_decimal s.reference ++ codes " " ++ in_quotes s.name ++ codes "\n"
 
 abbrev pub variable_line : Variable → List ℕ
-variable_line v = codes "  variable " ++ signed_decimal v.reference ++ codes " " ++ in_quotes v.name ++ codes " " ++ in_quotes v.value ++ codes "\n"
+variable_line v =
+    codes "  variable " ++ signed_decimal v.reference ++ codes " " ++ in_quotes v.name ++ codes " "
+    ++ in_quotes v.value ++ codes "\n"
 
 -- the marker of a side, and the word for a kind
 abbrev pub side_words : Side → List ℕ
@@ -59,23 +62,29 @@ answered_words answered = option_map_or (λ n. codes " request_seq=" ++ signed_d
 abbrev pub success_words : Option Bool → List ℕ
 success_words success = option_map_or (λ ok. cond ok (codes " ok") (codes " failed")) success []
 
--- The number of a record and the marker of its side; the kind, the name and the sequence number of its message, and every message has the two; the outcome of a response.
+-- The number of a record and the marker of its side; the kind, the name and the sequence number of
+-- its message, and every message has the two; the outcome of a response.
 abbrev pub start_words : ℕ → Side → List ℕ
 start_words n side = decimal n ++ side_words side
 
 abbrev pub title_words : Doc → List ℕ
-title_words d = kind_word (kind_of d) ++ option_map_or in_quotes (name_of d) [] ++ codes " seq=" ++ option_map_or signed_decimal (seq_of d) []
+title_words d =
+    kind_word (kind_of d) ++ option_map_or in_quotes (name_of d) [] ++ codes " seq="
+    ++ option_map_or signed_decimal (seq_of d) []
 
 abbrev pub outcome_words : Doc → List ℕ
 outcome_words d = answered_words (request_seq_of d) ++ success_words (success_of d)
 
 -- the line of a record's message
 abbrev pub message_line : ℕ → Sent → List ℕ
-message_line n message = start_words n message.side ++ title_words message.doc ++ outcome_words message.doc ++ codes "\n"
+message_line n message =
+    start_words n message.side ++ title_words message.doc ++ outcome_words message.doc ++ codes "\n"
 
 -- the lines of what a message lists
 abbrev pub listed_lines : Doc → List ℕ
-listed_lines d = flat_map frame_line (frames_of d) ++ flat_map scope_line (scopes_of d) ++ flat_map variable_line (variables_of d)
+listed_lines d =
+    flat_map frame_line (frames_of d) ++ flat_map scope_line (scopes_of d)
+    ++ flat_map variable_line (variables_of d)
 
 abbrev pub message_lines : ℕ → Sent → List ℕ
 message_lines n message = message_line n message ++ listed_lines message.doc
@@ -99,31 +108,17 @@ abbrev pub showing : Limits → Judging
 showing limits = record {
   Held = Held;
   Value = Sent;
-  Cause = RecordCause;
-  Objection = Refusal;
   input = limits.input;
   records = records limits.frame;
   IsNext = λ before held message. IsMessage held message;
-  Objects = λ before held why. HasRefusal held.1 why;
+  Objects = λ before. HoldsNoMessage;
   IsAccepted = IsShowable limits;
 }
 
 -- The input is shown by these lines.
 abbrev pub IsShownBy : Limits → List ℕ → List ℕ → Type 0
-IsShownBy limits whole written = (messages : List Sent) × IsShowable limits whole messages × (written ≡ lines_from 1 messages)
-
--- This is the first refusal of the input.
-abbrev pub IsRefused : Limits → List ℕ → Refused → Type 0
-IsRefused limits whole (InputTooLong n) = IsFirstRefusal (showing limits) whole n input_too_long
-IsRefused limits whole (Record n cause.BadMarker) = IsFirstRefusal (showing limits) whole n (faulty cause.BadMarker)
-IsRefused limits whole (Record n (cause.Frame fault)) = IsFirstRefusal (showing limits) whole n (faulty (cause.Frame fault))
-IsRefused limits whole (Record n cause.NoLineEnd) = IsFirstRefusal (showing limits) whole n (faulty cause.NoLineEnd)
-IsRefused limits whole (Record n cause.Cut) = IsFirstRefusal (showing limits) whole n cut
-IsRefused limits whole (Record n cause.Memory) = ⊥
-IsRefused limits whole (Json n) = IsFirstRefusal (showing limits) whole n (objected no_reading)
-IsRefused limits whole (Fraction n) = IsFirstRefusal (showing limits) whole n (objected fraction)
-IsRefused limits whole (Message n fault) = IsFirstRefusal (showing limits) whole n (objected (profile_fault fault))
-IsRefused limits whole _ = ⊥
+IsShownBy limits whole written = (messages : List Sent) × IsShowable limits whole messages
+    × (written ≡ lines_from 1 messages)
 
 -- An input is accepted as one list of messages, or has one first refusal, and not both.
 abbrev pub ShowHasOneOutcome : Type 0

@@ -2,8 +2,30 @@
 ghost use Rattle.std.specs.Prelude.{◌≡◌, ◌++◌, OnOk, string_bytes};
 ghost use Rattle.std.specs.List.{flat_map};
 ghost use Rattle.dap_message.specs.Message.{doc_of, sent};
-ghost use Rattle.dap_message.specs.ViewItems.{frame_shown, frames_left, scope_shown, scopes_left, variable_shown, variables_left};
-ghost use Rattle.dap_show.specs.Showing.{answered_words, frame_line, in_quotes, kind_word, message_line, message_lines, outcome_words, place_words, scope_line, side_words, start_words, success_words, title_words, variable_line};
+ghost use Rattle.dap_message.specs.ViewItems.{
+  frame_shown,
+  frames_left,
+  scope_shown,
+  scopes_left,
+  variable_shown,
+  variables_left,
+};
+ghost use Rattle.dap_show.specs.Showing.{
+  answered_words,
+  frame_line,
+  in_quotes,
+  kind_word,
+  message_line,
+  message_lines,
+  outcome_words,
+  place_words,
+  scope_line,
+  side_words,
+  start_words,
+  success_words,
+  title_words,
+  variable_line,
+};
 
 use dap_message::{
     FrameView, Frames, Kind, Message, ScopeView, Scopes, Side, VariableView, Variables,
@@ -14,7 +36,8 @@ use std::alloc::{AllocError, Global};
 
 /// Appends a word and a number.
 fn push_number<I: Integer>(out: &mut String, word: &str, number: I) -> Result<(), AllocError>
-    ensures { OnOk result (string_bytes out.new ≡ string_bytes out.old ++ word.now ++ I.text number) }
+    ensures { OnOk result (string_bytes out.new
+        ≡ string_bytes out.old ++ word.now ++ I.text number) }
 {
     let mut digits = Buffer::new();
     out.push_str(word)?;
@@ -23,7 +46,8 @@ fn push_number<I: Integer>(out: &mut String, word: &str, number: I) -> Result<()
 
 /// Appends a word and a text as JSON, in quotes.
 fn push_quoted(alloc: Global, out: &mut String, word: &str, text: &str) -> Result<(), AllocError>
-    ensures { OnOk result (string_bytes out.new ≡ string_bytes out.old ++ word.now ++ in_quotes text.now) }
+    ensures { OnOk result (string_bytes out.new
+        ≡ string_bytes out.old ++ word.now ++ in_quotes text.now) }
 {
     let tree = Tree::Text(String::from_str(alloc, text)?);
     let Ok(quoted) = write_tree(alloc, &tree) else {
@@ -35,7 +59,8 @@ fn push_quoted(alloc: Global, out: &mut String, word: &str, text: &str) -> Resul
 
 /// Appends the id of a stack frame and where it stands.
 fn push_place(out: &mut String, frame: FrameView<'_>) -> Result<(), AllocError>
-    ensures { OnOk result (string_bytes out.new ≡ string_bytes out.old ++ place_words (frame_shown frame.entry)) }
+    ensures { OnOk result (string_bytes out.new
+        ≡ string_bytes out.old ++ place_words (frame_shown frame.entry)) }
 {
     push_number(out, "  frame ", frame.id)?;
     push_number(out, " ", frame.line)?;
@@ -44,7 +69,8 @@ fn push_place(out: &mut String, frame: FrameView<'_>) -> Result<(), AllocError>
 
 /// Appends the line of a stack frame.
 fn push_frame(alloc: Global, out: &mut String, frame: FrameView<'_>) -> Result<(), AllocError>
-    ensures { OnOk result (string_bytes out.new ≡ string_bytes out.old ++ frame_line (frame_shown frame.entry)) }
+    ensures { OnOk result (string_bytes out.new
+        ≡ string_bytes out.old ++ frame_line (frame_shown frame.entry)) }
 {
     push_place(out, frame)?;
     push_quoted(alloc, out, " ", frame.name)?;
@@ -53,7 +79,8 @@ fn push_frame(alloc: Global, out: &mut String, frame: FrameView<'_>) -> Result<(
 
 /// Appends the line of a scope.
 fn push_scope(alloc: Global, out: &mut String, scope: ScopeView<'_>) -> Result<(), AllocError>
-    ensures { OnOk result (string_bytes out.new ≡ string_bytes out.old ++ scope_line (scope_shown scope.entry)) }
+    ensures { OnOk result (string_bytes out.new
+        ≡ string_bytes out.old ++ scope_line (scope_shown scope.entry)) }
 {
     push_number(out, "  scope ", scope.reference)?;
     push_quoted(alloc, out, " ", scope.name)?;
@@ -66,7 +93,8 @@ fn push_variable(
     out: &mut String,
     variable: VariableView<'_>,
 ) -> Result<(), AllocError>
-    ensures { OnOk result (string_bytes out.new ≡ string_bytes out.old ++ variable_line (variable_shown variable.entry)) }
+    ensures { OnOk result (string_bytes out.new
+        ≡ string_bytes out.old ++ variable_line (variable_shown variable.entry)) }
 {
     push_number(out, "  variable ", variable.reference)?;
     push_quoted(alloc, out, " ", variable.name)?;
@@ -75,7 +103,8 @@ fn push_variable(
 }
 
 fn push_frames(alloc: Global, out: &mut String, frames: Frames<'_>) -> Result<(), AllocError>
-    ensures { OnOk result (string_bytes out.new ≡ string_bytes out.old ++ flat_map frame_line (frames_left frames.entry)) }
+    ensures { OnOk result (string_bytes out.new
+        ≡ string_bytes out.old ++ flat_map frame_line (frames_left frames.entry)) }
 {
     for frame in frames {
         push_frame(alloc, out, frame)?;
@@ -84,7 +113,8 @@ fn push_frames(alloc: Global, out: &mut String, frames: Frames<'_>) -> Result<()
 }
 
 fn push_scopes(alloc: Global, out: &mut String, scopes: Scopes<'_>) -> Result<(), AllocError>
-    ensures { OnOk result (string_bytes out.new ≡ string_bytes out.old ++ flat_map scope_line (scopes_left scopes.entry)) }
+    ensures { OnOk result (string_bytes out.new
+        ≡ string_bytes out.old ++ flat_map scope_line (scopes_left scopes.entry)) }
 {
     for scope in scopes {
         push_scope(alloc, out, scope)?;
@@ -97,7 +127,8 @@ fn push_variables(
     out: &mut String,
     variables: Variables<'_>,
 ) -> Result<(), AllocError>
-    ensures { OnOk result (string_bytes out.new ≡ string_bytes out.old ++ flat_map variable_line (variables_left variables.entry)) }
+    ensures { OnOk result (string_bytes out.new
+        ≡ string_bytes out.old ++ flat_map variable_line (variables_left variables.entry)) }
 {
     for variable in variables {
         push_variable(alloc, out, variable)?;
@@ -157,7 +188,8 @@ fn push_start(out: &mut String, number: u64, side: Side) -> Result<(), AllocErro
 
 /// Appends the kind, the name and the sequence number of a message.
 fn push_title(alloc: Global, out: &mut String, message: &Message) -> Result<(), AllocError>
-    ensures { OnOk result (string_bytes out.new ≡ string_bytes out.old ++ title_words (doc_of message.now)) }
+    ensures { OnOk result (string_bytes out.new
+        ≡ string_bytes out.old ++ title_words (doc_of message.now)) }
 {
     push_quoted(alloc, out, word(message.kind()), message.name())?;
     push_number(out, " seq=", message.seq())
@@ -165,7 +197,8 @@ fn push_title(alloc: Global, out: &mut String, message: &Message) -> Result<(), 
 
 /// Appends the outcome of a response.
 fn push_outcome(out: &mut String, message: &Message) -> Result<(), AllocError>
-    ensures { OnOk result (string_bytes out.new ≡ string_bytes out.old ++ outcome_words (doc_of message.now)) }
+    ensures { OnOk result (string_bytes out.new
+        ≡ string_bytes out.old ++ outcome_words (doc_of message.now)) }
 {
     push_answered(out, message.request_seq())?;
     push_success(out, message.success())
@@ -178,7 +211,8 @@ fn push_message(
     number: u64,
     message: &Message,
 ) -> Result<(), AllocError>
-    ensures { OnOk result (string_bytes out.new ≡ string_bytes out.old ++ message_line number (sent message.now)) }
+    ensures { OnOk result (string_bytes out.new
+        ≡ string_bytes out.old ++ message_line number (sent message.now)) }
 {
     push_start(out, number, message.side())?;
     push_title(alloc, out, message)?;
@@ -193,7 +227,8 @@ pub fn push_lines(
     number: u64,
     message: &Message,
 ) -> Result<(), AllocError>
-    ensures { OnOk result (string_bytes out.new ≡ string_bytes out.old ++ message_lines number (sent message.now)) }
+    ensures { OnOk result (string_bytes out.new
+        ≡ string_bytes out.old ++ message_lines number (sent message.now)) }
 {
     push_message(alloc, out, number, message)?;
     push_frames(alloc, out, message.frames())?;

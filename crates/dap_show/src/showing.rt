@@ -2,8 +2,9 @@
 ghost use Rattle.std.specs.Prelude.{◌≡◌, ◌+◌, ◌<◌, ◌≤◌, ◌^◌, string_bytes};
 ghost use Rattle.dap_input.specs.Engine.{Answers};
 ghost use Rattle.dap_input.specs.Limits.{AreSound};
+ghost use Rattle.dap_input.specs.Refusals.{IsRefused};
 ghost use Rattle.dap_device.specs.Reading.{HasLength};
-ghost use Rattle.dap_show.specs.Showing.{IsRefused, IsShownBy};
+ghost use Rattle.dap_show.specs.Showing.{IsShownBy, showing};
 ghost use Rattle.dap_show.specs.ShowingSteps.{HasGoneOn, JudgesInput};
 
 use crate::message_lines::push_lines;
@@ -67,18 +68,20 @@ fn show_input(alloc: Global, input: &Input, limits: Limits) -> Result<String, Re
 
 /// Reads a recording and writes it in lines, for a reader.
 ///
-/// Record N of the side with the marker M gives `N M request NAME seq=S`, `N M event NAME seq=S`, or
-/// `N M response NAME seq=S request_seq=Q ok` (or `failed`). Behind it stands a line for each stack frame, scope and variable
-/// that the message lists: `  frame ID LINE:COLUMN NAME`, `  scope REFERENCE NAME`, `  variable REFERENCE NAME VALUE`. Names
-/// and values are JSON texts in quotes; ids are shown as they came. The rules of a session are not asked.
+/// Record N of the side with the marker M gives `N M request NAME seq=S`, `N M event NAME seq=S`,
+/// or `N M response NAME seq=S request_seq=Q ok` (or `failed`). Behind it stands a line for each
+/// stack frame, scope and variable that the message lists: `  frame ID LINE:COLUMN NAME`, `  scope
+/// REFERENCE NAME`, `  variable REFERENCE NAME VALUE`. Names and values are JSON texts in quotes;
+/// ids are shown as they came. The rules of a session are not asked.
 ///
-/// It reads its whole input, at most one byte past `limits.input`, judges it, and writes last: nothing is written where it is
-/// refused. Records are counted from 1 in the order of the input.
+/// It reads its whole input, at most one byte past `limits.input`, judges it, and writes last:
+/// nothing is written where it is refused. Records are counted from 1 in the order of the input.
 ///
 /// # Errors
 ///
-/// The first refusal of the input: `InputTooLong`, `Record`, `Json`, `Fraction` or `Message`; `ReadFault` where the reader
-/// failed and what came before is not refused; `WriteFault` where the writer failed; `Memory`.
+/// The first refusal of the input: `InputTooLong`, `Record`, `Json`, `Fraction` or `Message`;
+/// `ReadFault` where the reader failed and what came before is not refused; `WriteFault` where the
+/// writer failed; `Memory`.
 pub fn show<R: Source, W: Sink>(
     alloc: Global,
     reader: &mut R,
@@ -90,9 +93,10 @@ pub fn show<R: Source, W: Sink>(
     requires read_failures { R.failures reader.old < 2 ^ 62 }
     requires write_failures { W.failures writer.old < 2 ^ 62 }
 
-    // The lines of the input's messages go out, or its first refusal is answered and nothing goes out. A fault of a
-    // device is answered exactly where that device failed.
-    ensures answer { Answers R.left R.failures W.out W.failures limits.input (IsShownBy limits) (IsRefused limits) reader.old reader.new writer.old writer.new result }
+    // The lines of the input's messages go out, or its first refusal is answered and nothing goes
+    // out. A fault of a device is answered exactly where that device failed.
+    ensures answer { Answers R.left R.failures W.out W.failures limits.input (IsShownBy limits)
+        (IsRefused (showing limits)) reader.old reader.new writer.old writer.new result }
 
     // It takes at most one byte past the limit.
     ensures taken { R.given reader.new ≤ R.given reader.old + limits.input + 1 }

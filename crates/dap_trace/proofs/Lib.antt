@@ -1,4 +1,5 @@
 pub mod TraceOutcomes
 pub mod TracePieces
 pub mod TraceSteps
+pub mod RawRunLoop
 pub mod TracingLoop

@@ -1,14 +1,14 @@
--- What the loops of `record` over its input and over a run of raw bytes keep, and what it may answer.
-use Rattle.std.proofs.Common.{◌≡◌, ◌≢◌, ◌⊎◌, inl, inr, ℕ, ◌+◌, ◌-◌, ◌^◌, ◌<◌, ◌≤◌, List, [], ◌∷◌, ◌++◌, length, take, drop, Option, Some, None, MatchOption, Result, Ok, Err, refl, sym, ◌∙◌, ap, ap₂, subst, arith}
-use Rattle.std.proofs.lemmas.List.{append_assoc, append-nil, length-append, length-drop, length-take, nil_from_length, take-append-drop, take_all}
-use Rattle.std.proofs.lemmas.List.Concat.{flat_map-append}
+-- What the loop of `record` over its input keeps, and what it may answer.
+use Rattle.dap_frame.specs.declared.fault.FrameFault.TheVariants as frame_fault
+use Rattle.std.proofs.Common.{◌≡◌, ◌≢◌, ◌⊎◌, inl, inr, ℕ, ◌+◌, ◌-◌, ◌^◌, ◌<◌, ◌≤◌, List, [], ◌∷◌}
+use Rattle.std.proofs.Common.{◌++◌, length, take, drop, Option, Some, None, MatchOption, Result, Ok}
+use Rattle.std.proofs.Common.{Err, refl, sym, ◌∙◌, ap, ap₂, subst, arith}
+use Rattle.std.proofs.lemmas.List.{append_assoc, append-nil, length-append, length-drop}
+use Rattle.std.proofs.lemmas.List.{length-take, nil_from_length, take-append-drop, take_all}
 use Rattle.dap_items.proofs.Ends.{not_empty, shown_by_byte}
 use Rattle.dap_items.proofs.Streams.{few_items}
-use Rattle.dap_frame.proofs.Frames.{frame_grammar}
 use Rattle.dap_frame.specs.declared.fault.FrameFault.{FrameFault}
-use Rattle.dap_frame.specs.declared.fault.FrameFault.TheVariants as frame_fault
-use Rattle.dap_frame.specs.declared.limits.FrameLimits.{FrameLimits}
-use Rattle.dap_frame.specs.Frame.{IsFrame, IsOpen, Shows}
+use Rattle.dap_frame.specs.Frame.{IsOpen}
 use Rattle.dap_frame.specs.Lines.{number_of}
 use Rattle.dap_frame.proofs.Faults.{shown_of_format}
 use Rattle.dap_recording.specs.declared.recorder_fault.RecorderFault.{RecorderFault}
@@ -20,15 +20,16 @@ use Rattle.dap_recording.specs.declared.trace_state.TraceState.{TraceState}
 use Rattle.dap_recording.specs.declared.trace_state.TraceState.TheVariants as state
 use Rattle.dap_recording.specs.Marker.{marker}
 use Rattle.dap_recording.specs.RecordedTraces.{AreRecorded, bytes_of}
-use Rattle.dap_recording.specs.RecorderReading.{RecorderReading, StandsForRests, GivesPiece, recorder_limits, text_of, with_rest}
-use Rattle.dap_recording.specs.Recording.{record_text, recording_text}
+use Rattle.dap_recording.specs.RecorderReading.{RecorderReading, StandsForRests, recorder_limits}
+use Rattle.dap_recording.specs.RecorderReading.{text_of}
+use Rattle.dap_recording.specs.Recording.{recording_text}
 use Rattle.dap_recording.specs.RecordReading.{next_number}
 use Rattle.dap_recording.specs.Trace.{IsCount, IsPiece, ShowsTraceFault}
 use Rattle.dap_recording.specs.declared.fed_trace.FedTrace.{FedTrace}
 use Rattle.dap_recording.specs.declared.fed_trace.TracePart.{TracePart}
-use Rattle.dap_recording.specs.TraceReading.{TraceReading, StandsForPiece, IsKeptOfPiece, GivesFedTrace, GivesRun, GivesTraceFault}
+use Rattle.dap_recording.specs.TraceReading.{TraceReading, StandsForPiece, IsKeptOfPiece}
+use Rattle.dap_recording.specs.TraceReading.{GivesFedTrace, GivesRun, GivesTraceFault}
 use Rattle.dap_recording.proofs.Fronts.{heads, not_empty as not_begun}
-use Rattle.dap_recording.proofs.RecorderRuns.{recorded_frame, rest_with}
 use Rattle.dap_recording.proofs.Markers.{marker_one}
 use Rattle.dap_recording.proofs.TracePieces.{fault_of, parts_of, piece_grammar, readable}
 use Rattle.dap_recording.proofs.TraceSteps.{begun}
@@ -38,149 +39,35 @@ use Rattle.dap_input.specs.declared.limits.Limits.{Limits}
 use Rattle.dap_device.specs.declared.reading.Stop.{Stop}
 use Rattle.dap_device.specs.declared.reading.Stop.TheVariants.{End, Full, Failed}
 use Rattle.dap_input.specs.declared.refused.Refused.{Refused}
-use Rattle.dap_input.specs.declared.refused.Refused.TheVariants.{TraceTooLong, Trace, Recorder, ReadFault, WriteFault, Memory as NoMemory}
+use Rattle.dap_input.specs.declared.refused.Refused.TheVariants.{TraceTooLong, Trace, Recorder}
+use Rattle.dap_input.specs.declared.refused.Refused.TheVariants.{ReadFault, WriteFault}
+use Rattle.dap_input.specs.declared.refused.Refused.TheVariants.{Memory as NoMemory}
 use Rattle.dap_device.specs.Device.{AllWritten, FrontWritten}
 use Rattle.dap_input.specs.Limits.{AreSound}
 use Rattle.dap_device.specs.Reading.{HasCome}
-use Rattle.dap_trace.specs.Tracing.{EndsInside, IsInRaw, IsOfEnd, IsOpenWith, IsRecordedAs, IsTraceRefused, SoFar, before_marker, in_count, in_raw, next_piece, of_frame, of_piece, sent_by, a_piece, a_client_frame, an_adapter_frame, at_byte, past_limit, at_end}
-use Rattle.dap_trace.specs.TracingRun.{HasJudgedTrace, HasWrittenRecords, IsNotRefused, RecordsTrace}
-use Rattle.dap_trace.specs.TracingSteps.{HasRecorded, HasSentRecords, HasTraced, RecordsRun, ShowsInRun, Traces}
+use Rattle.dap_trace.specs.Tracing.{EndsInside, IsInRaw, IsOfEnd, IsOpenWith, IsRecordedAs}
+use Rattle.dap_trace.specs.Tracing.{IsTraceRefused, SoFar, before_marker, in_count, in_raw}
+use Rattle.dap_trace.specs.Tracing.{next_piece, of_frame, of_piece, sent_by, a_piece}
+use Rattle.dap_trace.specs.Tracing.{a_client_frame, an_adapter_frame, at_byte, past_limit, at_end}
+use Rattle.dap_trace.specs.TracingRun.{HasJudgedTrace, HasWrittenRecords, IsNotRefused}
+use Rattle.dap_trace.specs.TracingRun.{RecordsTrace}
+use Rattle.dap_trace.specs.TracingSteps.{HasRecorded, HasSentRecords, HasTraced, RecordsRun, Traces}
 use Rattle.dap_trace.proofs.TraceOutcomes.{nothing_came}
 use Rattle.dap_trace.proofs.TracePieces.{no_raw, open_of, opened}
-use Rattle.dap_trace.proofs.TraceSteps.{at_the_end, recorded_open, recorded_whole, sent_on, with_open, with_piece, with_raw}
+use Rattle.dap_trace.proofs.TraceSteps.{at_the_end, recorded_whole, sent_on, with_piece, with_raw}
+use Rattle.dap_trace.proofs.RawRunLoop.{stands_open}
 
--- ---- a run of raw bytes
-
--- a recorder stands for open rests
-stands_open : (limits : FrameLimits) (recorder : RecorderReading) (rests : Side → List ℕ) → StandsForRests recorder rests → recorder_limits recorder ≡ limits → (s : Side) → IsOpen limits (rests s)
-stands_open limits recorder rests stands its s = subst (λ l. IsOpen l (rests s)) (stands.limits s ∙ its) (stands.each s).is_open
-
-module _ (limits : FrameLimits) (recorder new : RecorderReading) (taken : List (Side × ℕ)) (side : Side) (piece : List ℕ) (was : HasRecorded limits recorder taken) where
-  -- What a call gave of a piece that it took.
-  pub piece_taken : (used : ℕ) → GivesPiece side was.rests piece recorder new (Ok used) → recorder_limits new ≡ recorder_limits recorder → HasRecorded limits new (taken ++ sent_by side (take used piece))
-  piece_taken used (inl on) kept =
-      let all : take used piece ≡ piece = take_all used piece (let long : length piece ≤ used = omega (arith, on.all) in long) in
-      let rests = with_rest side (was.rests side ++ piece) was.rests in
-      let is_open : IsOpen limits (was.rests side ++ piece) = subst (IsOpen limits) (rest_with side (was.rests side ++ piece) was.rests) (stands_open limits new rests on.stands (kept ∙ was.its_limits) side) in
-      subst (λ xs. HasRecorded limits new (taken ++ sent_by side xs)) (sym all)
-      (record {
-        messages = was.messages;
-        rests = rests;
-        recorded = recorded_open limits taken was.messages was.rests was.recorded side piece is_open;
-        stands = on.stands;
-        its_limits = kept ∙ was.its_limits;
-        text = on.text ∙ was.text;
-      })
-  piece_taken used (inr has) kept =
-      let is = subst (λ l. IsFrame l (was.rests side ++ take used piece) has.content) was.its_limits has.is_frame in
-      record {
-        messages = was.messages ++ (side, has.content) ∷ [];
-        rests = with_rest side [] was.rests;
-        recorded = recorded_frame limits side taken (take used piece) was.messages was.rests was.recorded has.content is;
-        stands = has.stands;
-        its_limits = kept ∙ was.its_limits;
-        text = has.text ∙ ap (λ xs. xs ++ record_text side has.content) was.text
-            ∙ ap (λ xs. recording_text was.messages ++ xs) (sym (append-nil (record_text side has.content)))
-            ∙ sym (flat_map-append (λ (m : Side × List ℕ). record_text m.0 m.1) was.messages ((side, has.content) ∷ []));
-      }
-
-  shows_there : (fault : FrameFault) (place : ℕ) → Shows limits (was.rests side ++ piece) fault place → text_of new ≡ text_of recorder → ShowsInRun limits new taken side piece fault
-  shows_there fault place shows kept =
-      let is_open = stands_open limits recorder was.rests was.stands was.its_limits in
-      let there = shown_by_byte (frame_grammar limits) (was.rests side) piece fault place (is_open side) shows in
-      let rest : List ℕ = was.rests side ++ there.front in
-      record {
-        front = there.front;
-        byte = there.byte;
-        more = there.behind;
-        run_is = there.split;
-        messages = was.messages;
-        rests = with_rest side rest was.rests;
-        recorded = recorded_open limits taken was.messages was.rests was.recorded side there.front there.is_open;
-        are_open = with_open limits side rest was.rests there.is_open is_open;
-        place = place;
-        shows = subst (λ r. Shows limits (r ++ there.byte ∷ []) fault place) (sym (rest_with side rest was.rests)) there.shows;
-        text = kept ∙ was.text;
-      }
-
-  -- What a call gave of a piece that it did not take.
-  pub piece_refused : (U : Type 0) (fault : RecorderFault) → GivesPiece side was.rests piece recorder new (Err fault) → RecordsRun {U = U} limits new taken side piece (Err fault)
-  piece_refused U fault (inl memory) = subst (λ f. RecordsRun {U = U} limits new taken side piece (Err f)) (sym memory.0) tt
-  piece_refused U fault (inr faulty) =
-      subst (λ f. RecordsRun {U = U} limits new taken side piece (Err f)) (sym faulty.fault_is)
-      (refl, shows_there faulty.cause faulty.shown.0 (subst (λ l. Shows l (was.rests side ++ piece) faulty.cause faulty.shown.0) was.its_limits faulty.shown.1) faulty.text)
-
--- A front of the run has been recorded, whatever was taken before.
-pub record RecordedFront (limits : FrameLimits) (recorder : RecorderReading) (taken : List (Side × ℕ)) (side : Side) (run rest : List ℕ) : Type 0 where
-  pub front : List ℕ
-  pub run_is : run ≡ front ++ rest
-  pub recorded : HasRecorded limits recorder (taken ++ sent_by side front)
-
-abbrev pub RunGoesOn : RecorderReading → RecorderReading → Side → List ℕ → List ℕ → Type 0
-RunGoesOn old recorder side run rest = (limits : FrameLimits) (taken : List (Side × ℕ)) → HasRecorded limits old taken → RecordedFront limits recorder taken side run rest
-
-pub run_starts : (old : RecorderReading) (side : Side) (run : List ℕ) → RunGoesOn old old side run run
-run_starts old side run limits taken was = record { front = []; run_is = refl; recorded = subst (HasRecorded limits old) (sym (append-nil taken)) was }
-
-module _ (old recorder new : RecorderReading) (side : Side) (run rest : List ℕ) (was : RunGoesOn old recorder side run rest) where
-  pub run_taken : (used : ℕ) → ((rests : Side → List ℕ) → StandsForRests recorder rests → GivesPiece side rests rest recorder new (Ok used)) → recorder_limits new ≡ recorder_limits recorder
-      → RunGoesOn old new side run (drop used rest)
-  run_taken used gives kept limits taken before =
-      let so_far = was limits taken before in
-      let more = piece_taken limits recorder new (taken ++ sent_by side so_far.front) side rest so_far.recorded used (gives so_far.recorded.rests so_far.recorded.stands) kept in
-      record {
-        front = so_far.front ++ take used rest;
-        run_is = so_far.run_is ∙ ap (λ t. so_far.front ++ t) (sym (take-append-drop used rest)) ∙ sym (append_assoc so_far.front (take used rest) (drop used rest));
-        recorded = subst (HasRecorded limits new) (sent_on taken (sent_by side so_far.front) side so_far.front (take used rest) refl) more;
-      }
-
-  pub run_refused : (U : Type 0) (fault : RecorderFault) → ((rests : Side → List ℕ) → StandsForRests recorder rests → GivesPiece side rests rest recorder new (Err fault))
-      → (limits : FrameLimits) (taken : List (Side × ℕ)) → HasRecorded limits old taken → RecordsRun {U = U} limits new taken side run (Err fault)
-  run_refused U fault gives limits taken before =
-      let so_far = was limits taken before in
-      later fault so_far (piece_refused limits recorder new (taken ++ sent_by side so_far.front) side rest so_far.recorded U fault (gives so_far.recorded.rests so_far.recorded.stands))
-    where
-      later : (f : RecorderFault) → (so_far : RecordedFront limits recorder taken side run rest) → RecordsRun {U = U} limits new (taken ++ sent_by side so_far.front) side rest (Err f) → RecordsRun {U = U} limits new taken side run (Err f)
-      later Memory so_far h = tt
-      later (Frame s cause) so_far h =
-          let in_rest = h.1 in (
-            h.0,
-            record {
-              front = so_far.front ++ in_rest.front;
-              byte = in_rest.byte;
-              more = in_rest.more;
-              run_is = so_far.run_is ∙ ap (λ t. so_far.front ++ t) in_rest.run_is ∙ sym (append_assoc so_far.front in_rest.front (in_rest.byte ∷ in_rest.more));
-              messages = in_rest.messages;
-              rests = in_rest.rests;
-              recorded = subst (λ xs. AreRecorded limits xs in_rest.messages in_rest.rests) (sent_on taken (sent_by side so_far.front) side so_far.front in_rest.front refl) in_rest.recorded;
-              are_open = in_rest.are_open;
-              place = in_rest.place;
-              shows = in_rest.shows;
-              text = in_rest.text;
-            },
-          )
-
-  pub run_ended : rest ≡ [] → (limits : FrameLimits) (taken : List (Side × ℕ)) → HasRecorded limits old taken → HasRecorded limits recorder (taken ++ sent_by side run)
-  run_ended none limits taken before =
-      let so_far = was limits taken before in
-      subst (λ xs. HasRecorded limits recorder (taken ++ sent_by side xs)) (sym (so_far.run_is ∙ ap (λ t. so_far.front ++ t) none ∙ append-nil so_far.front)) so_far.recorded
-
--- what a run gave that has not been refused
-pub run_done : {U : Type 0} (limits : FrameLimits) (new : RecorderReading) (taken : List (Side × ℕ)) (side : Side) (run : List ℕ) (result : Result U RecorderFault)
-    → ((fault : RecorderFault) → result ≡ Err fault → ⊥) → RecordsRun limits new taken side run result → HasRecorded limits new (taken ++ sent_by side run)
-run_done limits new taken side run (Ok done) not_refused records = records
-run_done limits new taken side run (Err fault) not_refused records = absurd (not_refused fault refl)
-
--- ---- the whole input
-
--- What has been read of the whole has come, the reader and the recorder stand for its rests, and the last run was one of the last whole piece, where that was all.
-pub record Tracing (limits : Limits) (whole rest : List ℕ) (reader : TraceReading) (recorder : RecorderReading) (last : ℕ) : Type 0 where
+-- What has been read of the whole has come, the reader and the recorder stand for its rests, and
+-- the last run was one of the last whole piece, where that was all.
+pub record Tracing (limits : Limits) (whole rest : List ℕ) (reader : TraceReading)
+    (recorder : RecorderReading) (last : ℕ) : Type 0 where
   pub done : List ℕ
   pub so_far : SoFar limits.frame done
   pub whole_is : whole ≡ done ++ rest
   pub short : length whole ≤ limits.input
   pub raw : List ℕ
-  pub raw_is : (s : Side) (tail more : List ℕ) → so_far.rest ++ tail ≡ marker s ∷ more → so_far.raw ≡ sent_by s raw
+  pub raw_is : (s : Side) (tail more : List ℕ) → so_far.rest ++ tail ≡ marker s ∷ more
+      → so_far.raw ≡ sent_by s raw
   pub no_raw : raw ≡ [] → so_far.raw ≡ []
   pub reads : StandsForPiece reader (next_piece so_far) so_far.rest raw
   pub stands : StandsForRests recorder so_far.rests
@@ -188,8 +75,10 @@ pub record Tracing (limits : Limits) (whole rest : List ℕ) (reader : TraceRead
   pub text : text_of recorder ≡ recording_text so_far.messages
   pub last_is : so_far.rest ≡ [] → last ≡ length so_far.pieces
 
-pub start : (limits : Limits) (whole : List ℕ) (reader : TraceReading) (recorder : RecorderReading) → AreSound limits → length whole ≤ limits.input → StandsForPiece reader 1 [] []
-    → StandsForRests recorder (λ side. []) → text_of recorder ≡ [] → recorder_limits recorder ≡ limits.frame → Tracing limits whole whole reader recorder 0
+pub start : (limits : Limits) (whole : List ℕ) (reader : TraceReading) (recorder : RecorderReading)
+    → AreSound limits → length whole ≤ limits.input → StandsForPiece reader 1 [] []
+    → StandsForRests recorder (λ side. []) → text_of recorder ≡ []
+    → recorder_limits recorder ≡ limits.frame → Tracing limits whole whole reader recorder 0
 start limits whole reader recorder sound short reads stands text its_limits = record {
   done = [];
   so_far = nothing_came limits sound;
@@ -206,427 +95,692 @@ start limits whole reader recorder sound short reads stands text its_limits = re
 }
 
 -- what is kept of a piece, with its raw bytes
-kept_open : (at : TraceState) (bytes raw : List ℕ) (raws : List (Side × ℕ)) → IsKeptOfPiece at bytes raw → (raw ≡ [] → raws ≡ []) → ((s : Side) (more : List ℕ) → bytes ≡ marker s ∷ more → raws ≡ sent_by s raw)
+kept_open : (at : TraceState) (bytes raw : List ℕ) (raws : List (Side × ℕ))
+    → IsKeptOfPiece at bytes raw → (raw ≡ [] → raws ≡ [])
+    → ((s : Side) (more : List ℕ) → bytes ≡ marker s ∷ more → raws ≡ sent_by s raw)
     → IsOpenWith bytes raws
-kept_open state.Marker bytes raw raws kept none is = subst (IsOpenWith bytes) (sym (none kept.1)) (before_marker kept.0)
-kept_open (state.Count side count) bytes raw raws kept none is = subst (IsOpenWith bytes) (sym (none kept.3)) (in_count side kept.0 kept.1 (begun count kept.0 kept.2))
+kept_open state.Marker bytes raw raws kept none is =
+    subst (IsOpenWith bytes) (sym (none kept.1)) (before_marker kept.0)
+kept_open (state.Count side count) bytes raw raws kept none is =
+    subst (IsOpenWith bytes) (sym (none kept.3))
+    (in_count side kept.0 kept.1 (begun count kept.0 kept.2))
 kept_open (state.Raw side left) bytes raw raws kept none is =
     let some = kept.4 in
     subst (IsOpenWith bytes) (sym (is side (kept.0 ++ 10 ∷ raw) kept.1))
-    (in_raw side raw (record { text = kept.0; rest_is = kept.1; is_count = kept.2; to_come = omega (arith, kept.3, some) }))
+    (in_raw side raw
+    (record {
+      text = kept.0;
+      rest_is = kept.1;
+      is_count = kept.2;
+      to_come = omega (arith, kept.3, some);
+    }))
 kept_open (state.Failed cause) bytes raw raws kept none is = absurd kept
 
-kept_raw : (at : TraceState) (bytes raw more : List ℕ) (side : Side) → IsKeptOfPiece at bytes raw → 0 < length raw → bytes ≡ marker side ∷ more → IsInRaw bytes side raw
-kept_raw state.Marker bytes raw more side kept some begins = absurd (omega (arith, some, ap length kept.1))
-kept_raw (state.Count s count) bytes raw more side kept some begins = absurd (omega (arith, some, ap length kept.3))
+kept_raw : (at : TraceState) (bytes raw more : List ℕ) (side : Side) → IsKeptOfPiece at bytes raw
+    → 0 < length raw → bytes ≡ marker side ∷ more → IsInRaw bytes side raw
+kept_raw state.Marker bytes raw more side kept some begins =
+    absurd (omega (arith, some, ap length kept.1))
+kept_raw (state.Count s count) bytes raw more side kept some begins =
+    absurd (omega (arith, some, ap length kept.3))
 kept_raw (state.Raw s left) bytes raw more side kept some begins =
     let to_come = kept.4 in
     let same = heads (marker s) (marker side) (kept.0 ++ 10 ∷ raw) more (sym kept.1 ∙ begins) in
-    subst (λ t. IsInRaw bytes t raw) (marker_one s side same.0) (record { text = kept.0; rest_is = kept.1; is_count = kept.2; to_come = omega (arith, kept.3, to_come) })
+    subst (λ t. IsInRaw bytes t raw) (marker_one s side same.0)
+    (record {
+      text = kept.0;
+      rest_is = kept.1;
+      is_count = kept.2;
+      to_come = omega (arith, kept.3, to_come);
+    })
 kept_raw (state.Failed cause) bytes raw more side kept some begins = absurd kept
 
 -- what a call gave, by whether a run came
-module _ (number : ℕ) (bytes raw input : List ℕ) (fed : FedTrace) (new : TraceReading) (gives : GivesFedTrace number bytes raw input fed new) where
+module _ (number : ℕ) (bytes raw input : List ℕ) (fed : FedTrace) (new : TraceReading)
+    (gives : GivesFedTrace number bytes raw input fed new) where
   abbrev ByRun : Option TracePart → Type 0
   ByRun part = MatchOption part
       ((fed.used ≡ length input) × StandsForPiece new number (bytes ++ input) raw)
       (λ p. (p.piece ≡ number) × GivesRun number bytes raw input fed.used p.side p.bytes.now new)
 
-  pub fed_run : (part : TracePart) → fed.part ≡ Some part → (part.piece ≡ number) × GivesRun number bytes raw input fed.used part.side part.bytes.now new
+  pub fed_run : (part : TracePart) → fed.part ≡ Some part
+      → (part.piece ≡ number)
+      × GivesRun number bytes raw input fed.used part.side part.bytes.now new
   fed_run part is = subst ByRun is gives.1
 
-  pub fed_none : fed.part ≡ None → (fed.used ≡ length input) × StandsForPiece new number (bytes ++ input) raw
+  pub fed_none : fed.part ≡ None
+      → (fed.used ≡ length input) × StandsForPiece new number (bytes ++ input) raw
   fed_none is = subst ByRun is gives.1
 
-not_of_end : (n place : ℕ) (bytes : List ℕ) (cause : TraceCause) → ShowsTraceFault bytes cause place → IsOfEnd (Trace n cause) → ⊥
+not_of_end : (n place : ℕ) (bytes : List ℕ) (cause : TraceCause) → ShowsTraceFault bytes cause place
+    → IsOfEnd (Trace n cause) → ⊥
 not_of_end n place bytes cause shows ended =
     elim (fault_of shows.front cause shows.ends) [
       | inl is ↦ subst (λ c. IsOfEnd (Trace n c)) is ended
       | inr is ↦ subst (λ c. IsOfEnd (Trace n c)) is ended
     ]
 
-cut_of_end : (n : ℕ) (side : Side) (fault : FrameFault) → IsOfEnd (Recorder n (Frame side fault)) → fault ≡ frame_fault.Cut
+cut_of_end : (n : ℕ) (side : Side) (fault : FrameFault) → IsOfEnd (Recorder n (Frame side fault))
+    → fault ≡ frame_fault.Cut
 cut_of_end n side frame_fault.Cut h = refl
 cut_of_end n side other h = absurd h
 
-module _ (limits : Limits) (sound : AreSound limits) (whole rest : List ℕ) (reader : TraceReading) (recorder : RecorderReading) (last : ℕ) (was : Tracing limits whole rest reader recorder last) where
-  -- what was taken before
-  abbrev pub taken : List (Side × ℕ)
-  taken = bytes_of was.so_far.pieces ++ was.so_far.raw
+module _ (limits : Limits) (sound : AreSound limits) (whole rest : List ℕ) (reader : TraceReading)
+    (recorder : RecorderReading) (last : ℕ) (was : Tracing limits whole rest reader recorder last)
+  where
+    -- what was taken before
+    abbrev pub taken : List (Side × ℕ)
+    taken = bytes_of was.so_far.pieces ++ was.so_far.raw
 
-  -- what the recorder has recorded before a run
-  abbrev pub recorded_before : HasRecorded limits.frame recorder (bytes_of was.so_far.pieces ++ was.so_far.raw)
-  recorded_before = record {
-    messages = was.so_far.messages;
-    rests = was.so_far.rests;
-    recorded = was.so_far.recorded;
-    stands = was.stands;
-    its_limits = was.its_limits;
-    text = was.text;
-  }
+    -- what the recorder has recorded before a run
+    abbrev pub recorded_before : HasRecorded limits.frame recorder (bytes_of was.so_far.pieces
+        ++ was.so_far.raw)
+    recorded_before = record {
+      messages = was.so_far.messages;
+      rests = was.so_far.rests;
+      recorded = was.so_far.recorded;
+      stands = was.stands;
+      its_limits = was.its_limits;
+      text = was.text;
+    }
 
-  -- No run came.
-  pub no_run : (used : ℕ) (new : TraceReading) → used ≡ length rest → StandsForPiece new (next_piece was.so_far) (was.so_far.rest ++ rest) was.raw → 0 < length rest
-      → Tracing limits whole (drop used rest) new recorder last
-  no_run used new all stands some =
-      let over : drop used rest ≡ [] = nil_from_length (drop used rest) (omega (arith, all, length-drop used rest)) in
-      record {
-        done = was.done ++ rest;
-        so_far = record {
-          front = was.so_far.front;
-          pieces = was.so_far.pieces;
-          trace = was.so_far.trace;
-          rest = was.so_far.rest ++ rest;
-          split = ap (λ t. t ++ rest) was.so_far.split ∙ append_assoc was.so_far.front was.so_far.rest rest;
-          raw = was.so_far.raw;
-          of_rest = kept_open new.state (was.so_far.rest ++ rest) was.raw was.so_far.raw stands.kept was.no_raw (λ s more. was.raw_is s rest more);
-          messages = was.so_far.messages;
-          rests = was.so_far.rests;
-          recorded = was.so_far.recorded;
-          are_open = was.so_far.are_open;
-        };
-        whole_is = was.whole_is ∙ sym (ap (λ t. (was.done ++ rest) ++ t) over ∙ append-nil (was.done ++ rest));
-        short = was.short;
-        raw = was.raw;
-        raw_is = λ s tail more e. was.raw_is s (rest ++ tail) more (sym (append_assoc was.so_far.rest rest tail) ∙ e);
-        no_raw = was.no_raw;
-        reads = stands;
-        stands = was.stands;
-        its_limits = was.its_limits;
-        text = was.text;
-        last_is = λ none. absurd (omega (arith, some, ap length none, length-append was.so_far.rest rest));
-      }
-
-  module _ (used : ℕ) (side : Side) (run : List ℕ) (new : TraceReading) (within : used ≤ length rest) (gives : GivesRun (next_piece was.so_far) was.so_far.rest was.raw rest used side run new) where
-    raw_by : was.so_far.raw ≡ sent_by side was.raw
-    raw_by = was.raw_is side rest gives.begins.0 gives.begins.1
-
-    parts : whole ≡ was.so_far.front ++ ((was.so_far.rest ++ take used rest) ++ drop used rest)
-    parts =
-        was.whole_is ∙ ap (λ t. t ++ rest) was.so_far.split ∙ append_assoc was.so_far.front was.so_far.rest rest
-        ∙ ap (λ t. was.so_far.front ++ t) (ap (λ t. was.so_far.rest ++ t) (sym (take-append-drop used rest)) ∙ sym (append_assoc was.so_far.rest (take used rest) (drop used rest)))
-
-    few : length was.so_far.pieces ≤ length whole
-    few =
-        let fewer = few_items piece_grammar (not_empty readable) was.so_far.front was.so_far.pieces was.so_far.trace in
-        omega (arith, fewer, ap length parts, length-append was.so_far.front ((was.so_far.rest ++ take used rest) ++ drop used rest))
-
-    module _ (after : RecorderReading) (recorded : HasRecorded limits.frame after (taken ++ sent_by side run)) where
-      are_recorded : AreRecorded limits.frame (bytes_of was.so_far.pieces ++ sent_by side (was.raw ++ run)) recorded.messages recorded.rests
-      are_recorded = subst (λ xs. AreRecorded limits.frame xs recorded.messages recorded.rests) (sent_on (bytes_of was.so_far.pieces) was.so_far.raw side was.raw run raw_by) recorded.recorded
-
-      are_open : (s : Side) → IsOpen limits.frame (recorded.rests s)
-      are_open = stands_open limits.frame after recorded.rests recorded.stands recorded.its_limits
-
-      piece_ended : IsPiece (was.so_far.rest ++ take used rest) side (was.raw ++ run) → StandsForPiece new (next_number (next_piece was.so_far)) [] []
-          → Tracing limits whole (drop used rest) new after (next_piece was.so_far)
-      piece_ended is stands =
-          let last_piece : List ℕ = was.so_far.rest ++ take used rest in
-          let pieces : List (Side × List ℕ) = was.so_far.pieces ++ (side, was.raw ++ run) ∷ [] in
-          let more : length pieces ≡ length was.so_far.pieces + 1 = length-append was.so_far.pieces ((side, was.raw ++ run) ∷ []) in
-          let small = sound.input in
-          let short = was.short in
-          let number : next_number (next_piece was.so_far) ≡ length pieces + 1 = omega (arith, more, few, short, small) in
-          record {
-            done = was.so_far.front ++ last_piece;
-            so_far = with_piece limits.frame (was.so_far.front ++ last_piece) was.so_far.front was.so_far.pieces was.so_far.trace side (was.raw ++ run) recorded.messages recorded.rests are_recorded are_open last_piece is refl;
-            whole_is = parts ∙ sym (append_assoc was.so_far.front last_piece (drop used rest));
-            short = was.short;
-            raw = [];
-            raw_is = λ s tail more e. refl;
-            no_raw = λ e. refl;
-            reads = subst (λ n. StandsForPiece new n [] []) number stands;
-            stands = recorded.stands;
-            its_limits = recorded.its_limits;
-            text = recorded.text;
-            last_is = λ e. sym more;
-          }
-
-      piece_goes_on : used ≡ length rest → 0 < length run → StandsForPiece new (next_piece was.so_far) (was.so_far.rest ++ rest) (was.raw ++ run)
-          → Tracing limits whole (drop used rest) new after (next_piece was.so_far)
-      piece_goes_on all some stands =
-          let over : drop used rest ≡ [] = nil_from_length (drop used rest) (omega (arith, all, length-drop used rest)) in
-          let long : 0 < length (was.raw ++ run) = omega (arith, some, length-append was.raw run) in
-          let is = kept_raw new.state (was.so_far.rest ++ rest) (was.raw ++ run) gives.begins.0 side stands.kept long gives.begins.1 in
-          record {
-            done = was.so_far.front ++ (was.so_far.rest ++ rest);
-            so_far = with_raw limits.frame (was.so_far.front ++ (was.so_far.rest ++ rest)) was.so_far.front was.so_far.pieces was.so_far.trace side (was.raw ++ run) recorded.messages recorded.rests are_recorded are_open (was.so_far.rest ++ rest) is refl;
-            whole_is = was.whole_is ∙ ap (λ t. t ++ rest) was.so_far.split ∙ append_assoc was.so_far.front was.so_far.rest rest
-                ∙ sym (ap (λ t. (was.so_far.front ++ (was.so_far.rest ++ rest)) ++ t) over ∙ append-nil (was.so_far.front ++ (was.so_far.rest ++ rest)));
-            short = was.short;
-            raw = was.raw ++ run;
-            raw_is = λ s tail more e.
-                let same = heads (marker side) (marker s) (gives.begins.0 ++ tail) more (sym (ap (λ t. t ++ tail) gives.begins.1) ∙ e) in
-                ap (λ t. sent_by t (was.raw ++ run)) (marker_one side s same.0);
-            no_raw = λ none. absurd (omega (arith, long, ap length none));
-            reads = stands;
-            stands = recorded.stands;
-            its_limits = recorded.its_limits;
-            text = recorded.text;
-            last_is = λ none. absurd (not_begun (was.so_far.rest ++ rest) gives.begins.0 (marker side) none gives.begins.1);
-          }
-
-      -- A run came, and has been recorded.
-      pub run_recorded : (number : ℕ) → number ≡ next_piece was.so_far → Tracing limits whole (drop used rest) new after number
-      run_recorded number is =
-          subst (Tracing limits whole (drop used rest) new after) (sym is)
-          (elim gives.next [
-            | inl ended ↦ piece_ended ended.0 ended.1
-            | inr on ↦ piece_goes_on on.0 on.1 on.2
-          ])
-
-    -- the line of a count before the run
-    record Line : Type 0 where
-      text : List ℕ
-      bytes_are : was.so_far.rest ++ take used rest ≡ (marker side ∷ text) ++ 10 ∷ (was.raw ++ run)
-      is_count : IsCount text
-      enough : length (was.raw ++ run) ≤ number_of text
-
-    line : 0 < length run → Line
-    line some =
-        elim gives.next [
-          | inl ended ↦ (let is = parts_of (was.so_far.rest ++ take used rest) side (was.raw ++ run) ended.0 in let says = is.says in record { text = is.count; bytes_are = is.bytes_are; is_count = is.is_count; enough = omega (arith, says) })
-          | inr on ↦ (let long : 0 < length (was.raw ++ run) = omega (arith, some, length-append was.raw run) in
-              let is = kept_raw new.state (was.so_far.rest ++ rest) (was.raw ++ run) gives.begins.0 side on.2.kept long gives.begins.1 in
-              let to_come = is.to_come in
-              let whole_rest : take used rest ≡ rest = take_all used rest (let far : length rest ≤ used = omega (arith, on.0) in far) in
-              record { text = is.text; bytes_are = ap (λ t. was.so_far.rest ++ t) whole_rest ∙ is.rest_is; is_count = is.is_count; enough = omega (arith, to_come) })
-        ]
-
-    -- A byte of the run shows a fault.
-    pub fault_in_run : (bytes : List ℕ) → whole ≡ take limits.input bytes → (stop : Stop) (after : RecorderReading) (number : ℕ) (s : Side) (fault : FrameFault) {U : Type 0} → number ≡ next_piece was.so_far
-        → RecordsRun {U = U} limits.frame after (bytes_of was.so_far.pieces ++ was.so_far.raw) side run (Err (Frame s fault)) → HasTraced {U = U} limits bytes stop (Err (Recorder number (Frame s fault))) after
-    fault_in_run bytes is_front stop after number s fault number_is (same, there) =
-        let front : List ℕ = there.front in
-        let some : 0 < length run = omega (arith, ap length there.run_is, length-append front (there.byte ∷ there.more)) in
-        let its = line some in
-        let enough = its.enough in
-        let head : List ℕ = (marker side ∷ its.text) ++ 10 ∷ (was.raw ++ front) in
-        let beyond : List ℕ = there.more ++ (drop used rest ++ drop limits.input bytes) in
-        let run_is : was.raw ++ run ≡ (was.raw ++ front) ++ there.byte ∷ there.more = ap (λ t. was.raw ++ t) there.run_is ∙ sym (append_assoc was.raw front (there.byte ∷ there.more)) in
-        let is : IsInRaw head side (was.raw ++ front) = record {
-          text = its.text;
-          rest_is = refl;
-          is_count = its.is_count;
-          to_come = omega (arith, enough, ap length run_is, length-append (was.raw ++ front) (there.byte ∷ there.more));
-        } in
-        let at_line : was.so_far.rest ++ take used rest ≡ head ++ there.byte ∷ there.more =
-        its.bytes_are ∙ ap (λ t. (marker side ∷ its.text) ++ 10 ∷ t) run_is ∙ sym (append_assoc (marker side ∷ its.text) (10 ∷ (was.raw ++ front)) (there.byte ∷ there.more)) in
-        let whole_parts : whole ≡ (was.so_far.front ++ head) ++ there.byte ∷ (there.more ++ drop used rest) =
-        parts ∙ ap (λ t. was.so_far.front ++ (t ++ drop used rest)) at_line
-        ∙ ap (λ t. was.so_far.front ++ t) (append_assoc head (there.byte ∷ there.more) (drop used rest))
-        ∙ sym (append_assoc was.so_far.front head (there.byte ∷ (there.more ++ drop used rest))) in
-        let split : bytes ≡ (was.so_far.front ++ head) ++ there.byte ∷ beyond =
-        sym (take-append-drop limits.input bytes) ∙ ap (λ t. t ++ drop limits.input bytes) (sym is_front ∙ whole_parts)
-        ∙ append_assoc (was.so_far.front ++ head) (there.byte ∷ (there.more ++ drop used rest)) (drop limits.input bytes)
-        ∙ ap (λ t. (was.so_far.front ++ head) ++ there.byte ∷ t) (append_assoc there.more (drop used rest) (drop limits.input bytes)) in
-        let short = was.short in
-        let early : length (was.so_far.front ++ head) < limits.input = omega (arith, short, ap length whole_parts, length-append (was.so_far.front ++ head) (there.byte ∷ (there.more ++ drop used rest))) in
-        let recorded = subst (λ xs. AreRecorded limits.frame xs there.messages there.rests) (sent_on (bytes_of was.so_far.pieces) was.so_far.raw side was.raw front raw_by) there.recorded in
-        let come : SoFar limits.frame (was.so_far.front ++ head) = with_raw limits.frame (was.so_far.front ++ head) was.so_far.front was.so_far.pieces was.so_far.trace side (was.raw ++ front) there.messages there.rests recorded there.are_open head is refl in
-        let refused : IsTraceRefused limits bytes (Recorder (next_piece was.so_far) (Frame side fault)) there.messages =
-        at_byte (was.so_far.front ++ head) there.byte beyond split early come (of_frame side (was.raw ++ front) fault is there.shows) in
+    -- No run came.
+    pub no_run : (used : ℕ) (new : TraceReading) → used ≡ length rest
+        → StandsForPiece new (next_piece was.so_far) (was.so_far.rest ++ rest) was.raw
+        → 0 < length rest
+        → Tracing limits whole (drop used rest) new recorder last
+    no_run used new all stands some =
+        let over : drop used rest ≡ [] =
+        nil_from_length (drop used rest) (omega (arith, all, length-drop used rest)) in
         record {
-          messages = there.messages;
-          judges = (
-            subst (λ n. IsTraceRefused limits bytes (Recorder n (Frame s fault)) there.messages) (sym number_is)
-                (subst (λ t. IsTraceRefused limits bytes (Recorder (next_piece was.so_far) (Frame t fault)) there.messages) (sym same) refused),
-            λ ended. absurd ((shown_of_format limits.frame (there.rests side ++ there.byte ∷ []) fault there.place there.shows).0 (cut_of_end number s fault ended)),
-          );
-          text = there.text;
-        }
-
-    pub run_faulty : (bytes : List ℕ) → whole ≡ take limits.input bytes → (stop : Stop) (after : RecorderReading) (number : ℕ) (fault : RecorderFault) (U : Type 0) → number ≡ next_piece was.so_far
-        → (fault ≡ Memory → ⊥) → RecordsRun {U = U} limits.frame after (bytes_of was.so_far.pieces ++ was.so_far.raw) side run (Err fault) → HasTraced {U = U} limits bytes stop (Err (Recorder number fault)) after
-    run_faulty bytes is_front stop after number Memory U number_is some told = absurd (some refl)
-    run_faulty bytes is_front stop after number (Frame s cause) U number_is some told = fault_in_run bytes is_front stop after number s cause {U = U} number_is told
-
-  module _ (bytes : List ℕ) (is_front : whole ≡ take limits.input bytes) where
-    all_bytes : bytes ≡ was.so_far.front ++ ((was.so_far.rest ++ rest) ++ drop limits.input bytes)
-    all_bytes =
-        sym (take-append-drop limits.input bytes) ∙ ap (λ t. t ++ drop limits.input bytes) (sym is_front ∙ was.whole_is ∙ ap (λ t. t ++ rest) was.so_far.split ∙ append_assoc was.so_far.front was.so_far.rest rest)
-        ∙ append_assoc was.so_far.front (was.so_far.rest ++ rest) (drop limits.input bytes)
-
-    -- A byte of a marker or a count shows a fault.
-    pub fault_in_piece : (stop : Stop) (fault : TraceFault) (new : TraceReading) {U : Type 0} → GivesTraceFault (next_piece was.so_far) was.so_far.rest rest fault new
-        → HasTraced {U = U} limits bytes stop (Err (Trace fault.piece fault.cause)) recorder
-    fault_in_piece stop fault new gives =
-        let there = shown_by_byte piece_grammar was.so_far.rest rest fault.cause gives.shown.0 (open_of was.so_far.of_rest) gives.shown.1 in
-        let none = no_raw was.so_far.rest rest was.so_far.raw fault.cause gives.shown.0 was.so_far.of_rest gives.shown.1 in
-        let begun : List ℕ = was.so_far.rest ++ there.front in
-        let now = opened begun there.is_open in
-        let begun_is : was.so_far.rest ++ rest ≡ begun ++ there.byte ∷ there.behind = ap (λ t. was.so_far.rest ++ t) there.split ∙ sym (append_assoc was.so_far.rest there.front (there.byte ∷ there.behind)) in
-        let front : List ℕ = was.so_far.front ++ begun in
-        let split : bytes ≡ front ++ there.byte ∷ (there.behind ++ drop limits.input bytes) =
-        all_bytes ∙ ap (λ t. was.so_far.front ++ (t ++ drop limits.input bytes)) begun_is
-        ∙ ap (λ t. was.so_far.front ++ t) (append_assoc begun (there.byte ∷ there.behind) (drop limits.input bytes))
-        ∙ sym (append_assoc was.so_far.front begun (there.byte ∷ (there.behind ++ drop limits.input bytes))) in
-        let whole_parts : whole ≡ front ++ there.byte ∷ there.behind =
-        was.whole_is ∙ ap (λ t. t ++ rest) was.so_far.split ∙ append_assoc was.so_far.front was.so_far.rest rest ∙ ap (λ t. was.so_far.front ++ t) begun_is ∙ sym (append_assoc was.so_far.front begun (there.byte ∷ there.behind)) in
-        let short = was.short in
-        let come : SoFar limits.frame front = record {
-          front = was.so_far.front;
-          pieces = was.so_far.pieces;
-          trace = was.so_far.trace;
-          rest = begun;
-          split = refl;
-          raw = [];
-          of_rest = subst (IsOpenWith begun) (no_raw begun (there.byte ∷ []) now.0 fault.cause gives.shown.0 now.1 there.shows) now.1;
-          messages = was.so_far.messages;
-          rests = was.so_far.rests;
-          recorded = subst (λ xs. AreRecorded limits.frame (bytes_of was.so_far.pieces ++ xs) was.so_far.messages was.so_far.rests) none was.so_far.recorded;
-          are_open = was.so_far.are_open;
-        } in
-        let refused : IsTraceRefused limits bytes (Trace (next_piece was.so_far) fault.cause) was.so_far.messages =
-        at_byte front there.byte (there.behind ++ drop limits.input bytes) split (omega (arith, short, ap length whole_parts, length-append front (there.byte ∷ there.behind))) come (of_piece fault.cause there.shows) in
-        record {
-          messages = was.so_far.messages;
-          judges = (
-            subst (λ n. IsTraceRefused limits bytes (Trace n fault.cause) was.so_far.messages) (sym gives.piece_is) refused,
-            λ ended. absurd (not_of_end fault.piece gives.shown.0 (begun ++ there.byte ∷ []) fault.cause there.shows ended),
-          );
+          done = was.done ++ rest;
+          so_far = record {
+            front = was.so_far.front;
+            pieces = was.so_far.pieces;
+            trace = was.so_far.trace;
+            rest = was.so_far.rest ++ rest;
+            split = ap (λ t. t ++ rest) was.so_far.split
+                ∙ append_assoc was.so_far.front was.so_far.rest rest;
+            raw = was.so_far.raw;
+            of_rest = kept_open new.state (was.so_far.rest ++ rest) was.raw was.so_far.raw
+                stands.kept
+                was.no_raw (λ s more. was.raw_is s rest more);
+            messages = was.so_far.messages;
+            rests = was.so_far.rests;
+            recorded = was.so_far.recorded;
+            are_open = was.so_far.are_open;
+          };
+          whole_is = was.whole_is
+              ∙ sym (ap (λ t. (was.done ++ rest) ++ t) over ∙ append-nil (was.done ++ rest));
+          short = was.short;
+          raw = was.raw;
+          raw_is = λ s tail more e. was.raw_is s (rest ++ tail) more
+              (sym (append_assoc was.so_far.rest rest tail) ∙ e);
+          no_raw = was.no_raw;
+          reads = stands;
+          stands = was.stands;
+          its_limits = was.its_limits;
           text = was.text;
+          last_is = λ none. absurd
+              (omega (arith, some, ap length none, length-append was.so_far.rest rest));
         }
 
-    -- ---- at the end of what is taken
+    module _ (used : ℕ) (side : Side) (run : List ℕ) (new : TraceReading) (within : used
+        ≤ length rest)
+        (gives : GivesRun (next_piece was.so_far) was.so_far.rest was.raw rest used side run new)
+      where
+        raw_by : was.so_far.raw ≡ sent_by side was.raw
+        raw_by = was.raw_is side rest gives.begins.0 gives.begins.1
 
-    module _ (none : rest ≡ []) where
-      whole_done : whole ≡ was.done
-      whole_done = was.whole_is ∙ ap (λ t. was.done ++ t) none ∙ append-nil was.done
+        parts : whole ≡ was.so_far.front ++ ((was.so_far.rest ++ take used rest) ++ drop used rest)
+        parts =
+            was.whole_is ∙ ap (λ t. t ++ rest) was.so_far.split
+            ∙ append_assoc was.so_far.front was.so_far.rest rest
+            ∙ ap (λ t. was.so_far.front ++ t)
+            (ap (λ t. was.so_far.rest ++ t) (sym (take-append-drop used rest))
+            ∙ sym (append_assoc was.so_far.rest (take used rest) (drop used rest)))
 
-      pub too_long : {U : Type 0} (number : ℕ) → number ≡ next_piece was.so_far → limits.input < length bytes → HasTraced {U = U} limits bytes Full (Err (TraceTooLong number)) recorder
-      too_long {U} number is long = behind (drop limits.input bytes) refl
-        where
-          full : length was.done ≡ limits.input
-          full = let front = length-take limits.input bytes in omega (arith, long, front, ap length is_front, ap length whole_done)
+        few : length was.so_far.pieces ≤ length whole
+        few =
+            let fewer =
+            few_items piece_grammar (not_empty readable) was.so_far.front was.so_far.pieces
+            was.so_far.trace in
+            omega (
+              arith,
+              fewer,
+              ap length parts,
+              length-append was.so_far.front
+                  ((was.so_far.rest ++ take used rest) ++ drop used rest),
+            )
 
-          behind : (beyond : List ℕ) → drop limits.input bytes ≡ beyond → HasTraced {U = U} limits bytes Full (Err (TraceTooLong number)) recorder
-          behind [] e = absurd (omega (arith, long, ap length e, length-drop limits.input bytes))
-          behind (byte ∷ more) e = record {
+        module _ (after : RecorderReading)
+            (recorded : HasRecorded limits.frame after (taken ++ sent_by side run)) where
+          are_recorded : AreRecorded limits.frame (bytes_of was.so_far.pieces
+              ++ sent_by side (was.raw ++ run)) recorded.messages recorded.rests
+          are_recorded =
+              subst (λ xs. AreRecorded limits.frame xs recorded.messages recorded.rests)
+              (sent_on (bytes_of was.so_far.pieces) was.so_far.raw side was.raw run raw_by)
+              recorded.recorded
+
+          are_open : (s : Side) → IsOpen limits.frame (recorded.rests s)
+          are_open = stands_open limits.frame after recorded.rests recorded.stands
+              recorded.its_limits
+
+          piece_ended : IsPiece (was.so_far.rest ++ take used rest) side (was.raw ++ run)
+              → StandsForPiece new (next_number (next_piece was.so_far)) [] []
+              → Tracing limits whole (drop used rest) new after (next_piece was.so_far)
+          piece_ended is stands =
+              let last_piece : List ℕ = was.so_far.rest ++ take used rest in
+              let pieces : List (Side × List ℕ) = was.so_far.pieces ++ (side, was.raw ++ run)
+              ∷ [] in
+              let more : length pieces ≡ length was.so_far.pieces + 1 =
+              length-append was.so_far.pieces ((side, was.raw ++ run) ∷ []) in
+              let small = sound.input in
+              let short = was.short in
+              let number : next_number (next_piece was.so_far) ≡ length pieces + 1 =
+              omega (arith, more, few, short, small) in
+              record {
+                done = was.so_far.front ++ last_piece;
+                so_far = with_piece limits.frame (was.so_far.front ++ last_piece) was.so_far.front
+                    was.so_far.pieces was.so_far.trace side (was.raw ++ run) recorded.messages
+                    recorded.rests are_recorded are_open last_piece is refl;
+                whole_is = parts ∙ sym (append_assoc was.so_far.front last_piece (drop used rest));
+                short = was.short;
+                raw = [];
+                raw_is = λ s tail more e. refl;
+                no_raw = λ e. refl;
+                reads = subst (λ n. StandsForPiece new n [] []) number stands;
+                stands = recorded.stands;
+                its_limits = recorded.its_limits;
+                text = recorded.text;
+                last_is = λ e. sym more;
+              }
+
+          piece_goes_on : used ≡ length rest → 0 < length run
+              → StandsForPiece new (next_piece was.so_far) (was.so_far.rest ++ rest)
+              (was.raw ++ run)
+              → Tracing limits whole (drop used rest) new after (next_piece was.so_far)
+          piece_goes_on all some stands =
+              let over : drop used rest ≡ [] =
+              nil_from_length (drop used rest) (omega (arith, all, length-drop used rest)) in
+              let long : 0 < length (was.raw ++ run) = omega
+              (arith, some, length-append was.raw run) in
+              let is = kept_raw new.state (was.so_far.rest ++ rest) (was.raw ++ run) gives.begins.0
+              side
+              stands.kept long gives.begins.1 in
+              record {
+                done = was.so_far.front ++ (was.so_far.rest ++ rest);
+                so_far = with_raw limits.frame (was.so_far.front ++ (was.so_far.rest ++ rest))
+                    was.so_far.front was.so_far.pieces was.so_far.trace side (was.raw ++ run)
+                    recorded.messages recorded.rests are_recorded are_open
+                    (was.so_far.rest ++ rest) is
+                    refl;
+                whole_is = was.whole_is ∙ ap (λ t. t ++ rest) was.so_far.split
+                    ∙ append_assoc was.so_far.front was.so_far.rest rest
+                    ∙ sym (ap (λ t. (was.so_far.front ++ (was.so_far.rest ++ rest)) ++ t) over
+                    ∙ append-nil (was.so_far.front ++ (was.so_far.rest ++ rest)));
+                short = was.short;
+                raw = was.raw ++ run;
+                raw_is = λ s tail more e.
+                    let same = heads (marker side) (marker s) (gives.begins.0 ++ tail) more
+                    (sym (ap (λ t. t ++ tail) gives.begins.1) ∙ e) in
+                    ap (λ t. sent_by t (was.raw ++ run)) (marker_one side s same.0);
+                no_raw = λ none. absurd (omega (arith, long, ap length none));
+                reads = stands;
+                stands = recorded.stands;
+                its_limits = recorded.its_limits;
+                text = recorded.text;
+                last_is = λ none. absurd
+                    (not_begun (was.so_far.rest ++ rest) gives.begins.0 (marker side) none
+                    gives.begins.1);
+              }
+
+          -- A run came, and has been recorded.
+          pub run_recorded : (number : ℕ) → number ≡ next_piece was.so_far
+              → Tracing limits whole (drop used rest) new after number
+          run_recorded number is =
+              subst (Tracing limits whole (drop used rest) new after) (sym is)
+              (elim gives.next [
+                | inl ended ↦ piece_ended ended.0 ended.1
+                | inr on ↦ piece_goes_on on.0 on.1 on.2
+              ])
+
+        -- the line of a count before the run
+        record Line : Type 0 where
+          text : List ℕ
+          bytes_are : was.so_far.rest ++ take used rest ≡ (marker side ∷ text) ++ 10
+              ∷ (was.raw ++ run)
+          is_count : IsCount text
+          enough : length (was.raw ++ run) ≤ number_of text
+
+        line : 0 < length run → Line
+        line some =
+            elim gives.next [
+              | inl ended ↦
+                  (let is = parts_of (was.so_far.rest ++ take used rest) side (was.raw ++ run)
+                  ended.0
+                  in let says =
+                  is.says in record {
+                    text = is.count;
+                    bytes_are = is.bytes_are;
+                    is_count = is.is_count;
+                    enough = omega (arith, says);
+                  })
+              | inr on ↦ (let long : 0
+                  < length (was.raw ++ run) = omega (arith, some, length-append was.raw run) in
+                  let is = kept_raw new.state (was.so_far.rest ++ rest) (was.raw ++ run)
+                  gives.begins.0
+                  side on.2.kept long gives.begins.1 in
+                  let to_come = is.to_come in
+                  let whole_rest : take used rest ≡ rest =
+                  take_all used rest (let far : length rest ≤ used = omega (arith, on.0) in far) in
+                  record {
+                    text = is.text;
+                    bytes_are = ap (λ t. was.so_far.rest ++ t) whole_rest
+                        ∙ is.rest_is;
+                    is_count = is.is_count;
+                    enough = omega (arith, to_come);
+                  })
+            ]
+
+        -- A byte of the run shows a fault.
+        pub fault_in_run : (bytes : List ℕ) → whole ≡ take limits.input bytes
+            → (stop : Stop) (after : RecorderReading) (number : ℕ) (s : Side) (fault : FrameFault)
+            {U : Type 0} → number ≡ next_piece was.so_far
+            → RecordsRun {U = U} limits.frame after (bytes_of was.so_far.pieces ++ was.so_far.raw)
+            side
+            run (Err (Frame s fault))
+            → HasTraced {U = U} limits bytes stop (Err (Recorder number (Frame s fault))) after
+        fault_in_run bytes is_front stop after number s fault number_is (same, there) =
+            let front : List ℕ = there.front in
+            let some : 0 < length run =
+            omega (arith, ap length there.run_is, length-append front (there.byte ∷ there.more)) in
+            let its = line some in
+            let enough = its.enough in
+            let head : List ℕ = (marker side ∷ its.text) ++ 10 ∷ (was.raw ++ front) in
+            let beyond : List ℕ = there.more ++ (drop used rest ++ drop limits.input bytes) in
+            let run_is : was.raw ++ run ≡ (was.raw ++ front) ++ there.byte ∷ there.more =
+            ap (λ t. was.raw ++ t) there.run_is
+            ∙ sym (append_assoc was.raw front (there.byte ∷ there.more)) in
+            let is : IsInRaw head side (was.raw ++ front) = record {
+              text = its.text;
+              rest_is = refl;
+              is_count = its.is_count;
+              to_come = omega (
+                arith,
+                enough,
+                ap length run_is,
+                length-append (was.raw ++ front) (there.byte ∷ there.more),
+              );
+            } in
+            let at_line : was.so_far.rest ++ take used rest ≡ head ++ there.byte ∷ there.more =
+            its.bytes_are ∙ ap (λ t. (marker side ∷ its.text) ++ 10 ∷ t) run_is
+            ∙ sym (append_assoc (marker side ∷ its.text) (10 ∷ (was.raw ++ front)) (there.byte
+            ∷ there.more)) in
+            let whole_parts : whole
+            ≡ (was.so_far.front ++ head) ++ there.byte ∷ (there.more ++ drop used rest) =
+            parts ∙ ap (λ t. was.so_far.front ++ (t ++ drop used rest)) at_line
+            ∙ ap (λ t. was.so_far.front ++ t)
+            (append_assoc head (there.byte ∷ there.more) (drop used rest))
+            ∙ sym (append_assoc was.so_far.front head
+            (there.byte ∷ (there.more ++ drop used rest))) in
+            let split : bytes ≡ (was.so_far.front ++ head) ++ there.byte ∷ beyond =
+            sym (take-append-drop limits.input bytes)
+            ∙ ap (λ t. t ++ drop limits.input bytes) (sym is_front ∙ whole_parts)
+            ∙ append_assoc (was.so_far.front ++ head) (there.byte ∷ (there.more ++ drop used rest))
+            (drop limits.input bytes)
+            ∙ ap (λ t. (was.so_far.front ++ head) ++ there.byte ∷ t)
+            (append_assoc there.more (drop used rest) (drop limits.input bytes)) in
+            let short = was.short in
+            let early : length (was.so_far.front ++ head) < limits.input =
+            omega (
+              arith,
+              short,
+              ap length whole_parts,
+              length-append (was.so_far.front ++ head)
+                  (there.byte ∷ (there.more ++ drop used rest)),
+            )
+            in
+            let recorded =
+            subst (λ xs. AreRecorded limits.frame xs there.messages there.rests)
+            (sent_on (bytes_of was.so_far.pieces) was.so_far.raw side was.raw front raw_by)
+            there.recorded in
+            let come : SoFar limits.frame (was.so_far.front ++ head) =
+            with_raw limits.frame (was.so_far.front ++ head) was.so_far.front was.so_far.pieces
+            was.so_far.trace side (was.raw ++ front) there.messages there.rests recorded
+            there.are_open head is refl in
+            let refused : IsTraceRefused limits bytes
+            (Recorder (next_piece was.so_far) (Frame side fault)) there.messages =
+            at_byte (was.so_far.front ++ head) there.byte beyond split early come
+            (of_frame side (was.raw ++ front) fault is there.shows) in
+            record {
+              messages = there.messages;
+              judges = (
+                subst (λ n. IsTraceRefused limits bytes (Recorder n (Frame s fault)) there.messages)
+                    (sym number_is)
+                    (subst (λ t. IsTraceRefused limits bytes
+                    (Recorder (next_piece was.so_far) (Frame t fault)) there.messages) (sym same)
+                    refused),
+                λ ended. absurd
+                    ((shown_of_format limits.frame (there.rests side ++ there.byte ∷ []) fault
+                    there.place there.shows).0 (cut_of_end number s fault ended)),
+              );
+              text = there.text;
+            }
+
+        pub run_faulty : (bytes : List ℕ) → whole ≡ take limits.input bytes
+            → (stop : Stop) (after : RecorderReading) (number : ℕ) (fault : RecorderFault)
+            (U : Type 0)
+            → number ≡ next_piece was.so_far
+            → (fault ≡ Memory → ⊥)
+            → RecordsRun {U = U} limits.frame after (bytes_of was.so_far.pieces ++ was.so_far.raw)
+            side run (Err fault)
+            → HasTraced {U = U} limits bytes stop (Err (Recorder number fault)) after
+        run_faulty bytes is_front stop after number Memory U number_is some
+            told = absurd (some refl)
+        run_faulty bytes is_front stop after number (Frame s cause) U number_is some told =
+            fault_in_run bytes is_front stop after number s cause {U = U} number_is told
+
+    module _ (bytes : List ℕ) (is_front : whole ≡ take limits.input bytes) where
+      all_bytes : bytes ≡ was.so_far.front ++ ((was.so_far.rest ++ rest) ++ drop limits.input bytes)
+      all_bytes =
+          sym (take-append-drop limits.input bytes)
+          ∙ ap (λ t. t ++ drop limits.input bytes) (sym is_front ∙ was.whole_is
+          ∙ ap (λ t. t ++ rest) was.so_far.split
+          ∙ append_assoc was.so_far.front was.so_far.rest rest)
+          ∙ append_assoc was.so_far.front (was.so_far.rest ++ rest) (drop limits.input bytes)
+
+      -- A byte of a marker or a count shows a fault.
+      pub fault_in_piece : (stop : Stop) (fault : TraceFault) (new : TraceReading) {U : Type 0}
+          → GivesTraceFault (next_piece was.so_far) was.so_far.rest rest fault new
+          → HasTraced {U = U} limits bytes stop (Err (Trace fault.piece fault.cause)) recorder
+      fault_in_piece stop fault new gives =
+          let there =
+          shown_by_byte piece_grammar was.so_far.rest rest fault.cause gives.shown.0
+          (open_of was.so_far.of_rest) gives.shown.1 in
+          let none = no_raw was.so_far.rest rest was.so_far.raw fault.cause gives.shown.0
+          was.so_far.of_rest gives.shown.1 in
+          let begun : List ℕ = was.so_far.rest ++ there.front in
+          let now = opened begun there.is_open in
+          let begun_is : was.so_far.rest ++ rest ≡ begun ++ there.byte ∷ there.behind =
+          ap (λ t. was.so_far.rest ++ t) there.split
+          ∙ sym (append_assoc was.so_far.rest there.front (there.byte ∷ there.behind)) in
+          let front : List ℕ = was.so_far.front ++ begun in
+          let split : bytes ≡ front ++ there.byte ∷ (there.behind ++ drop limits.input bytes) =
+          all_bytes ∙ ap (λ t. was.so_far.front ++ (t ++ drop limits.input bytes)) begun_is
+          ∙ ap (λ t. was.so_far.front ++ t)
+          (append_assoc begun (there.byte ∷ there.behind) (drop limits.input bytes))
+          ∙ sym (append_assoc was.so_far.front begun (there.byte
+          ∷ (there.behind ++ drop limits.input bytes))) in
+          let whole_parts : whole ≡ front ++ there.byte ∷ there.behind =
+          was.whole_is ∙ ap (λ t. t ++ rest) was.so_far.split
+          ∙ append_assoc was.so_far.front was.so_far.rest rest
+          ∙ ap (λ t. was.so_far.front ++ t) begun_is
+          ∙ sym (append_assoc was.so_far.front begun (there.byte ∷ there.behind)) in
+          let short = was.short in
+          let come : SoFar limits.frame front = record {
+            front = was.so_far.front;
+            pieces = was.so_far.pieces;
+            trace = was.so_far.trace;
+            rest = begun;
+            split = refl;
+            raw = [];
+            of_rest = subst (IsOpenWith begun)
+                (no_raw begun (there.byte ∷ []) now.0 fault.cause gives.shown.0 now.1 there.shows)
+                now.1;
+            messages = was.so_far.messages;
+            rests = was.so_far.rests;
+            recorded = subst
+                (λ xs. AreRecorded limits.frame (bytes_of was.so_far.pieces ++ xs)
+                was.so_far.messages
+                was.so_far.rests) none was.so_far.recorded;
+            are_open = was.so_far.are_open;
+          } in
+          let refused : IsTraceRefused limits bytes (Trace (next_piece was.so_far) fault.cause)
+          was.so_far.messages =
+          at_byte front there.byte (there.behind ++ drop limits.input bytes) split
+          (omega (
+            arith,
+            short,
+            ap length whole_parts,
+            length-append front (there.byte ∷ there.behind),
+          )) come
+          (of_piece fault.cause there.shows) in
+          record {
             messages = was.so_far.messages;
             judges = (
-              subst (λ n. IsTraceRefused limits bytes (TraceTooLong n) was.so_far.messages) (sym is)
-                  (past_limit was.done byte more (sym (take-append-drop limits.input bytes) ∙ ap₂ (λ xs ys. xs ++ ys) (sym is_front ∙ whole_done) e) full was.so_far),
-              λ ended. absurd ended,
+              subst (λ n. IsTraceRefused limits bytes (Trace n fault.cause) was.so_far.messages)
+                  (sym gives.piece_is) refused,
+              λ ended. absurd
+                  (not_of_end fault.piece gives.shown.0 (begun ++ there.byte ∷ []) fault.cause
+                  there.shows ended),
             );
             text = was.text;
           }
 
-      module _ (short : length bytes ≤ limits.input) where
-        done_is : bytes ≡ was.done
-        done_is = sym (is_front ∙ take_all limits.input bytes short) ∙ whole_done
+      -- ---- at the end of what is taken
 
-        abbrev come : SoFar limits.frame bytes
-        come = record {
-          front = was.so_far.front;
-          pieces = was.so_far.pieces;
-          trace = was.so_far.trace;
-          rest = was.so_far.rest;
-          split = done_is ∙ was.so_far.split;
-          raw = was.so_far.raw;
-          of_rest = was.so_far.of_rest;
-          messages = was.so_far.messages;
-          rests = was.so_far.rests;
-          recorded = was.so_far.recorded;
-          are_open = was.so_far.are_open;
-        }
+      module _ (none : rest ≡ []) where
+        whole_done : whole ≡ was.done
+        whole_done = was.whole_is ∙ ap (λ t. was.done ++ t) none ∙ append-nil was.done
 
-        pub failed : {U : Type 0} → HasTraced {U = U} limits bytes Failed (Err ReadFault) recorder
-        failed = record {
-          messages = was.so_far.messages;
-          judges = (refl, not_refused (at_the_end limits bytes come short));
-          text = was.text;
-        }
+        pub too_long : {U : Type 0} (number : ℕ) → number ≡ next_piece was.so_far
+            → limits.input < length bytes
+            → HasTraced {U = U} limits bytes Full (Err (TraceTooLong number)) recorder
+        too_long {U} number is long = behind (drop limits.input bytes) refl
           where
-            not_refused : IsRecordedAs limits bytes was.so_far.messages ⊎ ((refused : Refused) × IsOfEnd refused × EndsInside come refused) → IsNotRefused limits bytes was.so_far.messages
-            not_refused (inl is) = inl is
-            not_refused (inr inside) = inr (inside.0, inside.1, at_end short come inside.2)
+            full : length was.done ≡ limits.input
+            full = let front =
+                length-take limits.input bytes in omega
+                (arith, long, front, ap length is_front, ap length whole_done)
 
-        pub cut_in_piece : {U : Type 0} (number : ℕ) (cause : TraceCause) → number ≡ next_piece was.so_far → cause ≡ trace_cause.Cut → was.so_far.rest ≢ [] → HasTraced {U = U} limits bytes End (Err (Trace number cause)) recorder
-        cut_in_piece {U} number cause is cut some =
-            subst (λ c. HasTraced {U = U} limits bytes End (Err (Trace number c)) recorder) (sym cut)
-            (record {
+            behind : (beyond : List ℕ) → drop limits.input bytes ≡ beyond
+                → HasTraced {U = U} limits bytes Full (Err (TraceTooLong number)) recorder
+            behind [] e = absurd (omega (arith, long, ap length e, length-drop limits.input bytes))
+            behind (byte ∷ more) e = record {
               messages = was.so_far.messages;
-              judges = (subst (λ n. IsTraceRefused limits bytes (Trace n trace_cause.Cut) was.so_far.messages) (sym is) (at_end short come (a_piece some)), λ ended. refl);
+              judges = (
+                subst (λ n. IsTraceRefused limits bytes (TraceTooLong n) was.so_far.messages)
+                    (sym is)
+                    (past_limit was.done byte more (sym (take-append-drop limits.input bytes)
+                    ∙ ap₂ (λ xs ys. xs ++ ys) (sym is_front ∙ whole_done) e) full was.so_far),
+                λ ended. absurd ended,
+              );
               text = was.text;
-            })
+            }
 
-        module _ (over : was.so_far.rest ≡ []) where
-          pub all_recorded : {U : Type 0} (done : U) → (was.so_far.rests Client ≡ []) × (was.so_far.rests Adapter ≡ []) → HasTraced limits bytes End (Ok done) recorder
-          all_recorded done (client, adapter) = record { messages = was.so_far.messages; judges = (refl, recorded_whole limits bytes come short over each); text = was.text }
+        module _ (short : length bytes ≤ limits.input) where
+          done_is : bytes ≡ was.done
+          done_is = sym (is_front ∙ take_all limits.input bytes short) ∙ whole_done
+
+          abbrev come : SoFar limits.frame bytes
+          come = record {
+            front = was.so_far.front;
+            pieces = was.so_far.pieces;
+            trace = was.so_far.trace;
+            rest = was.so_far.rest;
+            split = done_is ∙ was.so_far.split;
+            raw = was.so_far.raw;
+            of_rest = was.so_far.of_rest;
+            messages = was.so_far.messages;
+            rests = was.so_far.rests;
+            recorded = was.so_far.recorded;
+            are_open = was.so_far.are_open;
+          }
+
+          pub failed : {U : Type 0} → HasTraced {U = U} limits bytes Failed (Err ReadFault) recorder
+          failed = record {
+            messages = was.so_far.messages;
+            judges = (refl, not_refused (at_the_end limits bytes come short));
+            text = was.text;
+          }
             where
-              each : (side : Side) → was.so_far.rests side ≡ []
-              each Client = client
-              each Adapter = adapter
+              not_refused : IsRecordedAs limits bytes was.so_far.messages
+                  ⊎ ((refused : Refused) × IsOfEnd refused × EndsInside come refused)
+                  → IsNotRefused limits bytes was.so_far.messages
+              not_refused (inl is) = inl is
+              not_refused (inr inside) = inr (inside.0, inside.1, at_end short come inside.2)
 
-          pub cut_in_frame : (U : Type 0) {V : Type 0} (result : Result V RecorderFault) (fault : RecorderFault) → result ≡ Err fault
-              → ((was.so_far.rests Client ≡ []) × (was.so_far.rests Adapter ≡ []) → ⊥)
-              → (was.so_far.rests Client ≢ [] → result ≡ Err (Frame Client frame_fault.Cut))
-              → (was.so_far.rests Client ≡ [] → was.so_far.rests Adapter ≢ [] → result ≡ Err (Frame Adapter frame_fault.Cut))
-              → HasTraced {U = U} limits bytes End (Err (Recorder last fault)) recorder
-          cut_in_frame U {V} result fault is not_both client adapter = by_client (was.so_far.rests Client) refl
-            where
-              told : (s : Side) → result ≡ Err (Frame s frame_fault.Cut) → IsTraceRefused limits bytes (Recorder (length was.so_far.pieces) (Frame s frame_fault.Cut)) was.so_far.messages
-                  → HasTraced {U = U} limits bytes End (Err (Recorder last fault)) recorder
-              told s e refused =
-                  let same : fault ≡ Frame s frame_fault.Cut = (let both : ◌≡◌ {A = Result V RecorderFault} (Err fault) (Err (Frame s frame_fault.Cut)) = sym is ∙ e in cc) in
-                  subst (λ f. HasTraced {U = U} limits bytes End (Err (Recorder last f)) recorder) (sym same)
-                  (record {
-                    messages = was.so_far.messages;
-                    judges = (subst (λ n. IsTraceRefused limits bytes (Recorder n (Frame s frame_fault.Cut)) was.so_far.messages) (sym (was.last_is over)) refused, λ ended. refl);
-                    text = was.text;
-                  })
+          pub cut_in_piece : {U : Type 0} (number : ℕ) (cause : TraceCause)
+              → number ≡ next_piece was.so_far → cause ≡ trace_cause.Cut → was.so_far.rest ≢ []
+              → HasTraced {U = U} limits bytes End (Err (Trace number cause)) recorder
+          cut_in_piece {U} number cause is cut some =
+              subst (λ c. HasTraced {U = U} limits bytes End (Err (Trace number c)) recorder)
+              (sym cut)
+              (record {
+                messages = was.so_far.messages;
+                judges = (
+                  subst
+                      (λ n. IsTraceRefused limits bytes (Trace n trace_cause.Cut)
+                      was.so_far.messages)
+                      (sym is) (at_end short come (a_piece some)),
+                  λ ended. refl,
+                );
+                text = was.text;
+              })
 
-              some_byte : (r xs : List ℕ) (b : ℕ) → r ≡ b ∷ xs → r ≢ []
-              some_byte r xs b e none = not_begun r xs b none e
+          module _ (over : was.so_far.rest ≡ []) where
+            pub all_recorded : {U : Type 0} (done : U)
+                → (was.so_far.rests Client ≡ []) × (was.so_far.rests Adapter ≡ [])
+                → HasTraced limits bytes End (Ok done) recorder
+            all_recorded done (client, adapter) =
+                record {
+                  messages = was.so_far.messages;
+                  judges = (refl, recorded_whole limits bytes come short over each);
+                  text = was.text;
+                }
+              where
+                each : (side : Side) → was.so_far.rests side ≡ []
+                each Client = client
+                each Adapter = adapter
 
-              by_adapter : (r : List ℕ) → was.so_far.rests Adapter ≡ r → was.so_far.rests Client ≡ [] → HasTraced {U = U} limits bytes End (Err (Recorder last fault)) recorder
-              by_adapter [] e empty = absurd (not_both (empty, e))
-              by_adapter (b ∷ r) e empty =
-                  let some = some_byte (was.so_far.rests Adapter) r b e in
-                  told Adapter (adapter empty some) (at_end short come (an_adapter_frame over empty some))
+            pub cut_in_frame : (U : Type 0) {V : Type 0} (result : Result V RecorderFault)
+                (fault : RecorderFault) → result ≡ Err fault
+                → ((was.so_far.rests Client ≡ []) × (was.so_far.rests Adapter ≡ []) → ⊥)
+                → (was.so_far.rests Client ≢ [] → result ≡ Err (Frame Client frame_fault.Cut))
+                → (was.so_far.rests Client ≡ [] → was.so_far.rests Adapter ≢ []
+                → result ≡ Err (Frame Adapter frame_fault.Cut))
+                → HasTraced {U = U} limits bytes End (Err (Recorder last fault)) recorder
+            cut_in_frame U {V} result fault is not_both client adapter =
+                by_client (was.so_far.rests Client) refl
+              where
+                told : (s : Side) → result ≡ Err (Frame s frame_fault.Cut)
+                    → IsTraceRefused limits bytes
+                    (Recorder (length was.so_far.pieces) (Frame s frame_fault.Cut))
+                    was.so_far.messages
+                    → HasTraced {U = U} limits bytes End (Err (Recorder last fault)) recorder
+                told s e refused =
+                    let same : fault ≡ Frame s frame_fault.Cut =
+                    (let both : ◌≡◌ {A = Result V RecorderFault} (Err fault)
+                    (Err (Frame s frame_fault.Cut)) = sym is ∙ e in cc) in
+                    subst (λ f. HasTraced {U = U} limits bytes End (Err (Recorder last f)) recorder)
+                    (sym same)
+                    (record {
+                      messages = was.so_far.messages;
+                      judges = (
+                        subst
+                            (λ n. IsTraceRefused limits bytes (Recorder n (Frame s frame_fault.Cut))
+                            was.so_far.messages) (sym (was.last_is over)) refused,
+                        λ ended. refl,
+                      );
+                      text = was.text;
+                    })
 
-              by_client : (r : List ℕ) → was.so_far.rests Client ≡ r → HasTraced {U = U} limits bytes End (Err (Recorder last fault)) recorder
-              by_client [] e = by_adapter (was.so_far.rests Adapter) refl e
-              by_client (b ∷ r) e =
-                  let some = some_byte (was.so_far.rests Client) r b e in
-                  told Client (client some) (at_end short come (a_client_frame over some))
+                some_byte : (r xs : List ℕ) (b : ℕ) → r ≡ b ∷ xs → r ≢ []
+                some_byte r xs b e none = not_begun r xs b none e
 
-  -- A count of pieces is far from the last number.
-  pub last_small : was.so_far.rest ≡ [] → last + 1 < 2 ^ 63
-  last_small none =
-      let fewer = few_items piece_grammar (not_empty readable) was.so_far.front was.so_far.pieces was.so_far.trace in
-      let small = sound.input in
-      let short = was.short in
-      omega (arith, was.last_is none, fewer, small, short, ap length was.whole_is, length-append was.done rest, ap length was.so_far.split, length-append was.so_far.front was.so_far.rest)
+                by_adapter : (r : List ℕ) → was.so_far.rests Adapter ≡ r
+                    → was.so_far.rests Client ≡ []
+                    → HasTraced {U = U} limits bytes End (Err (Recorder last fault)) recorder
+                by_adapter [] e empty = absurd (not_both (empty, e))
+                by_adapter (b ∷ r) e empty =
+                    let some = some_byte (was.so_far.rests Adapter) r b e in
+                    told Adapter (adapter empty some)
+                    (at_end short come (an_adapter_frame over empty some))
+
+                by_client : (r : List ℕ) → was.so_far.rests Client ≡ r
+                    → HasTraced {U = U} limits bytes End (Err (Recorder last fault)) recorder
+                by_client [] e = by_adapter (was.so_far.rests Adapter) refl e
+                by_client (b ∷ r) e =
+                    let some = some_byte (was.so_far.rests Client) r b e in
+                    told Client (client some) (at_end short come (a_client_frame over some))
+
+    -- A count of pieces is far from the last number.
+    pub last_small : was.so_far.rest ≡ [] → last + 1 < 2 ^ 63
+    last_small none =
+        let fewer =
+        few_items piece_grammar (not_empty readable) was.so_far.front was.so_far.pieces
+        was.so_far.trace in
+        let small = sound.input in
+        let short = was.short in
+        omega (
+          arith,
+          was.last_is none,
+          fewer,
+          small,
+          short,
+          ap length was.whole_is,
+          length-append was.done rest,
+          ap length was.so_far.split,
+          length-append was.so_far.front was.so_far.rest,
+        )
 
 -- ---- the answer
 
 -- Where the records of a trace were sent, the trace is answered for.
-module _ {R W : Type 0} (U : Type 0) (left : R → Option (List ℕ)) (read_failures : R → ℕ) (out : W → Option (List ℕ)) (write_failures : W → ℕ) (limits : Limits) (old new : R) (before after : W)
-    (bytes : List ℕ) (stop : Stop) (came : HasCome left read_failures old new limits.input bytes stop) (recorder : RecorderReading) where
-  abbrev judged : (answer : Result U Refused) → HasTraced limits bytes stop answer recorder → HasJudgedTrace left read_failures out write_failures limits old new answer
-  judged answer traced = record { bytes = bytes; stop = stop; came = came; messages = traced.messages; judges = traced.judges }
+module _ {R W : Type 0} (U : Type 0) (left : R → Option (List ℕ)) (read_failures : R → ℕ) (out : W
+    → Option (List ℕ)) (write_failures : W → ℕ) (limits : Limits) (old new : R) (before after : W)
+    (bytes : List ℕ) (stop : Stop)
+    (came : HasCome left read_failures old new limits.input bytes stop)
+    (recorder : RecorderReading) where
+  abbrev judged : (answer : Result U Refused) → HasTraced limits bytes stop answer recorder
+      → HasJudgedTrace left read_failures out write_failures limits old new answer
+  judged answer traced =
+      record {
+        bytes = bytes;
+        stop = stop;
+        came = came;
+        messages = traced.messages;
+        judges = traced.judges;
+      }
 
-  sent : (answer result : Result U Refused) → (HasTraced limits bytes stop answer recorder → AllWritten out write_failures before after (text_of recorder) → RecordsTrace left read_failures out write_failures limits old new before after answer)
+  sent : (answer result : Result U Refused)
+      → (HasTraced limits bytes stop answer recorder
+      → AllWritten out write_failures before after (text_of recorder)
+      → RecordsTrace left read_failures out write_failures limits old new before after answer)
       → HasTraced limits bytes stop answer recorder
-      → ((result ≡ answer) × AllWritten out write_failures before after (text_of recorder)) ⊎ ((result ≡ Err WriteFault) × FrontWritten out write_failures before after (text_of recorder))
+      → ((result ≡ answer) × AllWritten out write_failures before after (text_of recorder))
+      ⊎ ((result ≡ Err WriteFault)
+      × FrontWritten out write_failures before after (text_of recorder))
       → RecordsTrace left read_failures out write_failures limits old new before after result
-  sent answer result all traced (inl (same, written)) = subst (RecordsTrace left read_failures out write_failures limits old new before after) (sym same) (all traced written)
+  sent answer result all traced (inl (same, written)) =
+      subst (RecordsTrace left read_failures out write_failures limits old new before after)
+      (sym same) (all traced written)
   sent answer result all traced (inr (same, written)) =
-      subst (RecordsTrace left read_failures out write_failures limits old new before after) (sym same)
+      subst (RecordsTrace left read_failures out write_failures limits old new before after)
+      (sym same)
       (record {
         answer = answer;
         judged = judged answer traced;
         written = subst (FrontWritten out write_failures before after) traced.text written;
       })
 
-  written_all : (answer : Result U Refused) → (traced : HasTraced limits bytes stop answer recorder) → AllWritten out write_failures before after (text_of recorder) → HasWrittenRecords left read_failures out write_failures limits old new before after answer
-  written_all answer traced written = record { judged = judged answer traced; written = subst (AllWritten out write_failures before after) traced.text written }
+  written_all : (answer : Result U Refused) → (traced : HasTraced limits bytes stop answer recorder)
+      → AllWritten out write_failures before after (text_of recorder)
+      → HasWrittenRecords left read_failures out write_failures limits old new before after answer
+  written_all answer traced written =
+      record {
+        judged = judged answer traced;
+        written = subst (AllWritten out write_failures before after) traced.text written;
+      }
 
-  pub answered : (answer result : Result U Refused) → Traces limits bytes stop answer recorder → HasSentRecords out write_failures (text_of recorder) answer before after result
+  pub answered : (answer result : Result U Refused) → Traces limits bytes stop answer recorder
+      → HasSentRecords out write_failures (text_of recorder) answer before after result
       → RecordsTrace left read_failures out write_failures limits old new before after result
-  answered (Err NoMemory) result traced has_sent = subst (RecordsTrace left read_failures out write_failures limits old new before after) (sym has_sent.0) has_sent.1
+  answered (Err NoMemory) result traced has_sent =
+      subst (RecordsTrace left read_failures out write_failures limits old new before after)
+      (sym has_sent.0) has_sent.1
   answered (Err WriteFault) result traced has_sent = absurd traced.judges
-  answered (Ok done) result traced has_sent = sent (Ok done) result (written_all (Ok done)) traced has_sent
-  answered (Err because) result traced has_sent = sent (Err because) result (written_all (Err because)) traced has_sent
+  answered (Ok done) result traced has_sent =
+      sent (Ok done) result (written_all (Ok done)) traced has_sent
+  answered (Err because) result traced has_sent =
+      sent (Err because) result (written_all (Err because)) traced has_sent

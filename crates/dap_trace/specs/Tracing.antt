@@ -1,5 +1,6 @@
--- What `record` writes of a trace, and what it refuses. Source: own, over the frames of the DAP base protocol.
--- A trace is whole pieces and then a rest, which may still become a piece; what both sides sent in it is records and then a rest of each side, which may still become a frame.
+-- What `record` writes of a trace, and what it refuses. Source: own, over the frames of the DAP
+-- base protocol. A trace is whole pieces and then a rest, which may still become a piece; what both
+-- sides sent in it is records and then a rest of each side, which may still become a frame.
 use Rattle.std.specs.Prelude.{◌≡◌, ◌≢◌, ◌⊎◌, ℕ, ◌+◌, ◌<◌, ◌≤◌, List, [], ◌∷◌, ◌++◌, length, map}
 use Rattle.dap_frame.specs.declared.fault.FrameFault.{FrameFault}
 use Rattle.dap_frame.specs.declared.fault.FrameFault.TheVariants.{Cut}
@@ -23,20 +24,25 @@ use Rattle.dap_input.specs.Limits.{AreSound}
 abbrev pub sent_by : Side → List ℕ → List (Side × ℕ)
 sent_by side bytes = map (λ byte. (side, byte)) bytes
 
--- Of the piece that the rest begins the count has ended; these raw bytes of its side have come, and more are to come.
+-- Of the piece that the rest begins the count has ended; these raw bytes of its side have come, and
+-- more are to come.
 pub record IsInRaw (rest : List ℕ) (side : Side) (raw : List ℕ) : Type 0 where
   pub text : List ℕ
   pub rest_is : rest ≡ (marker side ∷ text) ++ 10 ∷ raw
   pub is_count : IsCount text
   pub to_come : length raw < number_of text
 
--- The rest may still become a piece, and these of its bytes are raw bytes of a side: none before the count has ended.
+-- The rest may still become a piece, and these of its bytes are raw bytes of a side: none before
+-- the count has ended.
 pub data IsOpenWith (rest : List ℕ) : List (Side × ℕ) → Type 0 where
   before_marker : rest ≡ [] → IsOpenWith rest []
-  in_count : (side : Side) (text : List ℕ) → rest ≡ marker side ∷ text → (text ≡ []) ⊎ IsCount text → IsOpenWith rest []
+  in_count : (side : Side) (text : List ℕ) → rest ≡ marker side ∷ text → (text ≡ []) ⊎ IsCount text
+      → IsOpenWith rest []
   in_raw : (side : Side) (raw : List ℕ) → IsInRaw rest side raw → IsOpenWith rest (sent_by side raw)
 
--- These bytes of a trace have come, and show no fault: whole pieces and a rest, and in what both sides sent the records of whole frames, in the order of the bytes that end them, and a rest of each side.
+-- These bytes of a trace have come, and show no fault: whole pieces and a rest, and in what both
+-- sides sent the records of whole frames, in the order of the bytes that end them, and a rest of
+-- each side.
 pub record SoFar (limits : FrameLimits) (bytes : List ℕ) : Type 0 where
   pub front : List ℕ
   pub pieces : List (Side × List ℕ)
@@ -50,8 +56,10 @@ pub record SoFar (limits : FrameLimits) (bytes : List ℕ) : Type 0 where
   pub recorded : AreRecorded limits (bytes_of pieces ++ raw) messages rests
   pub are_open : (side : Side) → IsOpen limits (rests side)
 
--- The trace is whole pieces within the limit, and what both sides sent in them is whole frames of these messages.
-pub record IsRecordedAs (limits : Limits) (bytes : List ℕ) (messages : List (Side × List ℕ)) : Type 0 where
+-- The trace is whole pieces within the limit, and what both sides sent in them is whole frames of
+-- these messages.
+pub record IsRecordedAs (limits : Limits) (bytes : List ℕ) (messages : List (Side × List ℕ)) : Type
+    0 where
   pub short : length bytes ≤ limits.input
   pub pieces : List (Side × List ℕ)
   pub trace : IsTrace bytes pieces
@@ -61,26 +69,43 @@ pub record IsRecordedAs (limits : Limits) (bytes : List ℕ) (messages : List (S
 abbrev pub next_piece : {limits : FrameLimits} {bytes : List ℕ} → SoFar limits bytes → ℕ
 next_piece so_far = length so_far.pieces + 1
 
--- Behind what has come this byte shows a fault: as one of a piece's marker or count, or as a raw byte in a frame of its side.
-pub data ByteShows {limits : FrameLimits} {bytes : List ℕ} (so_far : SoFar limits bytes) (byte : ℕ) : Refused → Type 0 where
-  of_piece : (cause : TraceCause) {place : ℕ} → ShowsTraceFault (so_far.rest ++ byte ∷ []) cause place → ByteShows so_far byte (Trace (next_piece so_far) cause)
-  of_frame : (side : Side) (raw : List ℕ) (fault : FrameFault) {place : ℕ} → IsInRaw so_far.rest side raw → Shows limits (so_far.rests side ++ byte ∷ []) fault place
+-- Behind what has come this byte shows a fault: as one of a piece's marker or count, or as a raw
+-- byte in a frame of its side.
+pub data ByteShows {limits : FrameLimits} {bytes : List ℕ} (so_far : SoFar limits bytes)
+    (byte : ℕ) : Refused → Type 0 where
+  of_piece : (cause : TraceCause) {place : ℕ}
+      → ShowsTraceFault (so_far.rest ++ byte ∷ []) cause place
+      → ByteShows so_far byte (Trace (next_piece so_far) cause)
+  of_frame : (side : Side) (raw : List ℕ) (fault : FrameFault) {place : ℕ}
+      → IsInRaw so_far.rest side raw → Shows limits (so_far.rests side ++ byte ∷ []) fault place
       → ByteShows so_far byte (Recorder (next_piece so_far) (Frame side fault))
 
--- The trace ends inside a piece; or else, behind its last piece, inside a frame of the client; or else inside one of the adapter.
-pub data EndsInside {limits : FrameLimits} {bytes : List ℕ} (so_far : SoFar limits bytes) : Refused → Type 0 where
+-- The trace ends inside a piece; or else, behind its last piece, inside a frame of the client; or
+-- else inside one of the adapter.
+pub data EndsInside {limits : FrameLimits} {bytes : List ℕ} (so_far : SoFar limits bytes) : Refused
+    → Type 0 where
   a_piece : so_far.rest ≢ [] → EndsInside so_far (Trace (next_piece so_far) trace_cause.Cut)
-  a_client_frame : so_far.rest ≡ [] → so_far.rests Client ≢ [] → EndsInside so_far (Recorder (length so_far.pieces) (Frame Client Cut))
-  an_adapter_frame : so_far.rest ≡ [] → so_far.rests Client ≡ [] → so_far.rests Adapter ≢ [] → EndsInside so_far (Recorder (length so_far.pieces) (Frame Adapter Cut))
+  a_client_frame : so_far.rest ≡ [] → so_far.rests Client ≢ []
+      → EndsInside so_far (Recorder (length so_far.pieces) (Frame Client Cut))
+  an_adapter_frame : so_far.rest ≡ [] → so_far.rests Client ≡ [] → so_far.rests Adapter ≢ []
+      → EndsInside so_far (Recorder (length so_far.pieces) (Frame Adapter Cut))
 
--- The trace is refused for this, and these are the messages of the frames that ended before: a byte within the limit shows a fault, or there is a byte past the limit, or the trace ends where it may not. What stands behind that byte tells nothing.
-pub data IsTraceRefused (limits : Limits) (bytes : List ℕ) : Refused → List (Side × List ℕ) → Type 0 where
-  at_byte : (front : List ℕ) (byte : ℕ) (more : List ℕ) {refused : Refused} → bytes ≡ front ++ byte ∷ more → length front < limits.input
-      → (so_far : SoFar limits.frame front) → ByteShows so_far byte refused → IsTraceRefused limits bytes refused so_far.messages
-  past_limit : (front : List ℕ) (byte : ℕ) (more : List ℕ) → bytes ≡ front ++ byte ∷ more → length front ≡ limits.input
-      → (so_far : SoFar limits.frame front) → IsTraceRefused limits bytes (TraceTooLong (next_piece so_far)) so_far.messages
+-- The trace is refused for this, and these are the messages of the frames that ended before: a byte
+-- within the limit shows a fault, or there is a byte past the limit, or the trace ends where it may
+-- not. What stands behind that byte tells nothing.
+pub data IsTraceRefused (limits : Limits) (bytes : List ℕ) : Refused → List (Side × List ℕ)
+    → Type 0 where
+  at_byte : (front : List ℕ) (byte : ℕ) (more : List ℕ) {refused : Refused}
+      → bytes ≡ front ++ byte ∷ more → length front < limits.input
+      → (so_far : SoFar limits.frame front) → ByteShows so_far byte refused
+      → IsTraceRefused limits bytes refused so_far.messages
+  past_limit : (front : List ℕ) (byte : ℕ) (more : List ℕ) → bytes ≡ front ++ byte ∷ more
+      → length front ≡ limits.input
+      → (so_far : SoFar limits.frame front)
+      → IsTraceRefused limits bytes (TraceTooLong (next_piece so_far)) so_far.messages
   at_end : {refused : Refused} → length bytes ≤ limits.input
-      → (so_far : SoFar limits.frame bytes) → EndsInside so_far refused → IsTraceRefused limits bytes refused so_far.messages
+      → (so_far : SoFar limits.frame bytes) → EndsInside so_far refused
+      → IsTraceRefused limits bytes refused so_far.messages
 
 -- The trace is refused for its end alone.
 abbrev pub IsOfEnd : Refused → Type 0
@@ -88,18 +113,28 @@ IsOfEnd (Trace n trace_cause.Cut) = Unit {0}
 IsOfEnd (Recorder n (Frame side Cut)) = Unit {0}
 IsOfEnd _ = ⊥
 
--- A trace is recorded as one list of messages, or refused for one reason behind one list of messages, and not both.
+-- A trace is recorded as one list of messages, or refused for one reason behind one list of
+-- messages, and not both.
 pub record TraceHasOneOutcome (limits : Limits) : Type 0 where
-  pub some : (bytes : List ℕ) → ((messages : List (Side × List ℕ)) × IsRecordedAs limits bytes messages) ⊎ ((refused : Refused) × (messages : List (Side × List ℕ)) × IsTraceRefused limits bytes refused messages)
-  pub one_list : (bytes : List ℕ) (messages others : List (Side × List ℕ)) → IsRecordedAs limits bytes messages → IsRecordedAs limits bytes others → messages ≡ others
-  pub one_refusal : (bytes : List ℕ) (refused because : Refused) (messages others : List (Side × List ℕ))
-      → IsTraceRefused limits bytes refused messages → IsTraceRefused limits bytes because others → (refused ≡ because) × (messages ≡ others)
-  pub not_both : (bytes : List ℕ) (messages others : List (Side × List ℕ)) (refused : Refused) → IsRecordedAs limits bytes messages → IsTraceRefused limits bytes refused others → ⊥
+  pub some : (bytes : List ℕ)
+      → ((messages : List (Side × List ℕ)) × IsRecordedAs limits bytes messages)
+      ⊎ ((refused : Refused) × (messages : List (Side × List ℕ))
+      × IsTraceRefused limits bytes refused messages)
+  pub one_list : (bytes : List ℕ) (messages others : List (Side × List ℕ))
+      → IsRecordedAs limits bytes messages → IsRecordedAs limits bytes others → messages ≡ others
+  pub one_refusal : (bytes : List ℕ) (refused because : Refused)
+      (messages others : List (Side × List ℕ))
+      → IsTraceRefused limits bytes refused messages → IsTraceRefused limits bytes because others
+      → (refused ≡ because) × (messages ≡ others)
+  pub not_both : (bytes : List ℕ) (messages others : List (Side × List ℕ)) (refused : Refused)
+      → IsRecordedAs limits bytes messages → IsTraceRefused limits bytes refused others → ⊥
 
 abbrev pub TracesHaveOneOutcome : Type 0
 TracesHaveOneOutcome = (limits : Limits) → AreSound limits → TraceHasOneOutcome limits
 
 -- A refusal stays when more bytes come, unless it is for the trace's end alone.
 abbrev pub TraceRefusalStays : Type 0
-TraceRefusalStays = (limits : Limits) (bytes more : List ℕ) (refused : Refused) (messages : List (Side × List ℕ))
-    → (IsOfEnd refused → ⊥) → IsTraceRefused limits bytes refused messages → IsTraceRefused limits (bytes ++ more) refused messages
+TraceRefusalStays =
+    (limits : Limits) (bytes more : List ℕ) (refused : Refused) (messages : List (Side × List ℕ))
+    → (IsOfEnd refused → ⊥) → IsTraceRefused limits bytes refused messages
+    → IsTraceRefused limits (bytes ++ more) refused messages

@@ -13,17 +13,24 @@ use Rattle.dap_trace.specs.Tracing.{IsRecordedAs, IsTraceRefused, IsOfEnd}
 
 -- The bytes that came are refused for nothing but where they end.
 abbrev pub IsNotRefused : Limits → List ℕ → List (Side × List ℕ) → Type 0
-IsNotRefused limits bytes messages = IsRecordedAs limits bytes messages ⊎ ((refused : Refused) × IsOfEnd refused × IsTraceRefused limits bytes refused messages)
+IsNotRefused limits bytes messages = IsRecordedAs limits bytes messages
+    ⊎ ((refused : Refused) × IsOfEnd refused × IsTraceRefused limits bytes refused messages)
 
--- Where these bytes came, and no more for this reason, this is answered, and these messages are recorded: the trace is recorded; or the reader failed, and what came is not refused but for where it ends; or it is refused, for its end alone only where the reader came to it.
-abbrev pub JudgesTrace : {U : Type 0} → Limits → List ℕ → Stop → Result U Refused → List (Side × List ℕ) → Type 0
+-- Where these bytes came, and no more for this reason, this is answered, and these messages are
+-- recorded: the trace is recorded; or the reader failed, and what came is not refused but for where
+-- it ends; or it is refused, for its end alone only where the reader came to it.
+abbrev pub JudgesTrace : {U : Type 0} → Limits → List ℕ → Stop → Result U Refused
+    → List (Side × List ℕ) → Type 0
 JudgesTrace limits bytes stop (Ok done) messages = (stop ≡ End) × IsRecordedAs limits bytes messages
-JudgesTrace limits bytes stop (Err ReadFault) messages = (stop ≡ Failed) × IsNotRefused limits bytes messages
+JudgesTrace limits bytes stop (Err ReadFault) messages = (stop ≡ Failed)
+    × IsNotRefused limits bytes messages
 JudgesTrace limits bytes stop (Err WriteFault) messages = ⊥
 JudgesTrace limits bytes stop (Err Memory) messages = ⊥
-JudgesTrace limits bytes stop (Err refused) messages = IsTraceRefused limits bytes refused messages × (IsOfEnd refused → stop ≡ End)
+JudgesTrace limits bytes stop (Err refused) messages = IsTraceRefused limits bytes refused messages
+    × (IsOfEnd refused → stop ≡ End)
 
-module _ {R W : Type 0} (left : R → Option (List ℕ)) (read_failures : R → ℕ) (out : W → Option (List ℕ)) (write_failures : W → ℕ) (limits : Limits) where
+module _ {R W : Type 0} (left : R → Option (List ℕ)) (read_failures : R → ℕ) (out : W
+    → Option (List ℕ)) (write_failures : W → ℕ) (limits : Limits) where
   -- Of what came from the reader this is to be answered, and these messages are to be written.
   pub record HasJudgedTrace {U : Type 0} (old new : R) (answer : Result U Refused) : Type 0 where
     pub bytes : List ℕ
@@ -33,7 +40,8 @@ module _ {R W : Type 0} (left : R → Option (List ℕ)) (read_failures : R → 
     pub judges : JudgesTrace limits bytes stop answer messages
 
   -- The records of the messages went out, whether the trace is recorded or refused.
-  pub record HasWrittenRecords {U : Type 0} (old new : R) (before after : W) (answer : Result U Refused) : Type 0 where
+  pub record HasWrittenRecords {U : Type 0} (old new : R) (before after : W)
+      (answer : Result U Refused) : Type 0 where
     pub judged : HasJudgedTrace old new answer
     pub written : AllWritten out write_failures before after (recording_text judged.messages)
 
@@ -45,6 +53,7 @@ module _ {R W : Type 0} (left : R → Option (List ℕ)) (read_failures : R → 
 
   -- Where memory was refused nothing went out.
   abbrev pub RecordsTrace : {U : Type 0} → R → R → W → W → Result U Refused → Type 0
-  RecordsTrace {U} old new before after (Err WriteFault) = HasNotWrittenRecords U old new before after
+  RecordsTrace {U} old new before after (Err WriteFault) =
+      HasNotWrittenRecords U old new before after
   RecordsTrace old new before after (Err Memory) = after ≡ before
   RecordsTrace old new before after answer = HasWrittenRecords old new before after answer

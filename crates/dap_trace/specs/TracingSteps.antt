@@ -4,9 +4,11 @@ use Rattle.dap_frame.specs.declared.fault.FrameFault.{FrameFault}
 use Rattle.dap_frame.specs.declared.limits.FrameLimits.{FrameLimits}
 use Rattle.dap_frame.specs.Frame.{IsOpen, Shows}
 use Rattle.dap_recording.specs.declared.recorder_fault.RecorderFault.{RecorderFault}
-use Rattle.dap_recording.specs.declared.recorder_fault.RecorderFault.TheVariants.{Frame, Memory as NoMemory}
+use Rattle.dap_recording.specs.declared.recorder_fault.RecorderFault.TheVariants.{Frame}
+use Rattle.dap_recording.specs.declared.recorder_fault.RecorderFault.TheVariants.{Memory as NoMemory}
 use Rattle.dap_recording.specs.RecordedTraces.{AreRecorded}
-use Rattle.dap_recording.specs.RecorderReading.{RecorderReading, StandsForRests, recorder_limits, text_of}
+use Rattle.dap_recording.specs.RecorderReading.{RecorderReading, StandsForRests, recorder_limits}
+use Rattle.dap_recording.specs.RecorderReading.{text_of}
 use Rattle.dap_recording.specs.Recording.{recording_text}
 use Rattle.dap_tree.specs.declared.side.Side.{Side}
 use Rattle.dap_input.specs.declared.limits.Limits.{Limits}
@@ -17,8 +19,10 @@ use Rattle.dap_device.specs.Device.{AllWritten, FrontWritten}
 use Rattle.dap_trace.specs.Tracing.{sent_by}
 use Rattle.dap_trace.specs.TracingRun.{JudgesTrace}
 
--- What both sides sent has been recorded: the recorder's text has the records of the frames that ended, and it stands for the rests.
-pub record HasRecorded (limits : FrameLimits) (recorder : RecorderReading) (taken : List (Side × ℕ)) : Type 0 where
+-- What both sides sent has been recorded: the recorder's text has the records of the frames that
+-- ended, and it stands for the rests.
+pub record HasRecorded (limits : FrameLimits) (recorder : RecorderReading)
+    (taken : List (Side × ℕ)) : Type 0 where
   pub messages : List (Side × List ℕ)
   pub rests : Side → List ℕ
   pub recorded : AreRecorded limits taken messages rests
@@ -26,8 +30,10 @@ pub record HasRecorded (limits : FrameLimits) (recorder : RecorderReading) (take
   pub its_limits : recorder_limits recorder ≡ limits
   pub text : text_of recorder ≡ recording_text messages
 
--- A byte of the run shows this fault in a frame of its side, behind what was taken and the run's bytes before it.
-pub record ShowsInRun (limits : FrameLimits) (recorder : RecorderReading) (taken : List (Side × ℕ)) (side : Side) (run : List ℕ) (fault : FrameFault) : Type 0 where
+-- A byte of the run shows this fault in a frame of its side, behind what was taken and the run's
+-- bytes before it.
+pub record ShowsInRun (limits : FrameLimits) (recorder : RecorderReading) (taken : List (Side × ℕ))
+    (side : Side) (run : List ℕ) (fault : FrameFault) : Type 0 where
   pub front : List ℕ
   pub byte : ℕ
   pub more : List ℕ
@@ -41,24 +47,32 @@ pub record ShowsInRun (limits : FrameLimits) (recorder : RecorderReading) (taken
   pub text : text_of recorder ≡ recording_text messages
 
 -- The run of a side has been recorded behind what was taken, or shows a fault.
-abbrev pub RecordsRun : {U : Type 0} → FrameLimits → RecorderReading → List (Side × ℕ) → Side → List ℕ → Result U RecorderFault → Type 0
+abbrev pub RecordsRun : {U : Type 0} → FrameLimits → RecorderReading → List (Side × ℕ) → Side
+    → List ℕ → Result U RecorderFault → Type 0
 RecordsRun limits new taken side run (Ok done) = HasRecorded limits new (taken ++ sent_by side run)
-RecordsRun limits new taken side run (Err (Frame s fault)) = (s ≡ side) × ShowsInRun limits new taken side run fault
+RecordsRun limits new taken side run (Err (Frame s fault)) = (s ≡ side)
+    × ShowsInRun limits new taken side run fault
 RecordsRun limits new taken side run (Err NoMemory) = Unit {0}
 
 -- The bytes that were read are judged so, and the recorder's text has the records of the messages.
-pub record HasTraced {U : Type 0} (limits : Limits) (bytes : List ℕ) (stop : Stop) (answer : Result U Refused) (recorder : RecorderReading) : Type 0 where
+pub record HasTraced {U : Type 0} (limits : Limits) (bytes : List ℕ) (stop : Stop)
+    (answer : Result U Refused) (recorder : RecorderReading) : Type 0 where
   pub messages : List (Side × List ℕ)
   pub judges : JudgesTrace limits bytes stop answer messages
   pub text : text_of recorder ≡ recording_text messages
 
 -- Memory that was refused tells nothing.
-abbrev pub Traces : {U : Type 0} → Limits → List ℕ → Stop → Result U Refused → RecorderReading → Type 0
+abbrev pub Traces : {U : Type 0} → Limits → List ℕ → Stop → Result U Refused → RecorderReading
+    → Type 0
 Traces limits bytes stop (Err Memory) recorder = Unit {0}
 Traces limits bytes stop answer recorder = HasTraced limits bytes stop answer recorder
 
--- Whatever a trace was answered, the records go out and that is answered, or the writer failed; where memory was refused nothing goes out.
-abbrev pub HasSentRecords : {W U : Type 0} → (W → Option (List ℕ)) → (W → ℕ) → List ℕ → Result U Refused → W → W → Result U Refused → Type 0
-HasSentRecords out failures records (Err Memory) before after result = (result ≡ Err Memory) × (after ≡ before)
+-- Whatever a trace was answered, the records go out and that is answered, or the writer failed;
+-- where memory was refused nothing goes out.
+abbrev pub HasSentRecords : {W U : Type 0} → (W → Option (List ℕ)) → (W → ℕ) → List ℕ
+    → Result U Refused → W → W → Result U Refused → Type 0
+HasSentRecords out failures records (Err Memory) before after result = (result ≡ Err Memory)
+    × (after ≡ before)
 HasSentRecords out failures records answer before after result =
-    ((result ≡ answer) × AllWritten out failures before after records) ⊎ ((result ≡ Err WriteFault) × FrontWritten out failures before after records)
+    ((result ≡ answer) × AllWritten out failures before after records)
+    ⊎ ((result ≡ Err WriteFault) × FrontWritten out failures before after records)

@@ -16,7 +16,8 @@ use std::alloc::Global;
 
 /// Records the frames that end in a run of raw bytes of one side.
 fn record_run(recorder: &mut Recorder, side: Side, run: &[u8]) -> Result<(), RecorderFault>
-    ensures { (limits : FrameLimits) (taken : List (Side × ℕ)) → HasRecorded limits recorder.old taken
+    ensures { (limits : FrameLimits) (taken : List (Side × ℕ))
+        → HasRecorded limits recorder.old taken
         → RecordsRun limits recorder.new taken side run.now result }
 {
     let mut rest = run;
@@ -27,7 +28,8 @@ fn record_run(recorder: &mut Recorder, side: Side, run: &[u8]) -> Result<(), Rec
     Ok(())
 }
 
-/// Records what was read of a trace. The recorder's text is the recording of the frames that ended, however it ends.
+/// Records what was read of a trace. The recorder's text is the recording of the frames that ended,
+/// however it ends.
 fn record_input(
     recorder: &mut Recorder,
     bytes: &[u8],
@@ -77,7 +79,8 @@ fn record_input(
     }
 }
 
-/// Writes the records of the frames that ended, unless memory was refused, and answers what the trace was answered.
+/// Writes the records of the frames that ended, unless memory was refused, and answers what the
+/// trace was answered.
 fn write_records<W: Sink>(
     writer: &mut W,
     records: &[u8],
@@ -95,18 +98,19 @@ fn write_records<W: Sink>(
     }
 }
 
-/// Reads a trace and writes the recording of it: of both sides the frames that went over the wire, in the order of the
-/// bytes that end them, with their contents as they are.
+/// Reads a trace and writes the recording of it: of both sides the frames that went over the wire,
+/// in the order of the bytes that end them, with their contents as they are.
 ///
-/// It reads its whole input, at most one byte past `limits.input`, and writes last. The records of the frames that ended are
-/// written on every answer but `Memory` and `WriteFault`, so that what was recorded before a fault is not lost. Pieces are
-/// counted from 1 in the order of the trace.
+/// It reads its whole input, at most one byte past `limits.input`, and writes last. The records of
+/// the frames that ended are written on every answer but `Memory` and `WriteFault`, so that what
+/// was recorded before a fault is not lost. Pieces are counted from 1 in the order of the trace.
 ///
 /// # Errors
 ///
-/// The first in the order of the input of: a byte past the limit, `TraceTooLong`; a fault of a piece, `Trace`; a fault of a
-/// frame of a side, `Recorder`. Then, at the end of the trace, a `Cut`: of the last piece, or else of a frame of the client,
-/// or else of one of the adapter. `ReadFault` where the reader failed and what came before is not refused but for its end;
+/// The first in the order of the input of: a byte past the limit, `TraceTooLong`; a fault of a
+/// piece, `Trace`; a fault of a frame of a side, `Recorder`. Then, at the end of the trace, a
+/// `Cut`: of the last piece, or else of a frame of the client, or else of one of the adapter.
+/// `ReadFault` where the reader failed and what came before is not refused but for its end;
 /// `WriteFault` where the writer failed; `Memory`.
 pub fn record<R: Source, W: Sink>(
     alloc: Global,
@@ -119,9 +123,10 @@ pub fn record<R: Source, W: Sink>(
     requires read_failures { R.failures reader.old < 2 ^ 62 }
     requires write_failures { W.failures writer.old < 2 ^ 62 }
 
-    // The records of the frames that ended go out, on a refusal too, and nothing goes out where memory was refused. A fault
-    // of a device is answered exactly where that device failed.
-    ensures answer { RecordsTrace R.left R.failures W.out W.failures limits reader.old reader.new writer.old writer.new result }
+    // The records of the frames that ended go out, on a refusal too, and nothing goes out where
+    // memory was refused. A fault of a device is answered exactly where that device failed.
+    ensures answer { RecordsTrace R.left R.failures W.out W.failures limits reader.old reader.new
+        writer.old writer.new result }
 
     // It takes at most one byte past the limit.
     ensures taken { R.given reader.new ≤ R.given reader.old + limits.input + 1 }

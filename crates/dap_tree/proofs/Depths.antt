@@ -1,8 +1,14 @@
--- The walk that counts levels down tests the depth and the ranges, and a document nests as its JSON value does.
-use Rattle.std.proofs.Common.{◌≡◌, ℕ, suc, max, ◌-◌, Bool, true, false, not, ◌&&◌, ◌||◌, refl, sym, ap, ap₂, ◌∙◌, arith, ltb, leb, le-leb}
+-- The walk that counts levels down tests the depth and the ranges, and a document nests as its JSON
+-- value does.
+use Rattle.std.proofs.Common.{◌≡◌, ℕ, suc, max, ◌-◌, Bool, true, false, not, ◌&&◌, ◌||◌, refl, sym}
+use Rattle.std.proofs.Common.{ap, ap₂, ◌∙◌, arith, ltb, leb, le-leb}
 use Rattle.std.proofs.lemmas.Bool.Decides.{nat_tests}
 use Rattle.serde_json.specs.Data as json
-use Rattle.dap_tree.specs.Doc.{Doc, null, boolean, whole, text, list, object, id, Items, no_items, item, Members, no_members, member, depth, items_depth, members_depth, in_range, all_in_range, items_in_range, members_in_range, has_id, items_have_id, members_have_id, all_plain, items_plain, members_plain, fits, items_fit, members_fit}
+use Rattle.dap_tree.specs.Doc.{Doc, null, boolean, whole, text, list, object, id, Items, no_items}
+use Rattle.dap_tree.specs.Doc.{item, Members, no_members, member, depth, items_depth, members_depth}
+use Rattle.dap_tree.specs.Doc.{in_range, all_in_range, items_in_range, members_in_range, has_id}
+use Rattle.dap_tree.specs.Doc.{items_have_id, members_have_id, all_plain, items_plain}
+use Rattle.dap_tree.specs.Doc.{members_plain, fits, items_fit, members_fit}
 use Rattle.dap_tree.specs.Json.{data_of, items_data, members_data}
 
 both : (a b n : ℕ) (p q : Bool) → ((leb a n && p) && (leb b n && q)) ≡ (leb (max a b) n && (p && q))
@@ -20,17 +26,27 @@ mutual
   fits_is n (boolean b) = sym (ap (λ b. b && true) (at_zero n))
   fits_is n (whole z) = sym (ap (λ b. b && in_range z) (at_zero n))
   fits_is n (text s) = sym (ap (λ b. b && true) (at_zero n))
-  fits_is n (list ds) = ap (λ b. ltb 0 n && b) (items_fit_is (n - 1) ds) ∙ under n (items_depth ds) (items_in_range ds)
-  fits_is n (object ms) = ap (λ b. ltb 0 n && b) (members_fit_is (n - 1) ms) ∙ under n (members_depth ms) (members_in_range ms)
+  fits_is n (list ds) =
+      ap (λ b. ltb 0 n && b) (items_fit_is (n - 1) ds)
+      ∙ under n (items_depth ds) (items_in_range ds)
+  fits_is n (object ms) =
+      ap (λ b. ltb 0 n && b) (members_fit_is (n - 1) ms)
+      ∙ under n (members_depth ms) (members_in_range ms)
   fits_is n (id s z) = sym (ap (λ b. b && true) (at_zero n))
 
-  pub items_fit_is : (n : ℕ) (ds : Items) → items_fit n ds ≡ (leb (items_depth ds) n && items_in_range ds)
+  pub items_fit_is : (n : ℕ) (ds : Items)
+      → items_fit n ds ≡ (leb (items_depth ds) n && items_in_range ds)
   items_fit_is n no_items = sym (ap (λ b. b && true) (at_zero n))
-  items_fit_is n (item d ds) = ap₂ (λ a b. a && b) (fits_is n d) (items_fit_is n ds) ∙ both (depth d) (items_depth ds) n (all_in_range d) (items_in_range ds)
+  items_fit_is n (item d ds) =
+      ap₂ (λ a b. a && b) (fits_is n d) (items_fit_is n ds)
+      ∙ both (depth d) (items_depth ds) n (all_in_range d) (items_in_range ds)
 
-  pub members_fit_is : (n : ℕ) (ms : Members) → members_fit n ms ≡ (leb (members_depth ms) n && members_in_range ms)
+  pub members_fit_is : (n : ℕ) (ms : Members)
+      → members_fit n ms ≡ (leb (members_depth ms) n && members_in_range ms)
   members_fit_is n no_members = sym (ap (λ b. b && true) (at_zero n))
-  members_fit_is n (member k d ms) = ap₂ (λ a b. a && b) (fits_is n d) (members_fit_is n ms) ∙ both (depth d) (members_depth ms) n (all_in_range d) (members_in_range ms)
+  members_fit_is n (member k d ms) =
+      ap₂ (λ a b. a && b) (fits_is n d) (members_fit_is n ms)
+      ∙ both (depth d) (members_depth ms) n (all_in_range d) (members_in_range ms)
 
 mutual
   pub depth_data : (d : Doc) → json.depth (data_of d) ≡ depth d
@@ -75,8 +91,13 @@ mutual
 
   items_plain_is : (ds : Items) → items_plain ds ≡ (items_in_range ds && not (items_have_id ds))
   items_plain_is no_items = refl
-  items_plain_is (item d ds) = ap₂ (λ a b. a && b) (plain_is d) (items_plain_is ds) ∙ cross (all_in_range d) (items_in_range ds) (has_id d) (items_have_id ds)
+  items_plain_is (item d ds) =
+      ap₂ (λ a b. a && b) (plain_is d) (items_plain_is ds)
+      ∙ cross (all_in_range d) (items_in_range ds) (has_id d) (items_have_id ds)
 
-  members_plain_is : (ms : Members) → members_plain ms ≡ (members_in_range ms && not (members_have_id ms))
+  members_plain_is : (ms : Members)
+      → members_plain ms ≡ (members_in_range ms && not (members_have_id ms))
   members_plain_is no_members = refl
-  members_plain_is (member k d ms) = ap₂ (λ a b. a && b) (plain_is d) (members_plain_is ms) ∙ cross (all_in_range d) (members_in_range ms) (has_id d) (members_have_id ms)
+  members_plain_is (member k d ms) =
+      ap₂ (λ a b. a && b) (plain_is d) (members_plain_is ms)
+      ∙ cross (all_in_range d) (members_in_range ms) (has_id d) (members_have_id ms)

@@ -1,5 +1,7 @@
 -- Each content has one outcome, and what is read is sound.
-use Rattle.std.proofs.Common.{◌≡◌, ℕ, ◌≤◌, inl, inr, ℤ, pos, negsuc, List, Bool, true, false, not, ◌&&◌, Option, Some, None, Result, Ok, Err, IfOk, IfErr, MatchResult, refl, sym, ap, ap₂, ◌∙◌, subst, leb, le-leb}
+use Rattle.std.proofs.Common.{◌≡◌, ℕ, ◌≤◌, inl, inr, ℤ, pos, negsuc, List, Bool, true, false, not}
+use Rattle.std.proofs.Common.{◌&&◌, Option, Some, None, Result, Ok, Err, IfOk, IfErr, MatchResult}
+use Rattle.std.proofs.Common.{refl, sym, ap, ap₂, ◌∙◌, subst, leb, le-leb}
 use Rattle.std.proofs.lemmas.Bool.{cases_Bool}
 use Rattle.std.proofs.lemmas.Str.{IsUtf8-from_is_utf8, is_utf8-from_IsUtf8}
 use Rattle.std.specs.Str.{is_utf8}
@@ -9,9 +11,14 @@ use Rattle.serde_json.specs.Find.{of_integer, is_float}
 use Rattle.serde_json.specs.Read.{read}
 use Rattle.serde_json.specs.Written.{has_float, items_have_float, members_have_float}
 use Rattle.serde_json.proofs.Nesting.{depth-read}
-use Rattle.dap_tree.specs.Doc.{Doc, null, boolean, whole, text, list, object, id, Items, no_items, item, Members, no_members, member, in_range, all_in_range, items_in_range, members_in_range, has_id, items_have_id, members_have_id, depth, is_sound, is_plain}
+use Rattle.dap_tree.specs.Doc.{Doc, null, boolean, whole, text, list, object, id, Items, no_items}
+use Rattle.dap_tree.specs.Doc.{item, Members, no_members, member, in_range, all_in_range}
+use Rattle.dap_tree.specs.Doc.{items_in_range, members_in_range, has_id, items_have_id}
+use Rattle.dap_tree.specs.Doc.{members_have_id, depth, is_sound, is_plain}
 use Rattle.dap_tree.specs.Ids.{without_ids, items_without_ids, members_without_ids}
-use Rattle.dap_tree.specs.Json.{data_of, items_data, members_data, Reads, IsRead, HasFraction, Outcome, document, no_reading, fraction, HasOutcome, ExplainsText, ExplainsData, Tells, Stands}
+use Rattle.dap_tree.specs.Json.{data_of, items_data, members_data, Reads, IsRead, HasFraction}
+use Rattle.dap_tree.specs.Json.{Outcome, document, no_reading, fraction, HasOutcome, ExplainsText}
+use Rattle.dap_tree.specs.Json.{ExplainsData, Tells, Stands}
 use Rattle.dap_tree.specs.View.{view}
 use Rattle.dap_tree.specs.declared.tree.Tree.{Tree}
 use Rattle.dap_tree.specs.declared.fault.TreeFault.{TreeFault}
@@ -94,7 +101,8 @@ mutual
   no_id_members json.no_members = refl
   no_id_members (json.member k d ms) = or_both _ _ (no_id_doc d) (no_id_members ms)
 
-number_forth : (n : json.Num) → is_float n ≡ false → is_kept n ≡ true → data_of (whole_of n) ≡ json.number n
+number_forth : (n : json.Num) → is_float n ≡ false → is_kept n ≡ true
+    → data_of (whole_of n) ≡ json.number n
 number_forth (json.unsigned n) exact kept = refl
 number_forth (json.negative (pos n)) exact kept = absurd cc
 number_forth (json.negative (negsuc n)) exact kept = refl
@@ -109,13 +117,19 @@ mutual
   forth (json.array ds) exact kept = ap json.array (items_forth ds exact kept)
   forth (json.object ms) exact kept = ap json.object (members_forth ms exact kept)
 
-  items_forth : (ds : json.Items) → items_have_float ds ≡ false → items_kept ds ≡ true → items_data (items_doc ds) ≡ ds
+  items_forth : (ds : json.Items) → items_have_float ds ≡ false → items_kept ds ≡ true
+      → items_data (items_doc ds) ≡ ds
   items_forth json.no_items exact kept = refl
-  items_forth (json.item d ds) exact kept = ap₂ json.item (forth d (or_left _ _ exact) (and_left _ _ kept)) (items_forth ds (or_right (has_float d) _ exact) (and_right (all_kept d) _ kept))
+  items_forth (json.item d ds) exact kept =
+      ap₂ json.item (forth d (or_left _ _ exact) (and_left _ _ kept))
+      (items_forth ds (or_right (has_float d) _ exact) (and_right (all_kept d) _ kept))
 
-  members_forth : (ms : json.Members) → members_have_float ms ≡ false → members_kept ms ≡ true → members_data (members_doc ms) ≡ ms
+  members_forth : (ms : json.Members) → members_have_float ms ≡ false → members_kept ms ≡ true
+      → members_data (members_doc ms) ≡ ms
   members_forth json.no_members exact kept = refl
-  members_forth (json.member k d ms) exact kept = ap₂ (json.member k) (forth d (or_left _ _ exact) (and_left _ _ kept)) (members_forth ms (or_right (has_float d) _ exact) (and_right (all_kept d) _ kept))
+  members_forth (json.member k d ms) exact kept =
+      ap₂ (json.member k) (forth d (or_left _ _ exact) (and_left _ _ kept))
+      (members_forth ms (or_right (has_float d) _ exact) (and_right (all_kept d) _ kept))
 
 -- ---- one outcome
 
@@ -127,14 +141,18 @@ same_value : (bytes : List ℕ) (d e : json.Data) → Reads bytes d → Reads by
 same_value bytes d e h k = same_some d e (sym h.1 ∙ k.1)
 
 pub read_once : (bytes : List ℕ) (d e : Doc) → IsRead bytes d → IsRead bytes e → d ≡ e
-read_once bytes d e h k = sym (without_no_id d h.1) ∙ without_from_data d e (same_value bytes (data_of d) (data_of e) h.0 k.0) ∙ without_no_id e k.1
+read_once bytes d e h k =
+    sym (without_no_id d h.1)
+    ∙ without_from_data d e (same_value bytes (data_of d) (data_of e) h.0 k.0) ∙ without_no_id e k.1
 
 not_both : (b : Bool) → b ≡ true → b ≡ false → ⊥
 not_both b h k = cc
 
 -- what is a tree has no fraction
 pub whole_or_fraction : (bytes : List ℕ) (d : Doc) → IsRead bytes d → HasFraction bytes → ⊥
-whole_or_fraction bytes d h f = not_both (has_float f.0) f.2 (ap has_float (same_value bytes f.0 (data_of d) f.1 h.0) ∙ no_float d)
+whole_or_fraction bytes d h f =
+    not_both (has_float f.0) f.2 (ap has_float (same_value bytes f.0 (data_of d) f.1 h.0)
+    ∙ no_float d)
 
 pub one_outcome : (bytes : List ℕ) (o p : Outcome) → HasOutcome bytes o → HasOutcome bytes p → o ≡ p
 one_outcome bytes (document d) (document e) h k = ap document (read_once bytes d e h k)
@@ -149,11 +167,16 @@ one_outcome bytes fraction fraction h k = refl
 
 -- ---- some outcome
 
-some_of : (bytes : List ℕ) (r : Option json.Data) → read bytes ≡ r → IsUtf8 bytes → (o : Outcome) × HasOutcome bytes o
-some_of bytes None is utf8 = (no_reading, λ d h. let never : None ≡ Some d = sym is ∙ h.1 in absurd cc)
+some_of : (bytes : List ℕ) (r : Option json.Data) → read bytes ≡ r → IsUtf8 bytes
+    → (o : Outcome) × HasOutcome bytes o
+some_of bytes None is utf8 =
+    (no_reading, λ d h. let never : None ≡ Some d = sym is ∙ h.1 in absurd cc)
 some_of bytes (Some d) is utf8 = elim (cases_Bool (has_float d)) [
   | inl float ↦ (fraction, (d, (utf8, is), float))
-  | inr exact ↦ (document (doc_of d), ((utf8, is ∙ ap Some (sym (forth d exact (kept_read bytes d is)))), no_id_doc d))
+  | inr exact ↦ (
+    document (doc_of d),
+    ((utf8, is ∙ ap Some (sym (forth d exact (kept_read bytes d is)))), no_id_doc d),
+  )
 ]
 
 pub some_outcome : (bytes : List ℕ) → (o : Outcome) × HasOutcome bytes o
@@ -178,39 +201,55 @@ mutual
   kept_data (object ms) h = members_kept_data ms h
   kept_data (id s z) h = cc
 
-  items_kept_data : (ds : Items) → items_have_id ds ≡ false → items_kept (items_data ds) ≡ items_in_range ds
+  items_kept_data : (ds : Items) → items_have_id ds ≡ false
+      → items_kept (items_data ds) ≡ items_in_range ds
   items_kept_data no_items h = refl
-  items_kept_data (item d ds) h = ap₂ (λ a b. a && b) (kept_data d (or_left _ _ h)) (items_kept_data ds (or_right (has_id d) _ h))
+  items_kept_data (item d ds) h =
+      ap₂ (λ a b. a && b) (kept_data d (or_left _ _ h))
+      (items_kept_data ds (or_right (has_id d) _ h))
 
-  members_kept_data : (ms : Members) → members_have_id ms ≡ false → members_kept (members_data ms) ≡ members_in_range ms
+  members_kept_data : (ms : Members) → members_have_id ms ≡ false
+      → members_kept (members_data ms) ≡ members_in_range ms
   members_kept_data no_members h = refl
-  members_kept_data (member k d ms) h = ap₂ (λ a b. a && b) (kept_data d (or_left _ _ h)) (members_kept_data ms (or_right (has_id d) _ h))
+  members_kept_data (member k d ms) h =
+      ap₂ (λ a b. a && b) (kept_data d (or_left _ _ h))
+      (members_kept_data ms (or_right (has_id d) _ h))
 
 read_is_sound : (bytes : List ℕ) (d : Doc) → IsRead bytes d → is_sound d ≡ true
 read_is_sound bytes d h =
-    let shallow : depth d ≤ 127 = subst (λ n. n ≤ 127) (depth_data d) (depth-read bytes (data_of d) h.0.1) in
-    and_both (leb (depth d) 127) (all_in_range d) (le-leb (depth d) 127 shallow) (sym (kept_data d h.1) ∙ kept_read bytes (data_of d) h.0.1)
+    let shallow : depth d ≤ 127 =
+    subst (λ n. n ≤ 127) (depth_data d) (depth-read bytes (data_of d) h.0.1) in
+    and_both (leb (depth d) 127) (all_in_range d) (le-leb (depth d) 127 shallow)
+    (sym (kept_data d h.1) ∙ kept_read bytes (data_of d) h.0.1)
 
 pub read_is_plain : (bytes : List ℕ) (d : Doc) → IsRead bytes d → is_plain d ≡ true
-read_is_plain bytes d h = and_both (is_sound d) (not (has_id d)) (read_is_sound bytes d h) (ap not h.1)
+read_is_plain bytes d h =
+    and_both (is_sound d) (not (has_id d)) (read_is_sound bytes d h) (ap not h.1)
 
 -- ---- the answers of `read_tree`
 
-pub document_answers : (bytes : List ℕ) (t : Tree) (o : Outcome) → IsRead bytes (view t) → HasOutcome bytes o → o ≡ document (view t)
+pub document_answers : (bytes : List ℕ) (t : Tree) (o : Outcome) → IsRead bytes (view t)
+    → HasOutcome bytes o → o ≡ document (view t)
 document_answers bytes t o h has = one_outcome bytes o (document (view t)) has h
 
-pub fault_answers : (bytes : List ℕ) (f : TreeFault) (o : Outcome) → ExplainsText bytes f → HasOutcome bytes o → Tells o f
+pub fault_answers : (bytes : List ℕ) (f : TreeFault) (o : Outcome) → ExplainsText bytes f
+    → HasOutcome bytes o → Tells o f
 fault_answers bytes Json o h has = one_outcome bytes o no_reading has h
 fault_answers bytes Fraction o h has = one_outcome bytes o fraction has h
 fault_answers bytes Memory o h has = tt
 
 -- a fault of the value that was read is a fault of the content
-pub explains_text : (bytes : List ℕ) (v : json.Data) (f : TreeFault) → Reads bytes v → ExplainsData v f → ExplainsText bytes f
+pub explains_text : (bytes : List ℕ) (v : json.Data) (f : TreeFault) → Reads bytes v
+    → ExplainsData v f → ExplainsText bytes f
 explains_text bytes v Json reads h = absurd h
 explains_text bytes v Fraction reads h = (v, reads, h)
 explains_text bytes v Memory reads h = tt
 
-pub answers : (bytes : List ℕ) (v : json.Data) (r : Result Tree TreeFault) (o : Outcome) → Reads bytes v → IfOk r (λ t. Stands v (view t)) → IfErr r (ExplainsData v) → HasOutcome bytes o
+pub answers : (bytes : List ℕ) (v : json.Data) (r : Result Tree TreeFault) (o : Outcome)
+    → Reads bytes v → IfOk r (λ t. Stands v (view t)) → IfErr r (ExplainsData v)
+    → HasOutcome bytes o
     → MatchResult r (λ t. o ≡ document (view t)) (Tells o)
-answers bytes v (Ok t) o reads ok err has = document_answers bytes t o ((reads.0, reads.1 ∙ ap Some ok.0), ok.1) has
-answers bytes v (Err f) o reads ok err has = fault_answers bytes f o (explains_text bytes v f reads err) has
+answers bytes v (Ok t) o reads ok err has =
+    document_answers bytes t o ((reads.0, reads.1 ∙ ap Some ok.0), ok.1) has
+answers bytes v (Err f) o reads ok err has =
+    fault_answers bytes f o (explains_text bytes v f reads err) has

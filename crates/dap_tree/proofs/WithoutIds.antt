@@ -1,8 +1,12 @@
 -- A document beside the same with its ids as whole numbers.
 use Rattle.std.proofs.Common.{◌≡◌, suc, max, Bool, true, false, not, refl, sym, ap, ap₂, ◌∙◌, leb}
 use Rattle.serde_json.specs.Data as json
-use Rattle.dap_tree.specs.Doc.{Doc, null, boolean, whole, text, list, object, id, Items, no_items, item, Members, no_members, member, depth, items_depth, members_depth, all_in_range, items_in_range, members_in_range, has_id, items_have_id, members_have_id, is_sound, is_plain, all_plain}
-use Rattle.dap_tree.specs.Ids.{without_ids, items_without_ids, members_without_ids, ids_in_range, items_ids_in_range, members_ids_in_range}
+use Rattle.dap_tree.specs.Doc.{Doc, null, boolean, whole, text, list, object, id, Items, no_items}
+use Rattle.dap_tree.specs.Doc.{item, Members, no_members, member, depth, items_depth, members_depth}
+use Rattle.dap_tree.specs.Doc.{all_in_range, items_in_range, members_in_range, has_id}
+use Rattle.dap_tree.specs.Doc.{items_have_id, members_have_id, is_sound, is_plain, all_plain}
+use Rattle.dap_tree.specs.Ids.{without_ids, items_without_ids, members_without_ids, ids_in_range}
+use Rattle.dap_tree.specs.Ids.{items_ids_in_range, members_ids_in_range}
 use Rattle.dap_tree.specs.Json.{data_of, items_data, members_data}
 use Rattle.dap_tree.proofs.Booleans.{and_left, and_right, and_both, or_left, or_right, or_both}
 use Rattle.dap_tree.proofs.Depths.{plain_is}
@@ -24,11 +28,14 @@ mutual
 
   items_without_no_id : (ds : Items) → items_have_id ds ≡ false → items_without_ids ds ≡ ds
   items_without_no_id no_items h = refl
-  items_without_no_id (item d ds) h = ap₂ item (without_no_id d (or_left _ _ h)) (items_without_no_id ds (or_right (has_id d) _ h))
+  items_without_no_id (item d ds) h =
+      ap₂ item (without_no_id d (or_left _ _ h)) (items_without_no_id ds (or_right (has_id d) _ h))
 
   members_without_no_id : (ms : Members) → members_have_id ms ≡ false → members_without_ids ms ≡ ms
   members_without_no_id no_members h = refl
-  members_without_no_id (member k d ms) h = ap₂ (member k) (without_no_id d (or_left _ _ h)) (members_without_no_id ms (or_right (has_id d) _ h))
+  members_without_no_id (member k d ms) h =
+      ap₂ (member k) (without_no_id d (or_left _ _ h))
+      (members_without_no_id ms (or_right (has_id d) _ h))
 
 mutual
   pub no_id_without : (d : Doc) → has_id (without_ids d) ≡ false
@@ -65,7 +72,8 @@ mutual
 
   members_data-without : (ms : Members) → members_data (members_without_ids ms) ≡ members_data ms
   members_data-without no_members = refl
-  members_data-without (member k d ms) = ap₂ (json.member k) (data-without d) (members_data-without ms)
+  members_data-without (member k d ms) =
+      ap₂ (json.member k) (data-without d) (members_data-without ms)
 
 -- ---- soundness
 
@@ -88,7 +96,8 @@ mutual
   members_depth-without (member k d ms) = ap₂ max (depth-without d) (members_depth-without ms)
 
 mutual
-  range-without : (d : Doc) → all_in_range d ≡ true → ids_in_range d ≡ true → all_in_range (without_ids d) ≡ true
+  range-without : (d : Doc) → all_in_range d ≡ true → ids_in_range d ≡ true
+      → all_in_range (without_ids d) ≡ true
   range-without null h k = refl
   range-without (boolean b) h k = refl
   range-without (whole z) h k = h
@@ -97,19 +106,28 @@ mutual
   range-without (object ms) h k = members_range-without ms h k
   range-without (id s z) h k = k
 
-  items_range-without : (ds : Items) → items_in_range ds ≡ true → items_ids_in_range ds ≡ true → items_in_range (items_without_ids ds) ≡ true
+  items_range-without : (ds : Items) → items_in_range ds ≡ true → items_ids_in_range ds ≡ true
+      → items_in_range (items_without_ids ds) ≡ true
   items_range-without no_items h k = refl
-  items_range-without (item d ds) h k = and_both _ _ (range-without d (and_left _ _ h) (and_left _ _ k)) (items_range-without ds (and_right (all_in_range d) _ h) (and_right (ids_in_range d) _ k))
+  items_range-without (item d ds) h k =
+      and_both _ _ (range-without d (and_left _ _ h) (and_left _ _ k))
+      (items_range-without ds (and_right (all_in_range d) _ h) (and_right (ids_in_range d) _ k))
 
-  members_range-without : (ms : Members) → members_in_range ms ≡ true → members_ids_in_range ms ≡ true → members_in_range (members_without_ids ms) ≡ true
+  members_range-without : (ms : Members) → members_in_range ms ≡ true
+      → members_ids_in_range ms ≡ true → members_in_range (members_without_ids ms) ≡ true
   members_range-without no_members h k = refl
-  members_range-without (member k d ms) h g = and_both _ _ (range-without d (and_left _ _ h) (and_left _ _ g)) (members_range-without ms (and_right (all_in_range d) _ h) (and_right (ids_in_range d) _ g))
+  members_range-without (member k d ms) h g =
+      and_both _ _ (range-without d (and_left _ _ h) (and_left _ _ g))
+      (members_range-without ms (and_right (all_in_range d) _ h) (and_right (ids_in_range d) _ g))
 
-pub sound_without : (d : Doc) → is_sound d ≡ true → ids_in_range d ≡ true → is_plain (without_ids d) ≡ true
+pub sound_without : (d : Doc) → is_sound d ≡ true → ids_in_range d ≡ true
+    → is_plain (without_ids d) ≡ true
 sound_without d h k =
-    let shallow : leb (depth (without_ids d)) 127 ≡ true = ap (λ n. leb n 127) (depth-without d) ∙ and_left (leb (depth d) 127) (all_in_range d) h in
+    let shallow : leb (depth (without_ids d)) 127 ≡ true =
+    ap (λ n. leb n 127) (depth-without d) ∙ and_left (leb (depth d) 127) (all_in_range d) h in
     let ranged = range-without d (and_right (leb (depth d) 127) (all_in_range d) h) k in
-    and_both (is_sound (without_ids d)) (not (has_id (without_ids d))) (and_both _ _ shallow ranged) (ap not (no_id_without d))
+    and_both (is_sound (without_ids d)) (not (has_id (without_ids d))) (and_both _ _ shallow ranged)
+    (ap not (no_id_without d))
 
 -- ---- plain documents
 
@@ -117,7 +135,12 @@ pub no_id_from_plain : (d : Doc) → is_plain d ≡ true → has_id d ≡ false
 no_id_from_plain d h = not_true (has_id d) (and_right (is_sound d) (not (has_id d)) h)
 
 pub plain_parts : (d : Doc) → is_plain d ≡ true → all_plain d ≡ true
-plain_parts d h = plain_is d ∙ and_both _ _ (and_right (leb (depth d) 127) _ (and_left (is_sound d) (not (has_id d)) h)) (and_right (is_sound d) _ h)
+plain_parts d h =
+    plain_is d ∙ and_both _ _
+    (and_right (leb (depth d) 127) _ (and_left (is_sound d) (not (has_id d)) h))
+    (and_right (is_sound d) _ h)
 
 pub without_plain : (d : Doc) → all_plain d ≡ true → without_ids d ≡ d
-without_plain d h = without_no_id d (not_true (has_id d) (and_right (all_in_range d) (not (has_id d)) (sym (plain_is d) ∙ h)))
+without_plain d h =
+    without_no_id d
+    (not_true (has_id d) (and_right (all_in_range d) (not (has_id d)) (sym (plain_is d) ∙ h)))

@@ -1,5 +1,8 @@
 -- The tokens of a document: their text is its compact text, and they read back as the document.
-use Rattle.std.proofs.Common.{◌≡◌, ℕ, suc, max, ◌≤◌, ◌^◌, List, [], ◌∷◌, ◌++◌, Bool, true, false, ◌||◌, Some, option_map, option_and_then, refl, sym, ap, ap₂, ◌∙◌, subst, leb, ℤ, pos, negsuc, nat_abs, int_lt, decimal, string_bytes, string_cmp, append_assoc, append-nil, w64, to_z, of_z, arith}
+use Rattle.std.proofs.Common.{◌≡◌, ℕ, suc, max, ◌≤◌, ◌^◌, List, [], ◌∷◌, ◌++◌, Bool, true, false}
+use Rattle.std.proofs.Common.{◌||◌, Some, option_map, option_and_then, refl, sym, ap, ap₂, ◌∙◌}
+use Rattle.std.proofs.Common.{subst, leb, ℤ, pos, negsuc, nat_abs, int_lt, decimal, string_bytes}
+use Rattle.std.proofs.Common.{string_cmp, append_assoc, append-nil, w64, to_z, of_z, arith}
 use Rattle.std.proofs.Math.Facts.{to_z-neg}
 use Rattle.std.specs.Prelude.{FitsSigned, ◌<◌}
 use Rattle.std.proofs.lemmas.Bool.{leb-true, ltb-true}
@@ -19,7 +22,9 @@ use Rattle.serde_json.specs.Read.{of_json, of_members, max_depth, read}
 use Rattle.serde_json.specs.Written.{compact_text, has_float, items_have_float, members_have_float}
 use Rattle.serde_json.proofs.Numbers.{number_of-decimal, number_of-negative}
 use Rattle.serde_json.proofs.Texts.{print-outline}
-use Rattle.dap_tree.specs.Doc.{Doc, null, boolean, whole, text, list, object, id, Items, no_items, item, Members, no_members, member, depth, items_depth, members_depth, in_range, all_in_range, is_sound}
+use Rattle.dap_tree.specs.Doc.{Doc, null, boolean, whole, text, list, object, id, Items, no_items}
+use Rattle.dap_tree.specs.Doc.{item, Members, no_members, member, depth, items_depth, members_depth}
+use Rattle.dap_tree.specs.Doc.{in_range, all_in_range, is_sound}
 use Rattle.dap_tree.specs.Json.{data_of, items_data, members_data}
 use Rattle.dap_tree.specs.View.{view, members_view}
 use Rattle.dap_tree.specs.WrittenTokens.{json_of, items_json, members_json, WritesDoc}
@@ -78,16 +83,26 @@ depth_from_sound d h = leb-true (depth d) 127 (and_left (leb (depth d) 127) (all
 
 -- ---- a whole number
 
-pub negative_cast : (z : ℤ) → int_lt z (pos 0) ≡ true → in_range z ≡ true → to_z w64 (of_z w64 z) ≡ z
+pub negative_cast : (z : ℤ) → int_lt z (pos 0) ≡ true → in_range z ≡ true
+    → to_z w64 (of_z w64 z) ≡ z
 negative_cast (pos n) below ranged = absurd (grind (arith, below))
 negative_cast (negsuc n) below ranged = to_z-neg w64 n (ltb-true n (2 ^ 63) ranged)
 
-pub negative_written : (z y : ℤ) (old new : List Token) → y ≡ z → int_lt z (pos 0) ≡ true → in_range z ≡ true → new ≡ old ++ number (signed_decimal y) ∷ [] → WritesDoc (whole z) old new
+pub negative_written : (z y : ℤ) (old new : List Token) → y ≡ z → int_lt z (pos 0) ≡ true
+    → in_range z ≡ true → new ≡ old ++ number (signed_decimal y) ∷ [] → WritesDoc (whole z) old new
 negative_written (pos n) y old new same below ranged e = absurd (grind (arith, below))
-negative_written (negsuc n) y old new same below ranged e = (e ∙ ap (λ z. old ++ number (signed_decimal z) ∷ []) same, ap (option_map json.number) (number_of-negative n (ltb-true n (2 ^ 63) ranged)))
+negative_written (negsuc n) y old new same below ranged e = (
+  e ∙ ap (λ z. old ++ number (signed_decimal z) ∷ []) same,
+  ap (option_map json.number) (number_of-negative n (ltb-true n (2 ^ 63) ranged)),
+)
 
-pub unsigned_written : (z : ℤ) (m : ℕ) (old new : List Token) → m ≡ nat_abs z → int_lt z (pos 0) ≡ false → in_range z ≡ true → new ≡ old ++ number (decimal m) ∷ [] → WritesDoc (whole z) old new
-unsigned_written (pos n) m old new same above ranged e = (e ∙ ap (λ k. old ++ number (decimal k) ∷ []) same, ap (option_map json.number) (number_of-decimal n (ltb-true n (2 ^ 64) ranged)))
+pub unsigned_written : (z : ℤ) (m : ℕ) (old new : List Token) → m ≡ nat_abs z
+    → int_lt z (pos 0) ≡ false → in_range z ≡ true → new ≡ old ++ number (decimal m) ∷ []
+    → WritesDoc (whole z) old new
+unsigned_written (pos n) m old new same above ranged e = (
+  e ∙ ap (λ k. old ++ number (decimal k) ∷ []) same,
+  ap (option_map json.number) (number_of-decimal n (ltb-true n (2 ^ 64) ranged)),
+)
 unsigned_written (negsuc n) m old new same above ranged e = absurd (grind (arith, above))
 
 below_half : (n : ℕ) → FitsSigned w64 (pos n) → n < 2 ^ 63
@@ -97,35 +112,62 @@ above_half : (n : ℕ) → FitsSigned w64 (negsuc n) → n < 2 ^ 63
 above_half n h = omega (arith, h)
 
 -- a number of 64 bits
-pub signed_written : (z y : ℤ) (old new : List Token) → y ≡ z → FitsSigned w64 z → new ≡ old ++ number (signed_decimal y) ∷ [] → WritesDoc (whole z) old new
+pub signed_written : (z y : ℤ) (old new : List Token) → y ≡ z → FitsSigned w64 z
+    → new ≡ old ++ number (signed_decimal y) ∷ [] → WritesDoc (whole z) old new
 signed_written (pos n) y old new same ranged e =
-    let below : n < 2 ^ 64 = omega (arith, below_half n ranged) in
-    (e ∙ ap (λ z. old ++ number (signed_decimal z) ∷ []) same, ap (option_map json.number) (number_of-decimal n below))
-signed_written (negsuc n) y old new same ranged e = (e ∙ ap (λ z. old ++ number (signed_decimal z) ∷ []) same, ap (option_map json.number) (number_of-negative n (above_half n ranged)))
+    let below : n < 2 ^ 64 = omega (arith, below_half n ranged) in (
+      e ∙ ap (λ z. old ++ number (signed_decimal z) ∷ []) same,
+      ap (option_map json.number) (number_of-decimal n below),
+    )
+signed_written (negsuc n) y old new same ranged e = (
+  e ∙ ap (λ z. old ++ number (signed_decimal z) ∷ []) same,
+  ap (option_map json.number) (number_of-negative n (above_half n ranged)),
+)
 
 -- ---- one more member
 
-pub member_tokens : (first : Token) (value rest before named written : List Token) → named ≡ before ++ first ∷ [] → written ≡ named ++ value → written ++ rest ≡ before ++ first ∷ (value ++ rest)
+pub member_tokens : (first : Token) (value rest before named written : List Token)
+    → named ≡ before ++ first ∷ [] → written ≡ named ++ value
+    → written ++ rest ≡ before ++ first ∷ (value ++ rest)
 member_tokens first value rest before named written h g =
-    ap (λ ts. ts ++ rest) (g ∙ ap (λ ts. ts ++ value) h) ∙ append_assoc (before ++ first ∷ []) value rest ∙ append_assoc before (first ∷ []) (value ++ rest)
+    ap (λ ts. ts ++ rest) (g ∙ ap (λ ts. ts ++ value) h)
+    ∙ append_assoc (before ++ first ∷ []) value rest
+    ∙ append_assoc before (first ∷ []) (value ++ rest)
 
-pub member_reads : (done : List Entry) (e : Entry) (left : List Entry) → IsStrictlySortedBy string_cmp (keys_of (done ++ e ∷ left)) → of_json (json_of (view e.1)) ≡ Some (data_of (view e.1))
-    → of_members (members_json (members_view (e ∷ left))) (members_data (members_view done)) ≡ of_members (members_json (members_view left)) (members_data (members_view (done ++ e ∷ [])))
+pub member_reads : (done : List Entry) (e : Entry) (left : List Entry)
+    → IsStrictlySortedBy string_cmp (keys_of (done ++ e ∷ left))
+    → of_json (json_of (view e.1)) ≡ Some (data_of (view e.1))
+    → of_members (members_json (members_view (e ∷ left))) (members_data (members_view done))
+    ≡ of_members (members_json (members_view left))
+    (members_data (members_view (done ++ e ∷ [])))
 member_reads done e left ordered reads =
     let name = string_bytes e.0 in
     let found = members_data (members_view done) in
     let rest = members_json (members_view left) in
-    ap (option_and_then (λ d. of_members rest (json.put name d found))) reads ∙ ap (of_members rest) (sym (members_data-put name (view e.1) (members_view done)) ∙ ap members_data (put_last done e left ordered))
+    ap (option_and_then (λ d. of_members rest (json.put name d found))) reads
+    ∙ ap (of_members rest) (sym (members_data-put name (view e.1) (members_view done))
+    ∙ ap members_data (put_last done e left ordered))
 
 -- ---- the whole
 
-pub text_of_tokens : (d : Doc) (old new : List Token) (before bytes : List ℕ) → old ≡ [] → before ≡ [] → WritesDoc d old new → bytes ≡ before ++ print new → bytes ≡ compact_text (data_of d)
+pub text_of_tokens : (d : Doc) (old new : List Token) (before bytes : List ℕ) → old ≡ []
+    → before ≡ [] → WritesDoc d old new → bytes ≡ before ++ print new
+    → bytes ≡ compact_text (data_of d)
 text_of_tokens d old new before bytes none empty written is =
-    is ∙ ap₂ (λ xs ts. xs ++ print ts) empty (written.0 ∙ ap (λ ts. ts ++ json_tokens (json_of d)) none) ∙ print-outline (data_of d)
+    is ∙ ap₂ (λ xs ts. xs ++ print ts) empty (written.0
+    ∙ ap (λ ts. ts ++ json_tokens (json_of d)) none) ∙ print-outline (data_of d)
 
-pub tokens_read_back : (d : Doc) (old new : List Token) (before bytes : List ℕ) → old ≡ [] → before ≡ [] → WritesDoc d old new → bytes ≡ before ++ print new → tokens (print new) ≡ new → depth d ≤ 127 → read bytes ≡ Some (data_of d)
+pub tokens_read_back : (d : Doc) (old new : List Token) (before bytes : List ℕ) → old ≡ []
+    → before ≡ [] → WritesDoc d old new → bytes ≡ before ++ print new → tokens (print new) ≡ new
+    → depth d ≤ 127 → read bytes ≡ Some (data_of d)
 tokens_read_back d old new before bytes none empty written is spelled shallow =
-    let all : tokens bytes ≡ json_tokens (json_of d) ++ [] = ap tokens (is ∙ ap (λ xs. xs ++ print new) empty) ∙ spelled ∙ written.0 ∙ ap (λ ts. ts ++ json_tokens (json_of d)) none ∙ sym (append-nil (json_tokens (json_of d))) in
-    let within : tree.depth (json_of d) ≤ max_depth = subst (λ n. n ≤ 127) (sym (depth_json d)) shallow in
-    ap (λ ts. option_and_then of_json (option_and_then (λ p. grammar.if_last p.0 p.1) (grammar.value max_depth ts))) all
-    ∙ ap (λ o. option_and_then of_json (option_and_then (λ p. grammar.if_last p.0 p.1) o)) (value-json_tokens (json_of d) max_depth [] within) ∙ written.1
+    let all : tokens bytes ≡ json_tokens (json_of d) ++ [] =
+    ap tokens (is ∙ ap (λ xs. xs ++ print new) empty) ∙ spelled ∙ written.0
+    ∙ ap (λ ts. ts ++ json_tokens (json_of d)) none
+    ∙ sym (append-nil (json_tokens (json_of d))) in
+    let within : tree.depth (json_of d) ≤ max_depth =
+    subst (λ n. n ≤ 127) (sym (depth_json d)) shallow in
+    ap (λ ts. option_and_then of_json
+    (option_and_then (λ p. grammar.if_last p.0 p.1) (grammar.value max_depth ts))) all
+    ∙ ap (λ o. option_and_then of_json (option_and_then (λ p. grammar.if_last p.0 p.1) o))
+    (value-json_tokens (json_of d) max_depth [] within) ∙ written.1

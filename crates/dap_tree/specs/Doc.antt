@@ -1,5 +1,7 @@
--- What contracts see of a tree: a JSON value of whole numbers and ids, whose members stand in the byte order of their names.
-use Rattle.std.specs.Prelude.{ℕ, suc, max, ◌^◌, ◌-◌, ℤ, pos, negsuc, List, Bool, true, false, ◌&&◌, ◌||◌, not, nat_le, nat_lt, Option, Some, None}
+-- What contracts see of a tree: a JSON value of whole numbers and ids, whose members stand in the
+-- byte order of their names.
+use Rattle.std.specs.Prelude.{ℕ, suc, max, ◌^◌, ◌-◌, ℤ, pos, negsuc, List, Bool, true, false, ◌&&◌}
+use Rattle.std.specs.Prelude.{◌||◌, not, nat_le, nat_lt, Option, Some, None}
 use Rattle.std.specs.Ordering.{nat_cmp, match_ordering, is_lt}
 use Rattle.std.specs.Cmp.Lexicographic.{slice_cmp}
 use Rattle.std.specs.Str.{is_utf8}
@@ -25,7 +27,8 @@ mutual
 
 -- ---- sound documents
 
--- How deep lists and objects nest (own): one of them is one deeper than its deepest part, and all else has depth 0.
+-- How deep lists and objects nest (own): one of them is one deeper than its deepest part, and all
+-- else has depth 0.
 abbrev mutual
   pub depth : Doc → ℕ
   depth null = 0
@@ -49,7 +52,8 @@ abbrev pub in_range : ℤ → Bool
 in_range (pos n) = nat_lt n (2 ^ 64)
 in_range (negsuc n) = nat_lt n (2 ^ 63)
 
--- Each whole number of the document is in range: the number of an id, which is of 64 bits, is not asked.
+-- Each whole number of the document is in range: the number of an id, which is of 64 bits, is not
+-- asked.
 abbrev mutual
   pub all_in_range : Doc → Bool
   all_in_range null = true
@@ -99,7 +103,8 @@ abbrev mutual
 abbrev pub is_plain : Doc → Bool
 is_plain d = is_sound d && not (has_id d)
 
--- For lemmas: what a plain document has beside its depth. Each whole number is in range, and no id is there.
+-- For lemmas: what a plain document has beside its depth. Each whole number is in range, and no id
+-- is there.
 abbrev mutual
   pub all_plain : Doc → Bool
   all_plain null = true
@@ -151,7 +156,8 @@ as_object (id s z) = None
 
 abbrev pub get_member : List ℕ → Members → Option Doc
 get_member k no_members = None
-get_member k (member l e ms) = match_ordering (slice_cmp nat_cmp k l) (get_member k ms) (Some e) (get_member k ms)
+get_member k (member l e ms) =
+    match_ordering (slice_cmp nat_cmp k l) (get_member k ms) (Some e) (get_member k ms)
 
 -- The member of that name (JSON): there is one in an object alone.
 abbrev pub get : List ℕ → Doc → Option Doc
@@ -163,16 +169,22 @@ get k (list ds) = None
 get k (object ms) = get_member k ms
 get k (id s z) = None
 
--- The members, with d at the name k: in the place of the member of that name, or between its neighbours.
+-- The members, with d at the name k: in the place of the member of that name, or between its
+-- neighbours.
 abbrev pub put : List ℕ → Doc → Members → Members
 put k d no_members = member k d no_members
-put k d (member l e ms) = match_ordering (slice_cmp nat_cmp k l) (member k d (member l e ms)) (member l d ms) (member l e (put k d ms))
+put k d (member l e ms) =
+    match_ordering (slice_cmp nat_cmp k l) (member k d (member l e ms)) (member l d ms)
+    (member l e (put k d ms))
 
 abbrev pub change_member : List ℕ → (Doc → Doc) → Members → Members
 change_member k f no_members = no_members
-change_member k f (member l e ms) = match_ordering (slice_cmp nat_cmp k l) (member l e (change_member k f ms)) (member l (f e) ms) (member l e (change_member k f ms))
+change_member k f (member l e ms) =
+    match_ordering (slice_cmp nat_cmp k l) (member l e (change_member k f ms)) (member l (f e) ms)
+    (member l e (change_member k f ms))
 
--- The document with f of the member of that name in its place (own): as it is, where there is no such member.
+-- The document with f of the member of that name in its place (own): as it is, where there is no
+-- such member.
 abbrev pub change_child : List ℕ → (Doc → Doc) → Doc → Doc
 change_child k f null = null
 change_child k f (boolean b) = boolean b
@@ -187,7 +199,8 @@ abbrev pub is_below_all : List ℕ → Members → Bool
 is_below_all k no_members = true
 is_below_all k (member l e ms) = is_lt (slice_cmp nat_cmp k l) && is_below_all k ms
 
--- The members of each object stand in the byte order of their names, each name once (own): so they do in every `Tree`.
+-- The members of each object stand in the byte order of their names, each name once (own): so they
+-- do in every `Tree`.
 abbrev mutual
   pub is_ordered : Doc → Bool
   is_ordered null = true

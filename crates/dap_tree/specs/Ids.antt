@@ -1,7 +1,9 @@
 -- The ids of a document in the order of its text, and the document with other numbers at them.
-use Rattle.std.specs.Prelude.{◌≡◌, ℕ, ◌+◌, ℤ, pos, List, [], ◌∷◌, ◌++◌, map, drop, slice_index_or, Bool, true, ◌&&◌}
+use Rattle.std.specs.Prelude.{◌≡◌, ℕ, ◌+◌, ℤ, pos, List, [], ◌∷◌, ◌++◌, map, drop, slice_index_or}
+use Rattle.std.specs.Prelude.{Bool, true, ◌&&◌}
 use Rattle.dap_tree.specs.declared.sort.Sort.{Sort}
-use Rattle.dap_tree.specs.Doc.{Doc, null, boolean, whole, text, list, object, id, Items, no_items, item, Members, no_members, member, in_range}
+use Rattle.dap_tree.specs.Doc.{Doc, null, boolean, whole, text, list, object, id, Items, no_items}
+use Rattle.dap_tree.specs.Doc.{item, Members, no_members, member, in_range}
 
 -- The ids, each a sort and a number, in the order in which the text of the document has them (own).
 abbrev mutual
@@ -65,7 +67,8 @@ abbrev mutual
 
   pub members_with_ids : Members → List ℤ → Members
   members_with_ids no_members ns = no_members
-  members_with_ids (member k d ms) ns = member k (with_ids d ns) (members_with_ids ms (drop (id_count d) ns))
+  members_with_ids (member k d ms) ns =
+      member k (with_ids d ns) (members_with_ids ms (drop (id_count d) ns))
 
 -- The document with each id as a whole number (own): it has the same text.
 abbrev mutual
@@ -86,7 +89,8 @@ abbrev mutual
   members_without_ids no_members = no_members
   members_without_ids (member k d ms) = member k (without_ids d) (members_without_ids ms)
 
--- The document with 0 as the number of each id (own): what two documents share that differ at most in the numbers of their ids.
+-- The document with 0 as the number of each id (own): what two documents share that differ at most
+-- in the numbers of their ids.
 abbrev mutual
   pub skeleton : Doc → Doc
   skeleton null = null
@@ -105,7 +109,8 @@ abbrev mutual
   members_skeleton no_members = no_members
   members_skeleton (member k d ms) = member k (skeleton d) (members_skeleton ms)
 
--- The number of each id is in the range of whole numbers (own): that of a `Tree` is of 64 bits, so it always is.
+-- The number of each id is in the range of whole numbers (own): that of a `Tree` is of 64 bits, so
+-- it always is.
 abbrev mutual
   pub ids_in_range : Doc → Bool
   ids_in_range null = true

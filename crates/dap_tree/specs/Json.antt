@@ -4,7 +4,9 @@ use Rattle.serde_json.specs.Data as json
 use Rattle.serde_json.specs.Find.{of_integer}
 use Rattle.serde_json.specs.Read.{read}
 use Rattle.serde_json.specs.Written.{compact_text, has_float, items_have_float, members_have_float}
-use Rattle.dap_tree.specs.Doc.{Doc, null, boolean, whole, text, list, object, id, Items, no_items, item, Members, no_members, member, has_id, items_have_id, members_have_id}
+use Rattle.dap_tree.specs.Doc.{Doc, null, boolean, whole, text, list, object, id, Items, no_items}
+use Rattle.dap_tree.specs.Doc.{item, Members, no_members, member, has_id, items_have_id}
+use Rattle.dap_tree.specs.Doc.{members_have_id}
 use Rattle.dap_tree.specs.declared.fault.TreeFault.{TreeFault}
 use Rattle.dap_tree.specs.declared.fault.TreeFault.TheVariants.{Json, Fraction, Memory}
 
@@ -33,11 +35,13 @@ text_of d = compact_text (data_of d)
 
 -- ---- the reading of a content
 
--- The content is UTF-8, and is JSON text of this value (serde_json, which allows 127 levels and keeps the last of equal names).
+-- The content is UTF-8, and is JSON text of this value (serde_json, which allows 127 levels and
+-- keeps the last of equal names).
 abbrev pub Reads : List ℕ → json.Data → Type 0
 Reads bytes d = IsUtf8 bytes × (read bytes ≡ Some d)
 
--- The content is the text of this document: each number is kept as a whole number, and none is an id.
+-- The content is the text of this document: each number is kept as a whole number, and none is an
+-- id.
 abbrev pub IsRead : List ℕ → Doc → Type 0
 IsRead bytes d = Reads bytes (data_of d) × (has_id d ≡ false)
 

@@ -1,7 +1,10 @@
 -- The laws that the functions of `laws` state.
-use Rattle.std.specs.Prelude.{◌≡◌, ◌≢◌, ◌↔◌, ℕ, ℤ, List, [], ◌∷◌, length, true, false, option_map, option_and_then}
-use Rattle.dap_tree.specs.Doc.{Doc, get, change_child, change_items, has_id, depth, is_sound, is_plain, is_ordered, all_utf8}
-use Rattle.dap_tree.specs.Ids.{ids, sorts_of, numbers_of, id_count, with_ids, without_ids, skeleton, ids_in_range}
+use Rattle.std.specs.Prelude.{◌≡◌, ◌≢◌, ◌↔◌, ℕ, ℤ, List, [], ◌∷◌, length, true, false, option_map}
+use Rattle.std.specs.Prelude.{option_and_then}
+use Rattle.dap_tree.specs.Doc.{Doc, get, change_child, change_items, has_id, depth, is_sound}
+use Rattle.dap_tree.specs.Doc.{is_plain, is_ordered, all_utf8}
+use Rattle.dap_tree.specs.Ids.{ids, sorts_of, numbers_of, id_count, with_ids, without_ids, skeleton}
+use Rattle.dap_tree.specs.Ids.{ids_in_range}
 use Rattle.dap_tree.specs.Json.{text_of, IsRead, Outcome, HasOutcome}
 use Rattle.dap_tree.specs.Path.{Step, name, place, step, at, AreIdPaths}
 use Rattle.dap_tree.specs.declared.sort.Sort.{Sort}
@@ -28,23 +31,28 @@ ReadIsUtf8 = (bytes : List ℕ) (d : Doc) → IsRead bytes d → all_utf8 d ≡ 
 
 -- A change at a name puts f of the member there.
 abbrev pub ChangesMember : Type 0
-ChangesMember = (k : List ℕ) (f : Doc → Doc) (d : Doc) → get k (change_child k f d) ≡ option_map f (get k d)
+ChangesMember = (k : List ℕ) (f : Doc → Doc) (d : Doc)
+    → get k (change_child k f d) ≡ option_map f (get k d)
 
 -- A change at a name leaves the members of every other name.
 abbrev pub KeepsMembers : Type 0
-KeepsMembers = (k : List ℕ) (f : Doc → Doc) (d : Doc) (other : List ℕ) → other ≢ k → get other (change_child k f d) ≡ get other d
+KeepsMembers = (k : List ℕ) (f : Doc → Doc) (d : Doc) (other : List ℕ) → other ≢ k
+    → get other (change_child k f d) ≡ get other d
 
 -- A path through the name leads into what was put there.
 abbrev pub ChangesPaths : Type 0
-ChangesPaths = (k : List ℕ) (f : Doc → Doc) (d : Doc) (rest : List Step) → at (name k ∷ rest) (change_child k f d) ≡ option_and_then (λ e. at rest (f e)) (get k d)
+ChangesPaths = (k : List ℕ) (f : Doc → Doc) (d : Doc) (rest : List Step)
+    → at (name k ∷ rest) (change_child k f d) ≡ option_and_then (λ e. at rest (f e)) (get k d)
 
 -- Every other path into the document leads where it led.
 abbrev pub KeepsPaths : Type 0
-KeepsPaths = (k : List ℕ) (f : Doc → Doc) (d : Doc) (first : Step) (rest : List Step) → first ≢ name k → at (first ∷ rest) (change_child k f d) ≡ at (first ∷ rest) d
+KeepsPaths = (k : List ℕ) (f : Doc → Doc) (d : Doc) (first : Step) (rest : List Step)
+    → first ≢ name k → at (first ∷ rest) (change_child k f d) ≡ at (first ∷ rest) d
 
 -- A change of items puts f of each item in its place.
 abbrev pub ChangesItems : Type 0
-ChangesItems = (f : Doc → Doc) (d : Doc) (n : ℕ) → step (place n) (change_items f d) ≡ option_map f (step (place n) d)
+ChangesItems = (f : Doc → Doc) (d : Doc) (n : ℕ)
+    → step (place n) (change_items f d) ≡ option_map f (step (place n) d)
 
 -- A change of items leaves each member.
 abbrev pub LeavesMembers : Type 0
@@ -62,11 +70,13 @@ CountsIds = (d : Doc) → length (ids d) ≡ id_count d
 
 -- The i-th id gets the i-th number.
 abbrev pub NumbersIds : Type 0
-NumbersIds = (d : Doc) (ns : List ℤ) → length ns ≡ id_count d → numbers_of (ids (with_ids d ns)) ≡ ns
+NumbersIds = (d : Doc) (ns : List ℤ) → length ns ≡ id_count d
+    → numbers_of (ids (with_ids d ns)) ≡ ns
 
 -- With the numbers of ids of the same sorts, those are the ids.
 abbrev pub TakesIds : Type 0
-TakesIds = (d : Doc) (is : List (Sort × ℤ)) → sorts_of is ≡ sorts_of (ids d) → ids (with_ids d (numbers_of is)) ≡ is
+TakesIds = (d : Doc) (is : List (Sort × ℤ)) → sorts_of is ≡ sorts_of (ids d)
+    → ids (with_ids d (numbers_of is)) ≡ is
 
 -- With its own numbers a document is itself.
 abbrev pub KeepsOwnIds : Type 0
@@ -114,7 +124,8 @@ SkeletonIsAsUtf8 = (d : Doc) → all_utf8 (skeleton d) ≡ all_utf8 d
 
 -- A sound document is plain with its ids as whole numbers.
 abbrev pub WithoutIdsIsPlain : Type 0
-WithoutIdsIsPlain = (d : Doc) → is_sound d ≡ true → ids_in_range d ≡ true → is_plain (without_ids d) ≡ true
+WithoutIdsIsPlain = (d : Doc) → is_sound d ≡ true → ids_in_range d ≡ true
+    → is_plain (without_ids d) ≡ true
 
 -- Without an id there is nothing to be made a whole number.
 abbrev pub WithoutIdsIsSame : Type 0
@@ -126,7 +137,8 @@ HasSameText = (d : Doc) → text_of (without_ids d) ≡ text_of d
 
 -- The text of a sound document is read as the document with its ids as whole numbers.
 abbrev pub TextIsRead : Type 0
-TextIsRead = (d : Doc) → is_sound d ≡ true → ids_in_range d ≡ true → is_ordered d ≡ true → all_utf8 d ≡ true → IsRead (text_of d) (without_ids d)
+TextIsRead = (d : Doc) → is_sound d ≡ true → ids_in_range d ≡ true → is_ordered d ≡ true
+    → all_utf8 d ≡ true → IsRead (text_of d) (without_ids d)
 
 -- The order of the ids is the order of paths.
 abbrev pub IdsStandByPath : Type 0

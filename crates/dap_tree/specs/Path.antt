@@ -1,9 +1,11 @@
 -- Places in a document.
-use Rattle.std.specs.Prelude.{◌≡◌, ◌⊎◌, ℕ, zero, suc, ◌<◌, ℤ, List, [], ◌∷◌, map, AllPairs, Contains, true, Option, Some, None, option_and_then}
+use Rattle.std.specs.Prelude.{◌≡◌, ◌⊎◌, ℕ, zero, suc, ◌<◌, ℤ, List, [], ◌∷◌, map, AllPairs}
+use Rattle.std.specs.Prelude.{Contains, true, Option, Some, None, option_and_then}
 use Rattle.std.specs.Cmp.Lexicographic.{slice_cmp}
 use Rattle.std.specs.Ordering.{nat_cmp, is_lt}
 use Rattle.dap_tree.specs.declared.sort.Sort.{Sort}
-use Rattle.dap_tree.specs.Doc.{Doc, null, boolean, whole, text, list, object, id, Items, no_items, item, get}
+use Rattle.dap_tree.specs.Doc.{Doc, null, boolean, whole, text, list, object, id, Items, no_items}
+use Rattle.dap_tree.specs.Doc.{item, get}
 use Rattle.dap_tree.specs.Ids.{ids}
 
 -- A step into a document (own): to a member by its name, or to an item by its place, from 0.
@@ -40,13 +42,15 @@ StandsBefore (name k) (place n) = ⊥
 StandsBefore (place m) (name l) = ⊥
 StandsBefore (place m) (place n) = m < n
 
--- A path is before another (own): at the first step where they differ, its step stands before the other's.
+-- A path is before another (own): at the first step where they differ, its step stands before the
+-- other's.
 abbrev pub IsBefore : List Step → List Step → Type 0
 IsBefore [] qs = ⊥
 IsBefore (p ∷ ps) [] = ⊥
 IsBefore (p ∷ ps) (q ∷ qs) = StandsBefore p q ⊎ ((p ≡ q) × IsBefore ps qs)
 
--- The paths to the ids of a document (own): the i-th leads to the i-th id, each is before the later ones, and no other path leads to an id.
+-- The paths to the ids of a document (own): the i-th leads to the i-th id, each is before the later
+-- ones, and no other path leads to an id.
 pub record AreIdPaths (d : Doc) (paths : List (List Step)) : Type 0 where
   pub reached : map (λ p. at p d) paths ≡ map (λ i. Some (id i.0 i.1)) (ids d)
   pub ordered : AllPairs IsBefore paths

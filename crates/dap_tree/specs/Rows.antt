@@ -12,5 +12,7 @@ use Rattle.dap_tree.specs.contracts.tree.Tree.{the_row}
 -- `BTreeMap<String, Tree>`.
 abbrev pub map_row : RattleType
 map_row =
-    tree.the_row (text.the_row global.the_row ghosts) the_row global.the_row (ord.ghosts global.the_row ghosts ord.no_dict ord.no_dict)
-    (eq.ghosts global.the_row ghosts eq.no_dict eq.no_dict) (partial_ord.ghosts global.the_row ghosts partial_ord.no_dict partial_ord.no_dict) ghosts
+    tree.the_row (text.the_row global.the_row ghosts) the_row global.the_row
+    (ord.ghosts global.the_row ghosts ord.no_dict ord.no_dict)
+    (eq.ghosts global.the_row ghosts eq.no_dict eq.no_dict)
+    (partial_ord.ghosts global.the_row ghosts partial_ord.no_dict partial_ord.no_dict) ghosts

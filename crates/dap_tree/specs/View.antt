@@ -1,7 +1,8 @@
 -- The document that a `Tree` stands for.
 use Rattle.std.specs.Prelude.{List, [], ◌∷◌, map, String, string_bytes}
 use Rattle.std.specs.declared.alloc.Global.{Global}
-use Rattle.dap_tree.specs.Doc.{Doc, null, boolean, whole, text, list, object, id, Items, no_items, item, Members, no_members, member}
+use Rattle.dap_tree.specs.Doc.{Doc, null, boolean, whole, text, list, object, id, Items, no_items}
+use Rattle.dap_tree.specs.Doc.{item, Members, no_members, member}
 use Rattle.dap_tree.specs.declared.tree.Tree.{Tree, fold-Tree}
 use Rattle.dap_tree.specs.declared.tree.Tree.TheOpen.{Tree-F}
 

@@ -1,4 +1,5 @@
--- For private clauses: the tokens that a writer of JSON is given for a document, and that they read back.
+-- For private clauses: the tokens that a writer of JSON is given for a document, and that they read
+-- back.
 use Rattle.std.specs.Prelude.{◌≡◌, List, ◌++◌, Some}
 use Rattle.json.specs.Token.{Token}
 use Rattle.json.specs.Json as grammar
@@ -21,12 +22,15 @@ members_json ms = members_outline (members_data ms)
 
 -- The document's tokens are appended, and what they spell reads as the document.
 abbrev pub WritesDoc : Doc → List Token → List Token → Type 0
-WritesDoc d old new = (new ≡ old ++ json_tokens (json_of d)) × (of_json (json_of d) ≡ Some (data_of d))
+WritesDoc d old new = (new ≡ old ++ json_tokens (json_of d))
+    × (of_json (json_of d) ≡ Some (data_of d))
 
 -- The same for items, with the bracket that ends the list.
 abbrev pub WritesItems : Items → List Token → List Token → Type 0
-WritesItems ds old new = (new ≡ old ++ items_tokens (items_json ds)) × (of_items (items_json ds) ≡ Some (items_data ds))
+WritesItems ds old new = (new ≡ old ++ items_tokens (items_json ds))
+    × (of_items (items_json ds) ≡ Some (items_data ds))
 
 -- The same for members, with the brace that ends the object.
 abbrev pub WritesMembers : Members → List Token → List Token → Type 0
-WritesMembers ms old new = (new ≡ old ++ members_tokens (members_json ms)) × (of_members (members_json ms) json.no_members ≡ Some (members_data ms))
+WritesMembers ms old new = (new ≡ old ++ members_tokens (members_json ms))
+    × (of_members (members_json ms) json.no_members ≡ Some (members_data ms))

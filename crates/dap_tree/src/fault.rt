@@ -10,7 +10,8 @@ pub enum TreeFault {
     /// The content is no UTF-8 or no JSON, or nests more than 127 lists and objects.
     #[error("Json")]
     Json,
-    /// Some number is not kept whole: it has a fraction or an exponent, is `-0`, or does not fit 64 bits.
+    /// Some number is not kept whole: it has a fraction or an exponent, is `-0`, or does not fit 64
+    /// bits.
     #[error("Fraction")]
     Fraction,
     /// Memory was refused.

@@ -1,7 +1,28 @@
 //! The ids of a tree: listed, and replaced by other numbers.
 ghost use Rattle.std.specs.Prelude.{◌≡◌, ◌++◌, ◌≤◌, true, length, drop, OnOk, OnErr};
-ghost use Rattle.dap_tree.specs.Doc.{depth, items_depth, members_depth, is_sound, is_ordered, items_ordered, members_ordered};
-ghost use Rattle.dap_tree.specs.Ids.{ids, items_ids, members_ids, id_count, items_id_count, members_id_count, with_ids, items_with_ids, members_with_ids, numbers_of, skeleton, Extends};
+ghost use Rattle.dap_tree.specs.Doc.{
+  depth,
+  items_depth,
+  members_depth,
+  is_sound,
+  is_ordered,
+  items_ordered,
+  members_ordered,
+};
+ghost use Rattle.dap_tree.specs.Ids.{
+  ids,
+  items_ids,
+  members_ids,
+  id_count,
+  items_id_count,
+  members_id_count,
+  with_ids,
+  items_with_ids,
+  members_with_ids,
+  numbers_of,
+  skeleton,
+  Extends,
+};
 ghost use Rattle.dap_tree.specs.View.{view, items_view, members_view};
 
 use crate::sound::MAX_DEPTH;
@@ -10,7 +31,8 @@ use std::alloc::AllocError;
 use std::collections::BTreeMap;
 
 impl Tree {
-    /// Appends the ids of the tree, each its sort and its number, in the order in which the text of the tree has them.
+    /// Appends the ids of the tree, each its sort and its number, in the order in which the text of
+    /// the tree has them.
     pub fn add_ids(&self, found: &mut Vec<(Sort, i64)>) -> Result<(), AllocError>
         ensures ok { OnOk result (found.new.items ≡ found.old.items ++ ids (view self.now)) }
         ensures err { OnErr result (found.new.items ≡ found.old.items) }
@@ -26,7 +48,8 @@ impl Tree {
         added
     }
 
-    /// Gives the ids of the tree other numbers, in the order in which the text of the tree has them.
+    /// Gives the ids of the tree other numbers, in the order in which the text of the tree has
+    /// them.
     ///
     /// The tree is changed in place, and no memory is taken.
     pub fn replace_ids(&mut self, numbers: &[i64])
@@ -62,7 +85,8 @@ fn add(tree: &Tree, found: &mut Vec<(Sort, i64)>) -> Result<(), AllocError>
 
 #[cycle(add)]
 fn add_items(items: &Vec<Tree>, found: &mut Vec<(Sort, i64)>) -> Result<(), AllocError>
-    ensures ok { OnOk result (found.new.items ≡ found.old.items ++ items_ids (items_view items.now.items)) }
+    ensures ok { OnOk result (found.new.items
+        ≡ found.old.items ++ items_ids (items_view items.now.items)) }
     ensures err { OnErr result (Extends found.old.items found.new.items) }
     ensures ordered { OnOk result (items_ordered (items_view items.now.items) ≡ true) }
 {
@@ -77,7 +101,8 @@ fn add_members(
     members: &BTreeMap<String, Tree>,
     found: &mut Vec<(Sort, i64)>,
 ) -> Result<(), AllocError>
-    ensures ok { OnOk result (found.new.items ≡ found.old.items ++ members_ids (members_view members.now.entries)) }
+    ensures ok { OnOk result (found.new.items
+        ≡ found.old.items ++ members_ids (members_view members.now.entries)) }
     ensures err { OnErr result (Extends found.old.items found.new.items) }
     ensures ordered { OnOk result (members_ordered (members_view members.now.entries) ≡ true) }
 {
@@ -160,7 +185,8 @@ fn put_items(items: &mut Vec<Tree>, numbers: &[i64], levels: u8)
 #[cycle(put)]
 fn put_members(members: &mut BTreeMap<String, Tree>, numbers: &[i64], levels: u8)
     requires { members_depth (members_view members.old.entries) ≤ levels }
-    ensures { members_view members.new.entries ≡ members_with_ids (members_view members.old.entries) numbers.now }
+    ensures { members_view members.new.entries
+        ≡ members_with_ids (members_view members.old.entries) numbers.now }
 {
     let mut rest = numbers;
     members.retain(

@@ -1,8 +1,42 @@
 //! Laws of the definitions that the contracts of this crate speak in. Each function does nothing.
-ghost use Rattle.dap_tree.specs.Laws.{SomeOutcome, OneOutcome, ReadIsPlain, ReadIsOrdered, ReadIsUtf8, ChangesMember, KeepsMembers, ChangesPaths, KeepsPaths, ChangesItems, LeavesMembers};
-ghost use Rattle.dap_tree.specs.Laws.{FindsNoIds, CountsIds, NumbersIds, TakesIds, KeepsOwnIds, KeepsSound, KeepsSkeleton, DiffersInNumbers, SkeletonTells, SkeletonHasSorts, SkeletonHasCount, SkeletonHasDepth, SkeletonIsAsSound, SkeletonIsAsOrdered, SkeletonIsAsUtf8, WithoutIdsIsPlain, WithoutIdsIsSame, HasSameText, TextIsRead, IdsStandByPath};
+ghost use Rattle.dap_tree.specs.Laws.{
+  SomeOutcome,
+  OneOutcome,
+  ReadIsPlain,
+  ReadIsOrdered,
+  ReadIsUtf8,
+  ChangesMember,
+  KeepsMembers,
+  ChangesPaths,
+  KeepsPaths,
+  ChangesItems,
+  LeavesMembers,
+};
+ghost use Rattle.dap_tree.specs.Laws.{
+  FindsNoIds,
+  CountsIds,
+  NumbersIds,
+  TakesIds,
+  KeepsOwnIds,
+  KeepsSound,
+  KeepsSkeleton,
+  DiffersInNumbers,
+  SkeletonTells,
+  SkeletonHasSorts,
+  SkeletonHasCount,
+  SkeletonHasDepth,
+  SkeletonIsAsSound,
+  SkeletonIsAsOrdered,
+  SkeletonIsAsUtf8,
+  WithoutIdsIsPlain,
+  WithoutIdsIsSame,
+  HasSameText,
+  TextIsRead,
+  IdsStandByPath,
+};
 
-/// Every content is one of three, and one alone: the text of one tree, no JSON, or JSON with a fraction.
+/// Every content is one of three, and one alone: the text of one tree, no JSON, or JSON with a
+/// fraction.
 pub fn one_outcome()
     ensures some { SomeOutcome }
     ensures one { OneOutcome }
@@ -10,7 +44,8 @@ pub fn one_outcome()
 
 /// A content nests no deeper than a tree may, its whole numbers are in range, and it has no ids.
 ///
-/// The members of its objects stand in the byte order of their names, each name once. Its texts and names are UTF-8.
+/// The members of its objects stand in the byte order of their names, each name once. Its texts and
+/// names are UTF-8.
 pub fn read_is_plain()
     ensures plain { ReadIsPlain }
     ensures ordered { ReadIsOrdered }

@@ -1,4 +1,5 @@
-//! JSON trees of whole numbers and ids: read from a content, looked into, changed, copied and written.
+//! JSON trees of whole numbers and ids: read from a content, looked into, changed, copied and
+//! written.
 #![tactic(auto)]
 
 mod copy;

@@ -1,9 +1,27 @@
 //! A tree read from the JSON of a content.
 ghost use Rattle.std.specs.Prelude.{◌≡◌, true, IfOk, IfErr, MatchResult};
 ghost use Rattle.serde_json.specs.Data.{number as json_number};
-ghost use Rattle.serde_json.specs.View.{number_view, view as value_view, items_view as values_view, members_view as pairs_view};
+ghost use Rattle.serde_json.specs.View.{
+  number_view,
+  view as value_view,
+  items_view as values_view,
+  members_view as pairs_view,
+};
 ghost use Rattle.dap_tree.specs.Doc.{is_plain};
-ghost use Rattle.dap_tree.specs.Json.{IsRead, Outcome, document, HasOutcome, ExplainsText, Tells, ExplainsData, ExplainsItems, ExplainsMembers, Stands, ItemsStand, MembersStand};
+ghost use Rattle.dap_tree.specs.Json.{
+  IsRead,
+  Outcome,
+  document,
+  HasOutcome,
+  ExplainsText,
+  Tells,
+  ExplainsData,
+  ExplainsItems,
+  ExplainsMembers,
+  Stands,
+  ItemsStand,
+  MembersStand,
+};
 ghost use Rattle.dap_tree.specs.View.{view, items_view, members_view};
 
 use crate::{Tree, TreeFault};
@@ -77,7 +95,8 @@ fn members_of(
     alloc: Global,
     values: Map<String, Value>,
 ) -> Result<BTreeMap<String, Tree>, TreeFault>
-    ensures ok { IfOk result (λ m. MembersStand (pairs_view values.entries) (members_view m.entries)) }
+    ensures ok { IfOk result
+        (λ m. MembersStand (pairs_view values.entries) (members_view m.entries)) }
     ensures err { IfErr result (ExplainsMembers (pairs_view values.entries)) }
 {
     let mut members = BTreeMap::new(alloc);

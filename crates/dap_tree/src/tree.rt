@@ -4,8 +4,8 @@ use std::collections::BTreeMap;
 
 /// A JSON value whose numbers are whole, where some of them may be ids.
 ///
-/// The members of an object stand in the byte order of their names, each name once.
-/// Trees that are made by hand may nest deeper, and hold larger numbers, than JSON of ours does: `sound` tells.
+/// The members of an object stand in the byte order of their names, each name once. Trees that are
+/// made by hand may nest deeper, and hold larger numbers, than JSON of ours does: `sound` tells.
 #[derive(Drop)]
 pub enum Tree {
     Null,

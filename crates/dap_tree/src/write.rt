@@ -1,6 +1,13 @@
 //! A tree written as compact JSON.
 ghost use Rattle.std.specs.Prelude.{◌≡◌, true, IfOk, IfErr, OnOk, string_bytes};
-ghost use Rattle.dap_tree.specs.Doc.{whole, in_range, all_in_range, items_in_range, members_in_range, is_sound};
+ghost use Rattle.dap_tree.specs.Doc.{
+  whole,
+  in_range,
+  all_in_range,
+  items_in_range,
+  members_in_range,
+  is_sound,
+};
 ghost use Rattle.dap_tree.specs.Ids.{without_ids};
 ghost use Rattle.dap_tree.specs.Json.{text_of, IsRead};
 ghost use Rattle.dap_tree.specs.WrittenTokens.{WritesDoc, WritesItems, WritesMembers};
@@ -12,7 +19,8 @@ use json::Writer;
 use std::alloc::{AllocError, Global};
 use std::collections::BTreeMap;
 
-/// Writes a sound tree as compact JSON: no spaces, members in the byte order of their names, an id as its number.
+/// Writes a sound tree as compact JSON: no spaces, members in the byte order of their names, an id
+/// as its number.
 pub fn write_tree(alloc: Global, tree: &Tree) -> Result<String, TreeFault>
     requires { is_sound (view tree.now) ≡ true }
     ensures text { IfOk result (λ s. string_bytes s ≡ text_of (view tree.now)) }
@@ -69,7 +77,8 @@ fn write_id(n: i64, out: &mut Writer) -> Result<(), AllocError>
 #[cycle(write)]
 fn write_items(items: &Vec<Tree>, out: &mut Writer) -> Result<(), AllocError>
     requires { items_in_range (items_view items.now.items) ≡ true }
-    ensures ok { OnOk result (WritesItems (items_view items.now.items) out.old.tokens out.new.tokens) }
+    ensures ok { OnOk result
+        (WritesItems (items_view items.now.items) out.old.tokens out.new.tokens) }
     ensures before { out.new.before ≡ out.old.before }
 {
     for item in items {
@@ -81,7 +90,8 @@ fn write_items(items: &Vec<Tree>, out: &mut Writer) -> Result<(), AllocError>
 #[cycle(write)]
 fn write_members(members: &BTreeMap<String, Tree>, out: &mut Writer) -> Result<(), AllocError>
     requires { members_in_range (members_view members.now.entries) ≡ true }
-    ensures ok { OnOk result (WritesMembers (members_view members.now.entries) out.old.tokens out.new.tokens) }
+    ensures ok { OnOk result
+        (WritesMembers (members_view members.now.entries) out.old.tokens out.new.tokens) }
     ensures before { out.new.before ≡ out.old.before }
 {
     for (name, member) in members.iter() {

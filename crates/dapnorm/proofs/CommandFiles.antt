@@ -1,19 +1,28 @@
 -- Where a parse takes the words, a `compare` among them has both files.
-use Rattle.std.proofs.Common.{◌≡◌, ◌<◌, ◌||◌, not, cond, is_some, Bool, true, false, List, [], ◌∷◌, ◌++◌, Option, Some, None, length, nat_le, codes, refl, sym, ◌∙◌, ap, subst, arith, true≢false, length-append}
+use Rattle.std.proofs.Common.{◌≡◌, ◌<◌, ◌||◌, not, cond, is_some, Bool, true, false, List, [], ◌∷◌}
+use Rattle.std.proofs.Common.{◌++◌, Option, Some, None, length, nat_le, codes, refl, sym, ◌∙◌, ap}
+use Rattle.std.proofs.Common.{subst, arith, true≢false, length-append}
 use Rattle.std.specs.Prelude.{option_and_then, option_map, slice_get}
 use Rattle.std.specs.List.{find, fold, list_all, AllByRecursion}
 use Rattle.std.specs.Option.{option_map_or}
 use Rattle.std.specs.Str.{bytes_eq}
 use Rattle.clap.specs.Facts.{explicit_source, unwrap_or_range}
-use Rattle.clap.specs.Simple.{Shape, argument_words, built, built_leaf, entered, filled, help_rule, inherited, is_simple, label_of, marked_built, names_of, rows_at, subcommand_of, with_index, with_leaf_noted}
-use Rattle.clap.specs.Takes.{action_passes, built_takes, default_passes, entered_passes, is_given, is_valid, level_passes, settle_passes, takes, use_passes, walk_passes}
-use Rattle.clap.specs.Walk.{Row, Rule, Text, action_of, answers_to, default_rows, finished, first_of, has_row, more_values, most_values, nothing_held, reading_by, rows_after, stop_after, used, used_as, values_or_missing, walk_from, walked, with_default, with_values, without}
+use Rattle.clap.specs.Simple.{Shape, argument_words, built, built_leaf, entered, filled, help_rule}
+use Rattle.clap.specs.Simple.{inherited, is_simple, label_of, marked_built, names_of, rows_at}
+use Rattle.clap.specs.Simple.{subcommand_of, with_index, with_leaf_noted}
+use Rattle.clap.specs.Takes.{action_passes, built_takes, default_passes, entered_passes, is_given}
+use Rattle.clap.specs.Takes.{is_valid, level_passes, settle_passes, takes, use_passes, walk_passes}
+use Rattle.clap.specs.Walk.{Row, Rule, Text, action_of, answers_to, default_rows, finished}
+use Rattle.clap.specs.Walk.{first_of, has_row, more_values, most_values, nothing_held, reading_by}
+use Rattle.clap.specs.Walk.{rows_after, stop_after, used, used_as, values_or_missing, walk_from}
+use Rattle.clap.specs.Walk.{walked, with_default, with_values, without}
 use Rattle.clap.specs.declared.builder.action.ArgAction.TheVariants.{Set, Help}
 use Rattle.clap.specs.declared.builder.value_parser.Reading.{Reading}
 use Rattle.clap.specs.declared.parser.matches.ValueSource.{ValueSource}
 use Rattle.clap.specs.declared.parser.matches.ValueSource.TheVariants.{CommandLine, DefaultValue}
 use Rattle.clap.proofs.WalkLemmas.{both}
-use Rattle.dapnorm.specs.CommandLine.{Told, comparer, file, is_set, job_named, names_job, program, two_files}
+use Rattle.dapnorm.specs.CommandLine.{Told, comparer, file, is_set, job_named, names_job, program}
+use Rattle.dapnorm.specs.CommandLine.{two_files}
 use Rattle.dapnorm.specs.CommandLine as line
 use Rattle.dapnorm.proofs.CommandWalk.{finished_keeps}
 
@@ -23,11 +32,15 @@ abbrev HaveValues : List Row → Type 0
 HaveValues [] = Unit {0}
 HaveValues (r ∷ rows) = (0 < length r.values) × HaveValues rows
 
-values_added : (id : Text) (how : Reading) (s : ValueSource) (values : List Text) (rows : List Row) → 0 < length values → HaveValues rows → HaveValues (with_values id how s values rows)
+values_added : (id : Text) (how : Reading) (s : ValueSource) (values : List Text) (rows : List Row)
+    → 0 < length values → HaveValues rows → HaveValues (with_values id how s values rows)
 values_added id how s values [] some was = (some, tt)
-values_added id how s values (r ∷ rows) some was = by_id (bytes_eq r.id id) (values_added id how s values rows some was.1)
+values_added id how s values (r ∷ rows) some was =
+    by_id (bytes_eq r.id id) (values_added id how s values rows some was.1)
   where
-    by_id : (b : Bool) → HaveValues (with_values id how s values rows) → HaveValues (cond b (more_values s values r ++ rows) (r ∷ with_values id how s values rows))
+    by_id : (b : Bool) → HaveValues (with_values id how s values rows)
+        → HaveValues
+        (cond b (more_values s values r ++ rows) (r ∷ with_values id how s values rows))
     by_id true later = (let had = was.0 in omega (arith, had, length-append r.values values), was.1)
     by_id false later = (was.0, later)
 
@@ -35,42 +48,54 @@ row_removed : (id : Text) (rows : List Row) → HaveValues rows → HaveValues (
 row_removed id [] was = tt
 row_removed id (r ∷ rows) was = by_id (bytes_eq r.id id) (row_removed id rows was.1)
   where
-    by_id : (b : Bool) → HaveValues (without id rows) → HaveValues (cond b rows (r ∷ without id rows))
+    by_id : (b : Bool) → HaveValues (without id rows)
+        → HaveValues (cond b rows (r ∷ without id rows))
     by_id true later = was.1
     by_id false later = (was.0, later)
 
 default_added : (rows : List Row) (a : Rule) → HaveValues rows → HaveValues (with_default rows a)
 default_added rows a was = by_row (has_row a.id rows)
   where
-    by_defaults : (defaults : List Text) → HaveValues (default_rows a.id (reading_by a) defaults rows)
+    by_defaults : (defaults : List Text)
+        → HaveValues (default_rows a.id (reading_by a) defaults rows)
     by_defaults [] = was
-    by_defaults (v ∷ vs) = values_added a.id (reading_by a) DefaultValue (v ∷ vs) rows (omega arith) was
+    by_defaults (v ∷ vs) =
+        values_added a.id (reading_by a) DefaultValue (v ∷ vs) rows (omega arith) was
 
-    by_row : (b : Bool) → HaveValues (cond b rows (default_rows a.id (reading_by a) a.defaults rows))
+    by_row : (b : Bool)
+        → HaveValues (cond b rows (default_rows a.id (reading_by a) a.defaults rows))
     by_row true = was
     by_row false = by_defaults a.defaults
 
 -- a use of the argument leaves each row with a value
 abbrev UseHasValues : Bool → Rule → Type 0
-UseHasValues again a = (values : List Text) (rows : List Row) → use_passes again a values rows ≡ true → HaveValues rows → HaveValues (used a values rows)
+UseHasValues again a = (values : List Text) (rows : List Row)
+    → use_passes again a values rows ≡ true → HaveValues rows → HaveValues (used a values rows)
 
 -- an argument that takes one value
-set_use : (again : Bool) (a : Rule) → action_of a ≡ Set → (unwrap_or_range a.range).start_inclusive ≡ 1 → UseHasValues again a
+set_use : (again : Bool) (a : Rule) → action_of a ≡ Set
+    → (unwrap_or_range a.range).start_inclusive ≡ 1 → UseHasValues again a
 set_use again a is_set one [] rows passes was =
-    absurd (true≢false (sym (both (nat_le (unwrap_or_range a.range).start_inclusive 0) _ passes).0 ∙ ap (λ n. nat_le n 0) one))
+    absurd (true≢false (sym (both (nat_le (unwrap_or_range a.range).start_inclusive 0) _ passes).0
+    ∙ ap (λ n. nat_le n 0) one))
 set_use again a is_set one (v ∷ vs) rows passes was =
     subst (λ x. HaveValues (used_as x a.id (reading_by a) (v ∷ vs) rows)) (sym is_set)
-    (values_added a.id (reading_by a) CommandLine (v ∷ vs) (without a.id rows) (omega arith) (row_removed a.id rows was))
+    (values_added a.id (reading_by a) CommandLine (v ∷ vs) (without a.id rows) (omega arith)
+    (row_removed a.id rows was))
 
 -- the flag for help, which no parse takes
 no_use : (again : Bool) (a : Rule) → action_of a ≡ Help → UseHasValues again a
 no_use again a is_help values rows passes was =
-    let action = (both (nat_le (length values) (most_values a)) _ (both (nat_le (unwrap_or_range a.range).start_inclusive (length values)) _ passes).1).1 in
-    absurd (true≢false (sym action ∙ ap (λ x. action_passes x again a (values_or_missing a values) rows) is_help))
+    let action =
+    (both (nat_le (length values) (most_values a)) _
+    (both (nat_le (unwrap_or_range a.range).start_inclusive (length values)) _ passes).1).1 in
+    absurd (true≢false (sym action
+    ∙ ap (λ x. action_passes x again a (values_or_missing a values) rows) is_help))
 
 -- ---- what a search finds is one of the list
 
-find_all : {X : Type 0} (Q : X → Type 0) (p : X → Bool) (xs : List X) (x : X) → AllByRecursion Q xs → find p xs ≡ Some x → Q x
+find_all : {X : Type 0} (Q : X → Type 0) (p : X → Bool) (xs : List X) (x : X) → AllByRecursion Q xs
+    → find p xs ≡ Some x → Q x
 find_all Q p [] x all e = absurd (let f : ⊥ = cc in f)
 find_all {X} Q p (y ∷ xs) x all e = by_hit (p y) (λ found. find_all Q p xs x all.1 found) e
   where
@@ -95,98 +120,150 @@ abbrev help_flag : Rule
 help_flag = with_index 3 (filled help_rule)
 
 each_rule : AllByRecursion (UseHasValues built_comparer.args_override_self) built_comparer.rules
-each_rule = (set_use false first_file refl refl, (set_use false second_file refl refl, (no_use false help_flag refl, tt)))
+each_rule = (
+  set_use false first_file refl refl,
+  (set_use false second_file refl refl, (no_use false help_flag refl, tt)),
+)
 
 some_first : (values : List Text) → 0 < length values → is_some (slice_get values 0) ≡ true
 some_first [] some = absurd (omega (arith, some))
 some_first (v ∷ vs) some = refl
 
-first_given : (id : Text) (rows : List Row) → HaveValues rows → is_given id rows ≡ true → is_some (first_of id rows) ≡ true
+first_given : (id : Text) (rows : List Row) → HaveValues rows → is_given id rows ≡ true
+    → is_some (first_of id rows) ≡ true
 first_given id [] have given = absurd (true≢false (sym given))
-first_given id (r ∷ rows) have given = by_id (bytes_eq r.id id) (λ later. first_given id rows have.1 later) given
+first_given id (r ∷ rows) have given =
+    by_id (bytes_eq r.id id) (λ later. first_given id rows have.1 later) given
   where
-    by_id : (b : Bool) → (is_given id rows ≡ true → is_some (first_of id rows) ≡ true) → option_map_or (λ (x : Row). explicit_source x.source) (cond b (Some r) (find (λ (x : Row). bytes_eq x.id id) rows)) false ≡ true
-        → is_some (option_and_then (λ (x : Row). slice_get x.values 0) (cond b (Some r) (find (λ (x : Row). bytes_eq x.id id) rows))) ≡ true
+    by_id : (b : Bool) → (is_given id rows ≡ true → is_some (first_of id rows) ≡ true)
+        → option_map_or (λ (x : Row). explicit_source x.source)
+        (cond b (Some r) (find (λ (x : Row). bytes_eq x.id id) rows)) false ≡ true
+        → is_some (option_and_then (λ (x : Row). slice_get x.values 0)
+        (cond b (Some r) (find (λ (x : Row). bytes_eq x.id id) rows))) ≡ true
     by_id true later found = some_first r.values have.0
     by_id false later found = later found
 
 abbrev HasFiles : List Row → Type 0
-HasFiles rows = (is_some (first_of (codes "A") rows) ≡ true) × (is_some (first_of (codes "B") rows) ≡ true)
+HasFiles rows = (is_some (first_of (codes "A") rows) ≡ true)
+    × (is_some (first_of (codes "B") rows) ≡ true)
 
-level_has_files : (words : List Text) → level_passes built_comparer [] nothing_held words false ≡ true → HasFiles (rows_after built_comparer.rules [] words)
+level_has_files : (words : List Text)
+    → level_passes built_comparer [] nothing_held words false ≡ true
+    → HasFiles (rows_after built_comparer.rules [] words)
 level_has_files words passes =
     let end = (fold (walked built_comparer.rules []) (walk_from nothing_held) words).held in
     let rows = finished built_comparer.rules end in
     let walks = both (walk_passes built_comparer [] (walk_from nothing_held) words) _ passes in
-    let settles = both (settle_passes built_comparer.rules built_comparer.args_override_self end) _ walks.1 in
-    let defaults = both (list_all default_passes built_comparer.rules) (is_valid built_comparer rows false) settles.1 in
-    let have = finished_keeps built_comparer [] HaveValues (λ p a values held found. find_all (UseHasValues built_comparer.args_override_self) p built_comparer.rules a each_rule found values held)
+    let settles =
+    both (settle_passes built_comparer.rules built_comparer.args_override_self end) _ walks.1 in
+    let defaults =
+    both (list_all default_passes built_comparer.rules) (is_valid built_comparer rows false)
+    settles.1 in
+    let have = finished_keeps built_comparer [] HaveValues
+    (λ p a values held found. find_all (UseHasValues built_comparer.args_override_self) p
+    built_comparer.rules a each_rule found values held)
     default_added words (walk_from nothing_held) walks.0 settles.0 tt in
     let needs = both true _ (both true _ defaults.1).1 in
-    let required : list_all (λ a. not a.required || is_given a.id rows) built_comparer.rules ≡ true = (both (list_all (λ (a : Rule). a.is_free) built_comparer.rules) _ needs.1).1 in
+    let required : list_all (λ a. not a.required || is_given a.id rows) built_comparer.rules
+    ≡ true = (both (list_all (λ (a : Rule). a.is_free) built_comparer.rules) _ needs.1).1 in
     let first = both (is_given (codes "A") rows) _ required in
     let second = both (is_given (codes "B") rows) _ first.1 in
     (first_given (codes "A") rows have first.0, first_given (codes "B") rows have second.0)
 
 -- the subcommands, of which one alone is named `compare`
-each_subcommand : AllByRecursion (λ (s : Shape). bytes_eq s.name (codes "compare") ≡ true → s ≡ built_comparer) (built program).subs
+each_subcommand : AllByRecursion (λ (s : Shape). bytes_eq s.name (codes "compare") ≡ true
+    → s ≡ built_comparer) (built program).subs
 each_subcommand = (
   λ e. absurd (true≢false (sym e)),
   (
     λ e. absurd (true≢false (sym e)),
-    (λ e. absurd (true≢false (sym e)), (λ e. absurd (true≢false (sym e)), (λ e. absurd (true≢false (sym e)), (λ e. refl, (λ e. absurd (true≢false (sym e)), tt))))),
+    (
+      λ e. absurd (true≢false (sym e)),
+      (
+        λ e. absurd (true≢false (sym e)),
+        (λ e. absurd (true≢false (sym e)), (λ e. refl, (λ e. absurd (true≢false (sym e)), tt))),
+      ),
+    ),
   ),
 )
 
-module _ (words : List Text) (name : Text) (rows : List Row) (is : bytes_eq name (codes "compare") ≡ true) where
-  by_found : (p : Text × List Text) (found : Option Shape) → find (λ s. answers_to p.0 (label_of s)) (built program).subs ≡ found → option_map (λ s. rows_at s p.1) found ≡ Some (name, rows)
-      → option_map_or (λ s. level_passes s [] nothing_held p.1 false) found true ≡ true → HasFiles rows
+module _ (words : List Text) (name : Text) (rows : List Row) (is : bytes_eq name (codes "compare")
+    ≡ true) where
+  by_found : (p : Text × List Text) (found : Option Shape)
+      → find (λ s. answers_to p.0 (label_of s)) (built program).subs ≡ found
+      → option_map (λ s. rows_at s p.1) found ≡ Some (name, rows)
+      → option_map_or (λ s. level_passes s [] nothing_held p.1 false) found true ≡ true
+      → HasFiles rows
   by_found p None found named passes = absurd (let f : ⊥ = cc in f)
   by_found p (Some s) found named passes =
-      let name_is : s.name ≡ name = ap (λ o. option_map_or (λ (q : Text × List Row). q.0) o []) named in
-      let rows_are : rows_after s.rules [] p.1 ≡ rows = ap (λ o. option_map_or (λ (q : Text × List Row). q.1) o []) named in
-      let shape : s ≡ built_comparer = find_all (λ (t : Shape). bytes_eq t.name (codes "compare") ≡ true → t ≡ built_comparer) (λ t. answers_to p.0 (label_of t)) (built program).subs s each_subcommand found
+      let name_is : s.name ≡ name =
+      ap (λ o. option_map_or (λ (q : Text × List Row). q.0) o []) named in
+      let rows_are : rows_after s.rules [] p.1 ≡ rows =
+      ap (λ o. option_map_or (λ (q : Text × List Row). q.1) o []) named in
+      let shape : s ≡ built_comparer =
+      find_all (λ (t : Shape). bytes_eq t.name (codes "compare") ≡ true
+      → t ≡ built_comparer) (λ t. answers_to p.0 (label_of t)) (built program).subs s
+      each_subcommand found
       (ap (λ n. bytes_eq n (codes "compare")) name_is ∙ is) in
       subst HasFiles (ap (λ (t : Shape). rows_after t.rules [] p.1) (sym shape) ∙ rows_are)
-      (level_has_files p.1 (ap (λ t. level_passes t [] nothing_held p.1 false) (sym shape) ∙ passes))
+      (level_has_files p.1 (ap (λ t. level_passes t [] nothing_held p.1 false) (sym shape)
+      ∙ passes))
 
-  by_stop : (stop : Option (Text × List Text)) → entered (built program) stop ≡ Some (name, rows) → entered_passes (built program) stop ≡ true → HasFiles rows
+  by_stop : (stop : Option (Text × List Text)) → entered (built program) stop ≡ Some (name, rows)
+      → entered_passes (built program) stop ≡ true → HasFiles rows
   by_stop None named passes = absurd (let f : ⊥ = cc in f)
-  by_stop (Some p) named passes = by_found p (find (λ s. answers_to p.0 (label_of s)) (built program).subs) refl named passes
+  by_stop (Some p) named passes =
+      by_found p (find (λ s. answers_to p.0 (label_of s)) (built program).subs) refl named passes
 
-  pub has_files : takes program words ≡ true → subcommand_of program words ≡ Some (name, rows) → HasFiles rows
+  pub has_files : takes program words ≡ true → subcommand_of program words ≡ Some (name, rows)
+      → HasFiles rows
   has_files taken named =
-      let stop = stop_after (built program).top.rules (names_of (built program)) (argument_words program words) in
-      let parse = (both (is_simple program) (built_takes (built program) nothing_held (argument_words program words)) taken).1 in
+      let stop = stop_after (built program).top.rules (names_of (built program))
+      (argument_words program words) in
+      let parse =
+      (both (is_simple program)
+      (built_takes (built program) nothing_held (argument_words program words)) taken).1 in
       by_stop stop named (both (entered_passes (built program) stop) _ parse).0
 
 -- ---- the job
 
-both_files : (a b : Option Text) → is_some a ≡ true → is_some b ≡ true → is_some (two_files a b) ≡ true
+both_files : (a b : Option Text) → is_some a ≡ true → is_some b ≡ true
+    → is_some (two_files a b) ≡ true
 both_files None b some other = absurd (true≢false (sym some))
 both_files (Some a) None some other = absurd (true≢false (sym other))
 both_files (Some a) (Some b) some other = refl
 
-by_name : (compact record_trace normalise check show compare : Bool) (checked : Told) (files : Option Told) → (compare ≡ true → is_some files ≡ true)
+by_name : (compact record_trace normalise check show compare : Bool) (checked : Told)
+    (files : Option Told) → (compare ≡ true → is_some files ≡ true)
     → (compact || (record_trace || (normalise || (check || (show || compare))))) ≡ true
-    → is_some (cond compact (Some line.compact) (cond record_trace (Some line.recording) (cond normalise (Some line.normalise) (cond check (Some checked) (cond show (Some line.show) (cond compare files None)))))) ≡ true
+    → is_some (cond compact (Some line.compact)
+    (cond record_trace (Some line.recording)
+    (cond normalise (Some line.normalise)
+    (cond check (Some checked) (cond show (Some line.show) (cond compare files None)))))) ≡ true
 by_name true r n k s c checked files both_there one = refl
 by_name false true n k s c checked files both_there one = refl
 by_name false false true k s c checked files both_there one = refl
 by_name false false false true s c checked files both_there one = refl
 by_name false false false false true c checked files both_there one = refl
 by_name false false false false false true checked files both_there one = both_there refl
-by_name false false false false false false checked files both_there one = absurd (true≢false (sym one))
+by_name false false false false false false checked files both_there one =
+    absurd (true≢false (sym one))
 
 -- Words that a parse takes with one of the subcommands name a job.
-pub takes_job : (words : List Text) → takes program words ≡ true → names_job (subcommand_of program words) ≡ true → is_some (job_named (subcommand_of program words)) ≡ true
+pub takes_job : (words : List Text) → takes program words ≡ true
+    → names_job (subcommand_of program words) ≡ true
+    → is_some (job_named (subcommand_of program words)) ≡ true
 takes_job words taken names = by_subcommand (subcommand_of program words) refl names
   where
-    by_subcommand : (named : Option (Text × List Row)) → subcommand_of program words ≡ named → names_job named ≡ true → is_some (job_named named) ≡ true
+    by_subcommand : (named : Option (Text × List Row)) → subcommand_of program words ≡ named
+        → names_job named ≡ true → is_some (job_named named) ≡ true
     by_subcommand None is one = absurd (true≢false (sym one))
     by_subcommand (Some p) is one =
-        by_name (bytes_eq p.0 (codes "compact")) (bytes_eq p.0 (codes "record")) (bytes_eq p.0 (codes "normalise")) (bytes_eq p.0 (codes "check")) (bytes_eq p.0 (codes "show")) (bytes_eq p.0 (codes "compare"))
+        by_name (bytes_eq p.0 (codes "compact")) (bytes_eq p.0 (codes "record"))
+        (bytes_eq p.0 (codes "normalise")) (bytes_eq p.0 (codes "check"))
+        (bytes_eq p.0 (codes "show")) (bytes_eq p.0 (codes "compare"))
         (line.check (is_set (first_of (codes "complete") p.1)))
         (two_files (first_of (codes "A") p.1) (first_of (codes "B") p.1))
-        (λ compare. let files = has_files words p.0 p.1 compare taken is in both_files (first_of (codes "A") p.1) (first_of (codes "B") p.1) files.0 files.1)
+        (λ compare. let files = has_files words p.0 p.1 compare taken is in both_files
+        (first_of (codes "A") p.1) (first_of (codes "B") p.1) files.0 files.1)
         one

@@ -1,8 +1,10 @@
 -- The program's command line, as `clap` reads it, and the job that it names. Source: own.
-use Rattle.std.specs.Prelude.{◌≡◌, ◌||◌, Bool, false, List, Option, Some, None, codes, if◌then◌else◌, option_map, option_and_then, true}
+use Rattle.std.specs.Prelude.{◌≡◌, ◌||◌, Bool, false, List, Option, Some, None, codes}
+use Rattle.std.specs.Prelude.{if◌then◌else◌, option_map, option_and_then, true}
 use Rattle.std.specs.Borrow.{Bor}
 use Rattle.std.specs.Str.{bytes_eq}
-use Rattle.clap.specs.Words.{App, Row, Rule, Text, app_of, first_of, new_app, new_rule, with_rule, with_subcommand}
+use Rattle.clap.specs.Words.{App, Row, Rule, Text, app_of, first_of, new_app, new_rule, with_rule}
+use Rattle.clap.specs.Words.{with_subcommand}
 use Rattle.clap.specs.declared.Command.{Command}
 use Rattle.clap.specs.declared.Command.TheViews.{out-Command as fields_of}
 use Rattle.clap.specs.declared.builder.ArgAction.TheVariants.{Set, SetTrue}
@@ -15,7 +17,8 @@ plain name = new_app name
 
 -- the flag `--complete`
 abbrev pub complete_flag : Rule
-complete_flag = record (new_rule (codes "complete")) { long = Some (codes "complete"); action = Some SetTrue }
+complete_flag =
+    record (new_rule (codes "complete")) { long = Some (codes "complete"); action = Some SetTrue }
 
 -- the subcommand `check`, with its flag
 abbrev pub checker : App
@@ -38,7 +41,13 @@ bare = record (new_app (codes "dapnorm")) {
 -- what a parse reads of the program's command
 abbrev pub program : App
 program =
-    with_subcommand (with_subcommand (with_subcommand (with_subcommand (with_subcommand (with_subcommand bare (plain (codes "compact")).top) (plain (codes "record")).top) (plain (codes "normalise")).top) checker.top) (plain (codes "show")).top)
+    with_subcommand
+    (with_subcommand
+    (with_subcommand
+    (with_subcommand
+    (with_subcommand (with_subcommand bare (plain (codes "compact")).top)
+    (plain (codes "record")).top) (plain (codes "normalise")).top) checker.top)
+    (plain (codes "show")).top)
     comparer.top
 
 -- The command is this one, and its subcommands inherit no argument.
@@ -82,16 +91,22 @@ job_of name rows =
     if bytes_eq name (codes "compact") then Some compact
     else if bytes_eq name (codes "record") then Some recording
     else if bytes_eq name (codes "normalise") then Some normalise
-    else if bytes_eq name (codes "check") then Some (check (is_set (first_of (codes "complete") rows)))
+    else if bytes_eq name (codes "check") then Some
+    (check (is_set (first_of (codes "complete") rows)))
     else if bytes_eq name (codes "show") then Some show
-    else if bytes_eq name (codes "compare") then two_files (first_of (codes "A") rows) (first_of (codes "B") rows)
+    else if bytes_eq name (codes "compare") then two_files (first_of (codes "A") rows)
+    (first_of (codes "B") rows)
     else None
 
 -- The subcommand is one of the program's.
 abbrev pub names_job : Option (Text × List Row) → Bool
 names_job None = false
 names_job (Some p) =
-    bytes_eq p.0 (codes "compact") || (bytes_eq p.0 (codes "record") || (bytes_eq p.0 (codes "normalise") || (bytes_eq p.0 (codes "check") || (bytes_eq p.0 (codes "show") || bytes_eq p.0 (codes "compare")))))
+    bytes_eq p.0 (codes "compact")
+    || (bytes_eq p.0 (codes "record")
+    || (bytes_eq p.0 (codes "normalise")
+    || (bytes_eq p.0 (codes "check")
+    || (bytes_eq p.0 (codes "show") || bytes_eq p.0 (codes "compare")))))
 
 abbrev pub job_named : Option (Text × List Row) → Option Told
 job_named = option_and_then (λ p. job_of p.0 p.1)

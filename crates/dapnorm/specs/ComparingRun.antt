@@ -1,5 +1,5 @@
 -- What the program tells of comparing. Source: own.
-use Rattle.std.specs.Prelude.{◌≡◌, ◌⊎◌, ℕ, List, [], ◌++◌, Option, Result, Ok, Err, codes, decimal}
+use Rattle.std.specs.Prelude.{ℕ, List, [], ◌++◌, Option, Result, codes, decimal}
 use Rattle.std.specs.Fmt.{signed_decimal}
 use Rattle.std.specs.List.{flat_map}
 use Rattle.dap_tree.specs.declared.sort.Sort.{Sort}
@@ -11,8 +11,7 @@ use Rattle.dap_compare.specs.declared.verdict.CompareRefused.{CompareRefused}
 use Rattle.dap_compare.specs.declared.verdict.CompareRefused.TheVariants.{Input, Memory}
 use Rattle.dap_compare.specs.declared.verdict.Verdict.{Verdict}
 use Rattle.dap_compare.specs.declared.verdict.Verdict.TheVariants.{Same, Differ}
-use Rattle.dap_device.specs.Device.{AllWritten, FrontWritten}
-use Rattle.dapnorm.specs.Run.{status_of}
+use Rattle.dapnorm.specs.Run.{IsPrinted, refused_status}
 use Rattle.dap_compare.specs.Verdicts.{Compares}
 
 -- how a sort is written
@@ -24,7 +23,9 @@ sort_word Reference = codes "reference"
 
 -- the line of a pair
 abbrev pub pair_line : Pair → List ℕ
-pair_line pair = sort_word pair.sort ++ codes " " ++ signed_decimal pair.from ++ codes " " ++ signed_decimal pair.to ++ codes "\n"
+pair_line pair =
+    sort_word pair.sort ++ codes " " ++ signed_decimal pair.from ++ codes " "
+    ++ signed_decimal pair.to ++ codes "\n"
 
 -- the first line of a verdict, and the pairs whose lines stand behind it
 abbrev pub first_line : Verdict → List ℕ
@@ -45,18 +46,17 @@ verdict_status (Same renaming) = 0
 verdict_status (Differ number) = 1
 
 abbrev pub refusal_status : CompareRefused → ℕ
-refusal_status (Input which refused) = status_of {U = Unit {0}} (Err refused)
+refusal_status (Input which refused) = refused_status refused
 refusal_status Memory = 5
 
--- An answer is told: the lines of a verdict go out, or a front of them and the writer failed; of a refusal nothing goes out.
-abbrev pub IsPrinted : {W : Type 0} → (W → Option (List ℕ)) → (W → ℕ) → Result Verdict CompareRefused → W → W → ℕ → Type 0
-IsPrinted out failures (Ok verdict) before after status =
-    (AllWritten out failures before after (verdict_text verdict) × (status ≡ verdict_status verdict)) ⊎ (FrontWritten out failures before after (verdict_text verdict) × (status ≡ 4))
-IsPrinted out failures (Err refused) before after status = (after ≡ before) × (status ≡ refusal_status refused)
-
--- What `compare` answers of the readers is told.
-pub record CompareIsTold {R S W : Type 0} (left_a : R → Option (List ℕ)) (given_a failures_a : R → ℕ) (left_b : S → Option (List ℕ)) (given_b failures_b : S → ℕ)
-    (out : W → Option (List ℕ)) (write_failures : W → ℕ) (limits : Limits) (old_a new_a : R) (old_b new_b : S) (before after : W) (status : ℕ) : Type 0 where
+-- What `compare` answers of the readers is printed.
+pub record CompareIsTold {R S W : Type 0} (left_a : R → Option (List ℕ)) (given_a failures_a : R
+    → ℕ) (left_b : S → Option (List ℕ)) (given_b failures_b : S → ℕ)
+    (out : W → Option (List ℕ)) (write_failures : W
+    → ℕ) (limits : Limits) (old_a new_a : R) (old_b new_b : S) (before after : W)
+    (status : ℕ) : Type 0 where
   pub answer : Result Verdict CompareRefused
-  pub compares : Compares left_a given_a failures_a left_b given_b failures_b limits old_a new_a old_b new_b answer
-  pub printed : IsPrinted out write_failures answer before after status
+  pub compares : Compares left_a given_a failures_a left_b given_b failures_b limits old_a new_a
+      old_b new_b answer
+  pub printed : IsPrinted out write_failures verdict_text verdict_status refusal_status answer
+      before after status

@@ -1,8 +1,43 @@
 //! Reads the words of a command line with `clap`.
-ghost use Rattle.std.specs.Prelude.{[], ◌≡◌, IfOk, IfErr, Some, true, false, is_some, map, option_map};
-ghost use Rattle.clap.specs.Words.{fault_of as faults_of, app_of, found_of, rows_of, subcommand_of, subcommand_rows_of, takes, kind_of, with_subcommand};
+ghost use Rattle.std.specs.Prelude.{
+  [],
+  ◌≡◌,
+  IfOk,
+  IfErr,
+  Some,
+  true,
+  false,
+  is_some,
+  map,
+  option_map,
+};
+ghost use Rattle.clap.specs.Words.{
+  fault_of as faults_of,
+  app_of,
+  found_of,
+  rows_of,
+  subcommand_of,
+  subcommand_rows_of,
+  takes,
+  kind_of,
+  with_subcommand,
+};
 ghost use Rattle.clap.specs.declared.Command.TheViews.{out-Command as fields_of};
-ghost use Rattle.dapnorm.specs.CommandLine.{IsCommand, bare, checker, comparer, is_set, plain, job_named, job_of, names_job, program, text_in, told, two_files};
+ghost use Rattle.dapnorm.specs.CommandLine.{
+  IsCommand,
+  bare,
+  checker,
+  comparer,
+  is_set,
+  plain,
+  job_named,
+  job_of,
+  names_job,
+  program,
+  text_in,
+  told,
+  two_files,
+};
 ghost use Rattle.dapnorm.specs.declared.jobs.UsageFault.TheVariants.{Memory};
 
 use crate::jobs::{Job, UsageFault};
@@ -26,7 +61,8 @@ fn with_plain<'a>(
     name: &'a str,
     about: &'a str,
 ) -> Result<Command<'a>, AllocError>
-    ensures { IfOk result (λ c. app_of c ≡ with_subcommand (app_of command.entry) (plain name.entry.now).top) }
+    ensures { IfOk result (λ c. app_of c
+        ≡ with_subcommand (app_of command.entry) (plain name.entry.now).top) }
 {
     command.subcommand(Command::new(alloc, name).about(about))
 }
@@ -65,7 +101,8 @@ fn compare_command<'a>(alloc: Global) -> Result<Command<'a>, AllocError>
 /// A subcommand is added to `command`.
 fn with_other<'a>(command: Command<'a>, other: Command<'a>) -> Result<Command<'a>, AllocError>
     requires { (fields_of other).has_globals ≡ false }
-    ensures { IfOk result (λ c. app_of c ≡ with_subcommand (app_of command.entry) (app_of other.entry).top) }
+    ensures { IfOk result (λ c. app_of c
+        ≡ with_subcommand (app_of command.entry) (app_of other.entry).top) }
 {
     command.subcommand(other)
 }
@@ -181,10 +218,13 @@ fn no_job(alloc: Global) -> UsageFault {
 /// `Help` where help is asked for, `Usage` with `clap`'s text where the words are wrong, `Memory`.
 pub fn job<'a>(alloc: Global, words: &'a [&'a str]) -> Result<Job<'a>, UsageFault>
     // The job is the one that clap's own definition of the command finds in the words.
-    ensures ok { IfOk result (λ j. job_named (subcommand_of program (map (λ w. w.now) words.entry.now)) ≡ Some (told j)) }
+    ensures ok { IfOk result
+        (λ j. job_named (subcommand_of program (map (λ w. w.now) words.entry.now))
+        ≡ Some (told j)) }
     ensures taken { IfOk result (λ _. faults_of program (map (λ w. w.now) words.entry.now) ≡ []) }
 
-    // Where that definition takes the words with one of the subcommands, only memory can be wanting.
+    // Where that definition takes the words with one of the subcommands, only memory can be
+    // wanting.
     ensures err { IfErr result (λ fault. takes program (map (λ w. w.now) words.entry.now) ≡ true
         → names_job (subcommand_of program (map (λ w. w.now) words.entry.now)) ≡ true
         → fault ≡ Memory) }

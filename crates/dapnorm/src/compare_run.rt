@@ -1,16 +1,25 @@
 //! Compares two inputs, and tells of it what the program tells: lines and a status.
 ghost use Rattle.std.specs.Prelude.{◌≡◌, ◌+◌, ◌<◌, ◌≤◌, ◌^◌};
 ghost use Rattle.std.specs.List.{flat_map};
-ghost use Rattle.dapnorm.specs.ComparingRun.{CompareIsTold, first_line, pair_line, pairs_in, refusal_status, sort_word, verdict_status, verdict_text};
+ghost use Rattle.dapnorm.specs.ComparingRun.{
+  CompareIsTold,
+  first_line,
+  pair_line,
+  pairs_in,
+  refusal_status,
+  sort_word,
+  verdict_status,
+  verdict_text,
+};
 ghost use Rattle.dap_device.specs.Device.{HasWrittenAll};
 ghost use Rattle.dap_input.specs.Limits.{AreSound};
 ghost use Rattle.dap_normal.specs.NameTables.{AreReady};
 
-use crate::status::{DIFFERENT, DONE, FAULT, MEMORY, REFUSED};
+use crate::status::{DIFFERENT, DONE, FAULT, MEMORY, refused_status};
 use arrayvec::ArrayString;
 use dap_compare::{CompareRefused, Verdict, compare_with};
 use dap_device::{DeviceFault, Sink, Source, write_all, write_and_flush};
-use dap_input::{Limits, Refused};
+use dap_input::Limits;
 use dap_normal::index_tables;
 use dap_rename::{NameTable, Pair, Tables};
 use dap_tree::Sort;
@@ -78,7 +87,8 @@ fn pairs(verdict: &Verdict) -> &[Pair]
 /// Sends the lines of pairs out.
 fn write_pairs<W: Sink>(writer: &mut W, pairs: &[Pair]) -> Result<(), DeviceFault>
     requires { W.failures writer.old < 2 ^ 63 }
-    ensures { HasWrittenAll W.out W.failures writer.old writer.new result (flat_map pair_line pairs.now) }
+    ensures { HasWrittenAll W.out W.failures writer.old writer.new result
+        (flat_map pair_line pairs.now) }
 {
     for pair in pairs {
         write_all(writer, line_of(*pair).as_bytes())?;
@@ -116,25 +126,24 @@ fn status(verdict: &Verdict) -> u8
 }
 
 /// The status of the program where the inputs were not compared to the end.
-fn refused_status(refused: CompareRefused) -> u8
+fn refusal_status(refused: CompareRefused) -> u8
     ensures { result ≡ refusal_status refused }
 {
     match refused {
-        CompareRefused::Input(_, Refused::ReadFault | Refused::WriteFault) => FAULT,
-        CompareRefused::Input(_, Refused::Memory) => MEMORY,
-        CompareRefused::Input(_, _) => REFUSED,
+        CompareRefused::Input(_, refused) => refused_status(refused),
         CompareRefused::Memory => MEMORY,
     }
 }
 
-/// Compares two recordings, and answers the program's status. What is wrong is told on `errors`, in one line.
+/// Compares two recordings, and answers the program's status. What is wrong is told on `errors`, in
+/// one line.
 ///
-/// Of recordings that are the same `same` goes to `writer`, and then a line for each pair of ids, `W FROM TO`, where W is
-/// `client-seq`, `adapter-seq`, `frame` or `reference`. Of others `differ K` goes there, with the number of the first record
-/// where they differ.
+/// Of recordings that are the same `same` goes to `writer`, and then a line for each pair of ids,
+/// `W FROM TO`, where W is `client-seq`, `adapter-seq`, `frame` or `reference`. Of others `differ
+/// K` goes there, with the number of the first record where they differ.
 ///
-/// The status is 0 where they are the same, 1 where they differ, 2 where an input is refused, 4 where a device failed and 5
-/// for want of memory.
+/// The status is 0 where they are the same, 1 where they differ, 2 where an input is refused, 4
+/// where a device failed and 5 for want of memory.
 pub fn run_compare<A: Source, B: Source, W: Sink, E: Sink>(
     alloc: Global,
     reader_a: &mut A,
@@ -151,8 +160,11 @@ pub fn run_compare<A: Source, B: Source, W: Sink, E: Sink>(
     requires write_failures { W.failures writer.old < 2 ^ 62 }
     requires error_failures { E.failures errors.old < 2 ^ 62 }
 
-    // The output is the lines of the verdict, and the status is that of `compare`'s answer or of a writer that failed.
-    ensures told { CompareIsTold A.left A.given A.failures B.left B.given B.failures W.out W.failures limits reader_a.old reader_a.new reader_b.old reader_b.new writer.old writer.new result }
+    // The output is the lines of the verdict, and the status is that of `compare`'s answer or of a
+    // writer that failed.
+    ensures told { CompareIsTold A.left A.given A.failures B.left B.given B.failures W.out
+        W.failures limits reader_a.old reader_a.new reader_b.old reader_b.new writer.old writer.new
+        result }
 
     // It takes at most one byte past the limit of each.
     ensures taken_a { A.given reader_a.new ≤ A.given reader_a.old + limits.input + 1 }
@@ -170,8 +182,8 @@ pub fn run_compare<A: Source, B: Source, W: Sink, E: Sink>(
     )
 }
 
-/// Does what [`run_compare`] does, with these tables for the names of the ids of A and of B. They have to be empty, each
-/// with the limit `limits.ids`.
+/// Does what [`run_compare`] does, with these tables for the names of the ids of A and of B. They
+/// have to be empty, each with the limit `limits.ids`.
 pub fn run_compare_with<A: Source, B: Source, W: Sink, E: Sink, T: NameTable + Drop>(
     alloc: Global,
     reader_a: &mut A,
@@ -193,7 +205,9 @@ pub fn run_compare_with<A: Source, B: Source, W: Sink, E: Sink, T: NameTable + D
     requires error_failures { E.failures errors.old < 2 ^ 62 }
 
     // What `run_compare` promises, whatever the tables are.
-    ensures told { CompareIsTold A.left A.given A.failures B.left B.given B.failures W.out W.failures limits reader_a.old reader_a.new reader_b.old reader_b.new writer.old writer.new result }
+    ensures told { CompareIsTold A.left A.given A.failures B.left B.given B.failures W.out
+        W.failures limits reader_a.old reader_a.new reader_b.old reader_b.new writer.old writer.new
+        result }
     ensures taken_a { A.given reader_a.new ≤ A.given reader_a.old + limits.input + 1 }
     ensures taken_b { B.given reader_b.new ≤ B.given reader_b.old + limits.input + 1 }
 {
@@ -201,7 +215,7 @@ pub fn run_compare_with<A: Source, B: Source, W: Sink, E: Sink, T: NameTable + D
         Ok(verdict) => verdict,
         Err(refused) => {
             tell(errors, refused);
-            return refused_status(refused);
+            return refusal_status(refused);
         }
     };
     match print(writer, &verdict) {

@@ -1,4 +1,5 @@
-//! Theorems on inputs, which hold of all bytes. Each function does nothing: a call of it gives its clauses to a proof.
+//! Theorems on inputs, which hold of all bytes. Each function does nothing: a call of it gives its
+//! clauses to a proof.
 pub use dap_compact::laws::compact_has_one_outcome;
 pub use dap_compare::laws::two_recordings_have_one_verdict;
 pub use dap_normal::laws::{

@@ -1,13 +1,24 @@
 //! Does a job, and tells of it what the program tells: lines and a status.
 ghost use Rattle.std.specs.Prelude.{◌≡◌, ◌+◌, ◌<◌, ◌≤◌, ◌^◌, Bool};
-ghost use Rattle.dap_compact.specs.Compacting.{Compacts, IsRefused};
+ghost use Rattle.dap_compact.specs.Compacting.{Compacts, compacting};
+ghost use Rattle.dap_input.specs.Engine.{Answers};
 ghost use Rattle.dap_input.specs.Limits.{AreSound};
+ghost use Rattle.dap_input.specs.Refusals.{IsRefused};
 ghost use Rattle.dap_normal.specs.NameTables.{AreReady};
-ghost use Rattle.dapnorm.specs.Run.{Answered, CheckIsTold, TraceIsTold, accepted_line, HasPrinted, NormaliseIsTold, TellsUsage, status_of};
-ghost use Rattle.dap_show.specs.Showing.{IsShownBy, IsRefused as IsShowRefused};
+ghost use Rattle.dap_normal.specs.Streaming.{Streams};
+ghost use Rattle.dapnorm.specs.Run.{
+  Answered,
+  CheckIsPrinted,
+  CheckIsTold,
+  accepted_line,
+  TellsUsage,
+  status_of,
+};
+ghost use Rattle.dap_show.specs.Showing.{IsShownBy, showing};
+ghost use Rattle.dap_trace.specs.TracingRun.{RecordsTrace};
 
 use crate::jobs::{Job, UsageFault};
-use crate::status::{DONE, FAULT, MEMORY, REFUSED, USAGE};
+use crate::status::{DONE, FAULT, MEMORY, USAGE, refused_status};
 use arrayvec::ArrayString;
 use dap_compact::compact;
 use dap_device::{Sink, Source, write_and_flush};
@@ -20,7 +31,8 @@ use itoa::Buffer;
 use std::alloc::Global;
 use std::fmt::Write;
 
-/// How long a line may be. The longest of a fault has 79 bytes, and that of an accepted recording 85.
+/// How long a line may be. The longest of a fault has 79 bytes, and that of an accepted recording
+/// 85.
 const LINE: usize = 128;
 
 /// The status of the program for an engine's answer.
@@ -29,9 +41,7 @@ fn status(answer: Result<(), Refused>) -> u8
 {
     match answer {
         Ok(()) => DONE,
-        Err(Refused::ReadFault | Refused::WriteFault) => FAULT,
-        Err(Refused::Memory) => MEMORY,
-        Err(_) => REFUSED,
+        Err(refused) => refused_status(refused),
     }
 }
 
@@ -63,7 +73,7 @@ fn accepted_line(checked: &Checked) -> ArrayString<LINE>
 /// Prints the line of an accepted recording.
 fn print<W: Sink>(writer: &mut W, answer: Result<Checked, Refused>) -> Result<(), Refused>
     requires { W.failures writer.old < 2 ^ 62 }
-    ensures { HasPrinted W.out W.failures answer writer.old writer.new result }
+    ensures { CheckIsPrinted W.out W.failures answer writer.old writer.new (status_of result) }
 {
     let line = accepted_line(&answer?);
     match write_and_flush(writer, line.as_bytes()) {
@@ -72,13 +82,14 @@ fn print<W: Sink>(writer: &mut W, answer: Result<Checked, Refused>) -> Result<()
     }
 }
 
-/// Does a job over a reader and a writer, which a comparison is not, and answers the program's status. A refusal is told on `errors`, in one line.
+/// Does a job over a reader and a writer, which a comparison is not, and answers the program's
+/// status. A refusal is told on `errors`, in one line.
 ///
-/// Of a recording that `check` accepts the numbers go to `writer`: `accepted records=R open=C,A` and LF, with the open
-/// requests of the client and of the adapter.
+/// Of a recording that `check` accepts the numbers go to `writer`: `accepted records=R open=C,A`
+/// and LF, with the open requests of the client and of the adapter.
 ///
-/// The status is 0 where the job was done, 2 where the input is refused, 4 where a device failed and 5 for want of
-/// memory.
+/// The status is 0 where the job was done, 2 where the input is refused, 4 where a device failed
+/// and 5 for want of memory.
 pub fn run_stream<R: Source, W: Sink, E: Sink>(
     alloc: Global,
     job: &Job,
@@ -95,19 +106,30 @@ pub fn run_stream<R: Source, W: Sink, E: Sink>(
     requires error_failures { E.failures errors.old < 2 ^ 62 }
 
     // The output is what the engine writes, and the status that of its answer.
-    ensures compact { job.now ≡ Job.Compact → Answered R.left R.failures W.out W.failures limits.input (Compacts limits) (IsRefused limits) reader.old reader.new writer.old writer.new result }
+    ensures compact { job.now ≡ Job.Compact
+        → Answered (Answers R.left R.failures W.out W.failures limits.input (Compacts limits)
+        (IsRefused (compacting limits)) reader.old reader.new writer.old writer.new) result }
 
     // The output is the records that `record` writes, and the status that of its answer.
-    ensures record_trace { job.now ≡ Job.Record → TraceIsTold R.left R.failures W.out W.failures limits reader.old reader.new writer.old writer.new result }
+    ensures record_trace { job.now ≡ Job.Record
+        → Answered (RecordsTrace R.left R.failures W.out W.failures limits reader.old reader.new
+        writer.old writer.new) result }
 
     // The output is the normal text that `normalise` writes, and the status that of its answer.
-    ensures normalise { job.now ≡ Job.Normalise → NormaliseIsTold R.left R.given R.failures W.out W.failures limits reader.old reader.new writer.old writer.new result }
+    ensures normalise { job.now ≡ Job.Normalise
+        → Answered (Streams R.left R.given R.failures W.out W.failures limits reader.old reader.new
+        writer.old writer.new) result }
 
-    // The output is the line of what `check` accepts, and the status that of its answer or of a writer that failed.
-    ensures check { (complete : Bool) → job.now ≡ Job.Check complete → CheckIsTold R.left R.given R.failures W.out W.failures limits complete reader.old reader.new writer.old writer.new result }
+    // The output is the line of what `check` accepts, and the status that of its answer or of a
+    // writer that failed.
+    ensures check { (complete : Bool) → job.now ≡ Job.Check complete
+        → CheckIsTold R.left R.given R.failures W.out W.failures limits complete reader.old
+        reader.new writer.old writer.new result }
 
     // The output is the lines that `show` writes, and the status that of its answer.
-    ensures show { job.now ≡ Job.Show → Answered R.left R.failures W.out W.failures limits.input (IsShownBy limits) (IsShowRefused limits) reader.old reader.new writer.old writer.new result }
+    ensures show { job.now ≡ Job.Show
+        → Answered (Answers R.left R.failures W.out W.failures limits.input (IsShownBy limits)
+        (IsRefused (showing limits)) reader.old reader.new writer.old writer.new) result }
 
     // It takes at most one byte past the limit.
     ensures taken { R.given reader.new ≤ R.given reader.old + limits.input + 1 }
@@ -123,8 +145,8 @@ pub fn run_stream<R: Source, W: Sink, E: Sink>(
     )
 }
 
-/// Does what [`run_stream`] does, with these tables for the names of ids. They have to be empty, each with the limit
-/// `limits.ids`.
+/// Does what [`run_stream`] does, with these tables for the names of ids. They have to be empty,
+/// each with the limit `limits.ids`.
 pub fn run_stream_with<R: Source, W: Sink, E: Sink, T: NameTable + Drop>(
     alloc: Global,
     job: &Job,
@@ -143,11 +165,21 @@ pub fn run_stream_with<R: Source, W: Sink, E: Sink, T: NameTable + Drop>(
     requires error_failures { E.failures errors.old < 2 ^ 62 }
 
     // What `run_stream` promises, whatever the tables are.
-    ensures compact { job.now ≡ Job.Compact → Answered R.left R.failures W.out W.failures limits.input (Compacts limits) (IsRefused limits) reader.old reader.new writer.old writer.new result }
-    ensures record_trace { job.now ≡ Job.Record → TraceIsTold R.left R.failures W.out W.failures limits reader.old reader.new writer.old writer.new result }
-    ensures normalise { job.now ≡ Job.Normalise → NormaliseIsTold R.left R.given R.failures W.out W.failures limits reader.old reader.new writer.old writer.new result }
-    ensures check { (complete : Bool) → job.now ≡ Job.Check complete → CheckIsTold R.left R.given R.failures W.out W.failures limits complete reader.old reader.new writer.old writer.new result }
-    ensures show { job.now ≡ Job.Show → Answered R.left R.failures W.out W.failures limits.input (IsShownBy limits) (IsShowRefused limits) reader.old reader.new writer.old writer.new result }
+    ensures compact { job.now ≡ Job.Compact
+        → Answered (Answers R.left R.failures W.out W.failures limits.input (Compacts limits)
+        (IsRefused (compacting limits)) reader.old reader.new writer.old writer.new) result }
+    ensures record_trace { job.now ≡ Job.Record
+        → Answered (RecordsTrace R.left R.failures W.out W.failures limits reader.old reader.new
+        writer.old writer.new) result }
+    ensures normalise { job.now ≡ Job.Normalise
+        → Answered (Streams R.left R.given R.failures W.out W.failures limits reader.old reader.new
+        writer.old writer.new) result }
+    ensures check { (complete : Bool) → job.now ≡ Job.Check complete
+        → CheckIsTold R.left R.given R.failures W.out W.failures limits complete reader.old
+        reader.new writer.old writer.new result }
+    ensures show { job.now ≡ Job.Show
+        → Answered (Answers R.left R.failures W.out W.failures limits.input (IsShownBy limits)
+        (IsRefused (showing limits)) reader.old reader.new writer.old writer.new) result }
     ensures taken { R.given reader.new ≤ R.given reader.old + limits.input + 1 }
 {
     let answer = match *job {
@@ -169,12 +201,14 @@ pub fn run_stream_with<R: Source, W: Sink, E: Sink, T: NameTable + Drop>(
 
 /// Tells the user why the words were no job, and answers the program's status.
 ///
-/// Help that was asked for goes to `writer`: the status is 0, or 4 where the writer fails. What is wrong with the words
-/// goes to `errors`, with status 3, and want of memory, with status 5. A failure of `errors` is not told.
+/// Help that was asked for goes to `writer`: the status is 0, or 4 where the writer fails. What is
+/// wrong with the words goes to `errors`, with status 3, and want of memory, with status 5. A
+/// failure of `errors` is not told.
 pub fn run_usage<W: Sink, E: Sink>(fault: &UsageFault, writer: &mut W, errors: &mut E) -> u8
     requires write_failures { W.failures writer.old < 2 ^ 62 }
     requires error_failures { E.failures errors.old < 2 ^ 62 }
-    ensures { TellsUsage W.out W.failures E.out E.failures fault.now writer.old writer.new errors.old errors.new result }
+    ensures { TellsUsage W.out W.failures E.out E.failures fault.now writer.old writer.new
+        errors.old errors.new result }
 {
     match fault {
         UsageFault::Help(text) => match write_and_flush(writer, text.as_bytes()) {

@@ -30,7 +30,8 @@ const LIMITS: Limits = Limits {
 /// The status where the arguments or random words cannot be had, or a file does not open.
 const FAULT: u8 = 4;
 
-/// The tables for names, which hash by these random words, so that nobody can choose ids whose hashes collide.
+/// The tables for names, which hash by these random words, so that nobody can choose ids whose
+/// hashes collide.
 fn tables(alloc: Global, limits: Limits, hasher: RandomState) -> Tables<IndexNames<RandomState>>
     requires { AreSound limits }
     ensures { AreReady index_numbers index_limit limits result }

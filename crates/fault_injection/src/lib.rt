@@ -1,8 +1,8 @@
 //! Lets a test have a growth of memory refused.
 //!
-//! The test asks by the size of a block. The shim that tests/fault_injection.c makes, loaded before the C library,
-//! hears it and refuses the growth. Plain memory does not hear it, so that the same test also passes without the shim:
-//! then no growth is refused, and it makes one turn.
+//! The test asks by the size of a block. The shim that tests/fault_injection.c makes, loaded before
+//! the C library, hears it and refuses the growth. Plain memory does not hear it, so that the same
+//! test also passes without the shim: then no growth is refused, and it makes one turn.
 #![tactic(auto)]
 
 use std::alloc::Global;

@@ -213,7 +213,8 @@ fn after_a_fault(rt: HostRuntime) {
     answers_all(&rt, rt.alloc(), &AFTER_A_FAULT);
 }
 
-/// Whether `write_frame` answers so at the least limit of a header and this one of a content, and leaves this behind a text.
+/// Whether `write_frame` answers so at the least limit of a header and this one of a content, and
+/// leaves this behind a text.
 fn writes(
     alloc: Global,
     (before, content, most): (&[u8], &[u8], usize),

@@ -14,7 +14,8 @@ const LIMITS: FrameLimits = FrameLimits {
     content: 16_777_216,
 };
 
-/// The fault that a new reader tells of these bytes, which hold at most one record, or of their end.
+/// The fault that a new reader tells of these bytes, which hold at most one record, or of their
+/// end.
 fn record_fault(alloc: Global, bytes: &[u8]) -> Option<RecordFault> {
     let mut reader = RecordReader::new(alloc, LIMITS);
     match reader.feed(bytes).err() {
@@ -139,7 +140,8 @@ fn written_content_too_long(rt: HostRuntime) {
     assert!(rt; out.as_slice() == b"before".as_slice());
 }
 
-/// The fault that a new reader tells of this trace, or of its end. After a fault its end is that fault.
+/// The fault that a new reader tells of this trace, or of its end. After a fault its end is that
+/// fault.
 fn trace_fault(rt: &impl Abort, bytes: &[u8]) -> Option<TraceFault> {
     let mut reader = TraceReader::new();
     let mut rest = bytes;
@@ -235,7 +237,8 @@ fn record_input(rt: &impl Abort, reader: &mut TraceReader, recorder: &mut Record
     }
 }
 
-/// Asks for what a new recorder makes of a trace that comes so many bytes at a time: the text, and what `finish` tells.
+/// Asks for what a new recorder makes of a trace that comes so many bytes at a time: the text, and
+/// what `finish` tells.
 fn records(
     rt: &impl Abort,
     alloc: Global,

@@ -13,8 +13,8 @@ use dap_tree::read_tree;
 use std::alloc::Global;
 use std::process::Abort;
 
-/// How many messages were taken, what the next one was refused for, and how many requests of the client and of the adapter
-/// are open then.
+/// How many messages were taken, what the next one was refused for, and how many requests of the
+/// client and of the adapter are open then.
 #[derive(Debug, PartialEq, Eq, Drop)]
 struct Outcome {
     taken: usize,

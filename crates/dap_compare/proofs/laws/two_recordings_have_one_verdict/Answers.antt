@@ -1,4 +1,5 @@
-use Rattle.dap_compare.proofs.Verdicts.{recordings_have_one_verdict, same_is_told_exactly, same_is_carried}
+use Rattle.dap_compare.proofs.Verdicts.{recordings_have_one_verdict, same_is_told_exactly}
+use Rattle.dap_compare.proofs.Verdicts.{same_is_carried}
 use Rattle.dap_compare.proofs.laws.two_recordings_have_one_verdict.Goals as goal
 
 pub returns : goal.returns

@@ -11,7 +11,8 @@ loop-at-preserved g c =
     let some : 0 < c.in_ok-count.count = omega arith in
     record {
       within = omega (arith, took.fits, length-drop c.loop-at.at c.args.bytes.now);
-      appended = subst (Appends (g.W.Sink.out c.args.writer.now) (g.W.Sink.out c.write.new.self)) (sym (take-add c.loop-at.at c.in_ok-count.count c.args.bytes.now))
+      appended = subst (Appends (g.W.Sink.out c.args.writer.now) (g.W.Sink.out c.write.new.self))
+          (sym (take-add c.loop-at.at c.in_ok-count.count c.args.bytes.now))
           (Appends-trans _ _ _ _ _ c.loop-at.invariant.appended took.appended);
       no_failure = took.something some ∙ c.loop-at.invariant.no_failure;
     }

@@ -2,4 +2,5 @@ use Rattle.dap_items.proofs.Ends as items
 use Rattle.dap_frame.proofs.laws.fault_stays.Goals as goal
 
 pub returns : goal.returns
-returns c = record { stays = λ limits. items.fault_stays; needs_no_more = λ limits. items.fault_early }
+returns c =
+    record { stays = λ limits. items.fault_stays; needs_no_more = λ limits. items.fault_early }

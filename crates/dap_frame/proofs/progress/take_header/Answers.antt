@@ -13,26 +13,34 @@ step-requires c =
 pub loop-i-preserved : goal.loop-i-preserved
 loop-i-preserved c = λ rest scanned short.
     let inv = c.loop-i.invariant rest scanned short in
-    let next = gives_more c.args.limits rest c.args.piece.now c.loop-i.i c.loop-i.scan (omega arith) inv.0 c.in-Unfinished.next c.in-Unfinished.ensures in
+    let next = gives_more c.args.limits rest c.args.piece.now c.loop-i.i c.loop-i.scan (omega arith)
+    inv.0 c.in-Unfinished.next c.in-Unfinished.ensures in
     (next, omega (arith, next.count))
 
 pub returns-in-Ended : goal.returns-in-Ended
 returns-in-Ended c = λ rest scanned short.
     let inv = c.loop-i.invariant rest scanned short in
-    has_ended c.args.limits rest c.args.piece.now c.loop-i.i c.loop-i.scan (omega arith) inv.0 inv.1 c.in-Ended.findings c.in-Ok.content_len c.in-Ended.ensures (c.in-Ok.ensures c.args.limits)
+    has_ended c.args.limits rest c.args.piece.now c.loop-i.i c.loop-i.scan (omega arith) inv.0 inv.1
+    c.in-Ended.findings c.in-Ok.content_len c.in-Ended.ensures (c.in-Ok.ensures c.args.limits)
 
 pub returns-in-Err : goal.returns-in-Err
 returns-in-Err c = λ rest scanned short.
     let inv = c.loop-i.invariant rest scanned short in
-    header_fault c.args.limits rest c.args.piece.now c.loop-i.i c.loop-i.scan (omega arith) inv.0 inv.1 c.in-Ended.findings c.in-Err.fault c.in-Ended.ensures (c.in-Err.ensures c.args.limits)
+    header_fault c.args.limits rest c.args.piece.now c.loop-i.i c.loop-i.scan (omega arith) inv.0
+    inv.1 c.in-Ended.findings c.in-Err.fault c.in-Ended.ensures (c.in-Err.ensures c.args.limits)
 
 pub returns-then-limits-next : goal.returns-then-limits-next
 returns-then-limits-next c = λ rest scanned short.
     let inv = c.loop-i.invariant rest scanned short in
-    header_too_long c.args.limits rest c.args.piece.now c.loop-i.i c.loop-i.scan (omega arith) inv.0 inv.1 c.in-Unfinished.next c.in-Unfinished.ensures (omega arith)
+    header_too_long c.args.limits rest c.args.piece.now c.loop-i.i c.loop-i.scan (omega arith) inv.0
+    inv.1 c.in-Unfinished.next c.in-Unfinished.ensures (omega arith)
 
 pub returns : goal.returns
 returns c = λ rest scanned short.
     let inv = c.loop-i.invariant rest scanned short in
-    let all : rest ++ take c.loop-i.i c.args.piece.now ≡ rest ++ c.args.piece.now = ap (λ xs. rest ++ xs) (take_all c.loop-i.i c.args.piece.now (omega arith)) in
-    record { scanned = subst (λ bytes. IsScanOf c.args.limits bytes c.loop-i.scan) all inv.0; short = omega (arith, ap length all, inv.1) }
+    let all : rest ++ take c.loop-i.i c.args.piece.now ≡ rest ++ c.args.piece.now =
+    ap (λ xs. rest ++ xs) (take_all c.loop-i.i c.args.piece.now (omega arith)) in
+    record {
+      scanned = subst (λ bytes. IsScanOf c.args.limits bytes c.loop-i.scan) all inv.0;
+      short = omega (arith, ap length all, inv.1);
+    }

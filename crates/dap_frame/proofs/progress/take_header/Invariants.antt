@@ -4,5 +4,7 @@ use Rattle.dap_frame.proofs.progress.take_header.Given as goal
 
 -- of the bytes so far the facts are kept
 abbrev pub invariant-loop-i : goal.invariant-loop-i
-invariant-loop-i l = (rest : List ℕ) → IsScanOf l.limits rest l.fn.scan → length rest < l.limits.header
-    → IsScanOf l.limits (rest ++ take l.i l.piece) l.scan × (length (rest ++ take l.i l.piece) < l.limits.header)
+invariant-loop-i l = (rest : List ℕ) → IsScanOf l.limits rest l.fn.scan
+    → length rest < l.limits.header
+    → IsScanOf l.limits (rest ++ take l.i l.piece) l.scan
+    × (length (rest ++ take l.i l.piece) < l.limits.header)

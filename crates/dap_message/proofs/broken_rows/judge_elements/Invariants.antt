@@ -1,11 +1,13 @@
 use Rattle.dap_tree.specs.View.{view}
 use Rattle.std.proofs.Common.{◌≡◌, drop, map, []}
 use Rattle.std.specs.List.{flat_map}
-use Rattle.dap_message.specs.Places.{found}
-use Rattle.dap_message.specs.Rows.{judged, first_cause}
+use Rattle.dap_message.specs.Places.{parts_at}
+use Rattle.dap_message.specs.Rows.{cause_against, first_cause}
 use Rattle.dap_message.proofs.broken_rows.judge_elements.Given as goal
 
 abbrev pub invariant-loop-element : goal.invariant-loop-element
 invariant-loop-element l =
-    first_cause (map (judged l.want l.needed) (flat_map (found []) (map view l.elements)))
-    ≡ first_cause (map (judged l.want l.needed) (flat_map (found []) (map view (drop l.element-index l.elements))))
+    first_cause (map (cause_against l.want l.needed) (flat_map (parts_at []) (map view l.elements)))
+    ≡ first_cause
+    (map (cause_against l.want l.needed)
+    (flat_map (parts_at []) (map view (drop l.element-index l.elements))))

@@ -7,4 +7,6 @@ use Rattle.dap_message.proofs.capabilities.is_given.Goals as goal
 
 pub returns : goal.returns
 returns c =
-    c.is_more_than_null.ensures ∙ ap is_given (view_of_ref c.get.result ∙ ap (option_map view) c.get.ensures.value ∙ view-lookup c.args.name.now c.args.members.now.entries)
+    c.is_more_than_null.ensures
+    ∙ ap is_given (view_of_ref c.get.result ∙ ap (option_map view) c.get.ensures.value
+    ∙ view-lookup c.args.name.now c.args.members.now.entries)

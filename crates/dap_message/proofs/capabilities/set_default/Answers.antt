@@ -8,5 +8,6 @@ pub returns : goal.returns
 returns c =
     let named : string_bytes c.in_ok-key.key ≡ c.args.name.now = c.in_ok-key.ensures.ok in
     rw (← c.is_given.ensures, c.if-is_given.false)
-    (ap members_view c.in_ok-insert.ensures.entries ∙ members_view-insert_entry c.args.members.now.entries c.in_ok-key.key c.args.value
+    (ap members_view c.in_ok-insert.ensures.entries
+    ∙ members_view-insert_entry c.args.members.now.entries c.in_ok-key.key c.args.value
     ∙ ap (λ k. put k (view c.args.value) (members_view c.args.members.now.entries)) named)

@@ -7,9 +7,13 @@ use Rattle.dap_message.proofs.first_fault.first_broken.Goals as goal
 pub returns-then-is_some : goal.returns-then-is_some
 returns-then-is_some c = sym
     (c.loop-rows.invariant
-    ∙ first-told (λ rs. map row_of rs.now) c.args.stretches.now c.loop-rows.rows-index _ (view c.args.tree.now) _ c.loop-rows-test.true c.first_of-fault.ensures (sym c.is_some.ensures ∙ c.if-is_some.true))
+    ∙ first-told (λ rs. map row_of rs.now) c.args.stretches.now c.loop-rows.rows-index _
+    (view c.args.tree.now) _ c.loop-rows-test.true c.first_of-fault.ensures
+    (sym c.is_some.ensures ∙ c.if-is_some.true))
 
 pub loop-rows-preserved : goal.loop-rows-preserved
 loop-rows-preserved c =
     c.loop-rows.invariant
-    ∙ first-rest (λ rs. map row_of rs.now) c.args.stretches.now c.loop-rows.rows-index _ (view c.args.tree.now) _ c.loop-rows-test.true c.first_of-fault.ensures (sym c.is_some.ensures ∙ c.if-is_some.false)
+    ∙ first-rest (λ rs. map row_of rs.now) c.args.stretches.now c.loop-rows.rows-index _
+    (view c.args.tree.now) _ c.loop-rows-test.true c.first_of-fault.ensures
+    (sym c.is_some.ensures ∙ c.if-is_some.false)

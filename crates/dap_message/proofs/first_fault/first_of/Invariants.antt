@@ -5,4 +5,6 @@ use Rattle.dap_message.specs.Rows.{row_of}
 use Rattle.dap_message.proofs.first_fault.first_of.Given as goal
 
 abbrev pub invariant-loop-row : goal.invariant-loop-row
-invariant-loop-row l = first_by (map row_of l.rows) (view l.tree) ≡ first_by (map row_of (drop l.row-index l.rows)) (view l.tree)
+invariant-loop-row l =
+    first_by (map row_of l.rows) (view l.tree)
+    ≡ first_by (map row_of (drop l.row-index l.rows)) (view l.tree)

@@ -1,4 +1,5 @@
-use Rattle.dap_message.proofs.Contents.{typed_proper, typed_sound, typed_enveloped, typed_ordered, typed_utf8, content_well_formed}
+use Rattle.dap_message.proofs.Contents.{typed_proper, typed_sound, typed_enveloped, typed_ordered}
+use Rattle.dap_message.proofs.Contents.{typed_utf8, content_well_formed}
 use Rattle.dap_message.proofs.laws.typed_keeps.Goals as goal
 
 pub returns-clause-side : goal.returns-clause-side

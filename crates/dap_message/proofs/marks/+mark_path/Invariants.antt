@@ -21,5 +21,7 @@ decreases-mark_each l = 3 * length l.path.now + 1
 -- the items before the index are done, and those after it are as they were
 abbrev pub invariant-mark_each-loop-item : goal.invariant-mark_each-loop-item
 invariant-mark_each-loop-item l =
-    items_join (take l.item-index l.item-items) (map_items (edit (place_of l.path) (marked l.sort)) (items_view (drop l.item-index l.item-items)))
+    items_join (take l.item-index l.item-items)
+    (map_items (edit (place_of l.path) (marked l.sort))
+    (items_view (drop l.item-index l.item-items)))
     ≡ map_items (edit (place_of l.path) (marked l.sort)) (items_view l.initial.item-items)

@@ -10,11 +10,14 @@ pub loop-rows-preserved : goal.loop-rows-preserved
 loop-rows-preserved c =
     let i = c.loop-rows.rows-index in
     ap (marks_by (rows_in (drop (i + 1) c.args.stretches.now)) c.args.side) c.mark_rows.ensures
-    ∙ sym (marks-drop (λ rs. map row_of rs.now) c.args.stretches.now i _ c.args.side (view c.loop-rows.tree) c.loop-rows-test.true)
+    ∙ sym (marks-drop (λ rs. map row_of rs.now) c.args.stretches.now i _ c.args.side
+    (view c.loop-rows.tree) c.loop-rows-test.true)
     ∙ c.loop-rows.invariant
 
 pub returns : goal.returns
 returns c =
     let d = view c.args.tree.now in
-    let all : drop c.loop-rows.rows-index c.args.stretches.now ≡ [] = drop_of_length-le c.args.stretches.now c.loop-rows-test.false in
-    (rw all at c.loop-rows.invariant) ∙ ap (λ rs. marks_by rs c.args.side d) c.requires ∙ sym (mark-asked c.args.side d)
+    let all : drop c.loop-rows.rows-index c.args.stretches.now ≡ [] =
+    drop_of_length-le c.args.stretches.now c.loop-rows-test.false in
+    (rw all at c.loop-rows.invariant) ∙ ap (λ rs. marks_by rs c.args.side d) c.requires
+    ∙ sym (mark-asked c.args.side d)

@@ -6,4 +6,6 @@ use Rattle.dap_message.proofs.marks.mark_rows.Given as goal
 
 -- the rows that are left make of the tree what all make of the first one
 abbrev pub invariant-loop-row : goal.invariant-loop-row
-invariant-loop-row l = marks_by (map row_of (drop l.row-index l.rows)) l.side (view l.tree) ≡ marks_by (map row_of l.rows) l.side (view l.initial.tree)
+invariant-loop-row l =
+    marks_by (map row_of (drop l.row-index l.rows)) l.side (view l.tree)
+    ≡ marks_by (map row_of l.rows) l.side (view l.initial.tree)

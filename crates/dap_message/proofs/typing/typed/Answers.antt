@@ -14,28 +14,38 @@ use Rattle.dap_message.proofs.RowMarks.{mark_is_marked}
 use Rattle.dap_message.proofs.typing.typed.Goals as goal
 
 pub new-requires-clause-sound : goal.new-requires-clause-sound
-new-requires-clause-sound c = rw (c.mark.ensures, c.in_ok-fill.ensures) (sound-message c.args.side (view c.args.tree) c.requires)
+new-requires-clause-sound c =
+    rw (c.mark.ensures, c.in_ok-fill.ensures)
+    (sound-message c.args.side (view c.args.tree) c.requires)
 
 pub new-requires-clause-proper : goal.new-requires-clause-proper
-new-requires-clause-proper c = rw (c.mark.ensures, c.in_ok-fill.ensures) (proper-message c.args.side (view c.args.tree) c.requires)
+new-requires-clause-proper c =
+    rw (c.mark.ensures, c.in_ok-fill.ensures)
+    (proper-message c.args.side (view c.args.tree) c.requires)
 
 pub new-requires-clause-enveloped : goal.new-requires-clause-enveloped
 new-requires-clause-enveloped c =
     let fits : Fits (view c.args.tree) = search rules in
-    rw (c.mark.ensures, c.in_ok-fill.ensures) (enveloped-message c.args.side (view c.args.tree) fits)
+    rw (c.mark.ensures, c.in_ok-fill.ensures)
+    (enveloped-message c.args.side (view c.args.tree) fits)
 
 pub new-requires-clause-shown : goal.new-requires-clause-shown
 new-requires-clause-shown c =
     let fits : Fits (view c.args.tree) = search rules in
-    rw (c.mark.ensures, c.in_ok-fill.ensures) (shows_all-typed c.args.side (view c.args.tree) (message_of c.args.side (view c.args.tree)) c.requires (fits, refl))
+    rw (c.mark.ensures, c.in_ok-fill.ensures)
+    (shows_all-typed c.args.side (view c.args.tree) (message_of c.args.side (view c.args.tree))
+    c.requires (fits, refl))
 
 pub returns-clause-ids : goal.returns-clause-ids
 returns-clause-ids c =
     let side = c.args.side in
     let d = view c.args.tree in
-    subst (IsMarked profile side (filled side d)) (sym (c.new.ensures.doc ∙ c.mark.ensures ∙ ap (mark side) c.in_ok-fill.ensures)) (mark_is_marked side (filled side d))
+    subst (IsMarked profile side (filled side d))
+    (sym (c.new.ensures.doc ∙ c.mark.ensures ∙ ap (mark side) c.in_ok-fill.ensures))
+    (mark_is_marked side (filled side d))
 
 pub mark-requires : goal.mark-requires
 mark-requires c =
     let d = view c.args.tree in
-    c.asked_rows-rows.ensures ∙ sym (asked-filled c.args.side d) ∙ ap asked_rows (sym c.in_ok-fill.ensures)
+    c.asked_rows-rows.ensures ∙ sym (asked-filled c.args.side d)
+    ∙ ap asked_rows (sym c.in_ok-fill.ensures)

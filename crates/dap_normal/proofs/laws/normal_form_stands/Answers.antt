@@ -1,4 +1,6 @@
-use Rattle.dap_normal.proofs.NormalFormLaws.{has_one_normal_form, normal_accepted, accepted_is_normalised, one_normal_text, normal_stands_still}
+use Rattle.dap_normal.proofs.NormalFormLaws.{has_one_normal_form, normal_accepted}
+use Rattle.dap_normal.proofs.NormalFormLaws.{accepted_is_normalised, one_normal_text}
+use Rattle.dap_normal.proofs.NormalFormLaws.{normal_stands_still}
 use Rattle.dap_normal.proofs.laws.normal_form_stands.Goals as goal
 
 pub returns : goal.returns

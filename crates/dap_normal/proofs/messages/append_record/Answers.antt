@@ -1,4 +1,5 @@
-use Rattle.std.proofs.Common.{◌≡◌, ◌+◌, ◌-◌, ◌≤◌, ◌++◌, ◌∙◌, ℕ, List, ⊎_elim, ap, ap₂, arith, length, length-append, subst}
+use Rattle.std.proofs.Common.{◌≡◌, ◌+◌, ◌-◌, ◌≤◌, ◌++◌, ◌∙◌, ℕ, List, ⊎_elim, ap, ap₂, arith}
+use Rattle.std.proofs.Common.{length, length-append, subst}
 use Rattle.std.proofs.lemmas.Bool.{cases_lt}
 use Rattle.dap_message.specs.Message.{doc_of, sent}
 use Rattle.dap_recording.specs.Recording.{record_text}
@@ -7,18 +8,27 @@ use Rattle.dap_normal.specs.JudgingSteps.{record_of}
 use Rattle.dap_normal.proofs.messages.append_record.Goals as goal
 
 -- what was appended is as long as the text has grown
-counted : (old added new : List ℕ) (written before after : ℕ) → new ≡ old ++ added → before ≡ length old → after ≡ length new → written + (after - before) ≡ written + length added
-counted old added new written before after is first last = omega (arith, first, last, ap length is, length-append old added)
+counted : (old added new : List ℕ) (written before after : ℕ) → new ≡ old ++ added
+    → before ≡ length old → after ≡ length new → written + (after - before) ≡ written + length added
+counted old added new written before after is first last =
+    omega (arith, first, last, ap length is, length-append old added)
 
 pub returns : goal.returns
 returns c =
-    let content : c.as_bytes.result.now ≡ text_of (doc_of c.args.message.now) = c.as_bytes.ensures.value ∙ c.in-Ok.ensures.text in
-    let wrote = c.in-Ok-write_record.ensures.ok ∙ ap₂ (λ side bytes. c.args.out.now.items ++ record_text side bytes) c.side.ensures content in
+    let content : c.as_bytes.result.now ≡ text_of (doc_of c.args.message.now) =
+    c.as_bytes.ensures.value ∙ c.in-Ok.ensures.text in
+    let wrote =
+    c.in-Ok-write_record.ensures.ok
+    ∙ ap₂ (λ side bytes. c.args.out.now.items ++ record_text side bytes) c.side.ensures content
+    in
     let short : length c.as_bytes.result.now ≤ c.args.limits.frame.content =
-    ⊎_elim (λ long. absurd (let told = c.in-Ok-write_record.ensures.too_long.1 long in cc)) (λ le. le) (cases_lt c.args.limits.frame.content (length c.as_bytes.result.now)) in (
+    ⊎_elim (λ long. absurd (let told = c.in-Ok-write_record.ensures.too_long.1 long in cc))
+    (λ le. le) (cases_lt c.args.limits.frame.content (length c.as_bytes.result.now)) in (
       subst (λ bytes. length bytes ≤ c.args.limits.frame.content) content short,
       wrote,
-      counted c.args.out.now.items (record_of (sent c.args.message.now)) c.write_record.new.out.items c.args.written c.len-before.result c.len.result wrote
-          (c.len-before.ensures ∙ c.args.out.now.ok.0) (c.len.ensures ∙ c.write_record.new.out.ok.0),
+      counted c.args.out.now.items (record_of (sent c.args.message.now))
+          c.write_record.new.out.items c.args.written c.len-before.result c.len.result wrote
+          (c.len-before.ensures ∙ c.args.out.now.ok.0) (c.len.ensures
+          ∙ c.write_record.new.out.ok.0),
       c.if-limits-after.false,
     )

@@ -7,15 +7,20 @@ use Rattle.dap_normal.specs.Normalised.{HoldsSome}
 use Rattle.dap_normal.proofs.JudgedRecords.{text_push}
 use Rattle.dap_normal.proofs.StreamAnswers.{ended, gone}
 use Rattle.dap_normal.proofs.StreamLoop.{nothing_came, on}
-use Rattle.dap_normal.proofs.WholeInput.{canonical_whole, given_by, holds_of, left_in, no_failures, normalised_whole, refuses_bytes, start}
+use Rattle.dap_normal.proofs.WholeInput.{canonical_whole, given_by, holds_of, left_in, no_failures}
+use Rattle.dap_normal.proofs.WholeInput.{normalised_whole, refuses_bytes, start}
 use Rattle.dap_normal.proofs.normalising.normalise_bytes.Goals as goal
 
 pub loop-text-init : goal.loop-text-init
 loop-text-init c = record {
   going = record {
     bytes = [];
-    came = subst (λ r. HasComeSoFar left_in given_by no_failures (start c.args.limits c.requires.limits c.args.bytes.now) r [] None) (sym c.new-reader.ensures)
-        (nothing_came left_in given_by no_failures (start c.args.limits c.requires.limits c.args.bytes.now));
+    came = subst
+        (λ r. HasComeSoFar left_in given_by no_failures
+        (start c.args.limits c.requires.limits c.args.bytes.now) r [] None)
+        (sym c.new-reader.ensures)
+        (nothing_came left_in given_by no_failures
+        (start c.args.limits c.requires.limits c.args.bytes.now));
     messages = [];
     normal = [];
     stands = c.in-Ok.ensures.stands;
@@ -26,17 +31,26 @@ loop-text-init c = record {
 pub loop-text-smaller : goal.loop-text-smaller
 loop-text-smaller c =
     let was = c.loop-text.invariant.going in
-    (gone left_in given_by no_failures c.args.limits (start c.args.limits c.requires.limits c.args.bytes.now) c.loop-text.reader c.loop-text.records was c.next.new.self c.next.new.reader _ _ _
-    (c.in_ok-next.ensures c.args.limits was.bytes was.messages was.normal was.stands) c.if-branch.true).shorter
+    (gone left_in given_by no_failures c.args.limits
+    (start c.args.limits c.requires.limits c.args.bytes.now) c.loop-text.reader
+    c.loop-text.records was c.next.new.self c.next.new.reader _ _ _
+    (c.in_ok-next.ensures c.args.limits was.bytes was.messages was.normal was.stands)
+    c.if-branch.true).shorter
 
 pub loop-text-preserved : goal.loop-text-preserved
 loop-text-preserved c =
     let was = c.loop-text.invariant.going in
-    let more = gone left_in given_by no_failures c.args.limits (start c.args.limits c.requires.limits c.args.bytes.now) c.loop-text.reader c.loop-text.records was c.next.new.self c.next.new.reader _ _ _
-    (c.in_ok-next.ensures c.args.limits was.bytes was.messages was.normal was.stands) c.if-branch.true in
+    let more = gone left_in given_by no_failures c.args.limits
+    (start c.args.limits c.requires.limits c.args.bytes.now) c.loop-text.reader
+    c.loop-text.records was c.next.new.self c.next.new.reader _ _ _
+    (c.in_ok-next.ensures c.args.limits was.bytes was.messages was.normal was.stands)
+    c.if-branch.true in
     record {
-      going = on left_in given_by no_failures c.args.limits (start c.args.limits c.requires.limits c.args.bytes.now) c.loop-text.reader c.loop-text.records was c.next.new.self c.next.new.reader _ _ more;
-      text_is = more.appended ∙ ap (λ t. t ++ record_of more.named) c.loop-text.invariant.text_is ∙ sym (text_push was.normal more.named);
+      going = on left_in given_by no_failures c.args.limits
+          (start c.args.limits c.requires.limits c.args.bytes.now) c.loop-text.reader
+          c.loop-text.records was c.next.new.self c.next.new.reader _ _ more;
+      text_is = more.appended ∙ ap (λ t. t ++ record_of more.named) c.loop-text.invariant.text_is
+          ∙ sym (text_push was.normal more.named);
     }
 
 pub returns-in_err-next-clause-err : goal.returns-in_err-next-clause-err
@@ -44,23 +58,32 @@ returns-in_err-next-clause-err c =
     let was = c.loop-text.invariant.going in
     let because = err_from_is_err_and c.from_residual.result c.from_residual.ensures.1 in
     rw (because.1, because.2)
-    (refuses_bytes c.args.limits c.requires.limits c.args.bytes.now c.loop-text.reader c.loop-text.records was c.next.new.reader c.next.new.self _
+    (refuses_bytes c.args.limits c.requires.limits c.args.bytes.now c.loop-text.reader
+    c.loop-text.records was c.next.new.reader c.next.new.self _
     (c.in_err-next.ensures c.args.limits was.bytes was.messages was.normal was.stands))
 
 pub new-requires-2 : goal.new-requires-2
 new-requires-2 c =
     let was = c.loop-text.invariant.going in
-    let end = ended left_in given_by no_failures c.args.limits (start c.args.limits c.requires.limits c.args.bytes.now) c.loop-text.reader c.loop-text.records was c.next.new.self c.next.new.reader _ _ _
-    (c.in_ok-next.ensures c.args.limits was.bytes was.messages was.normal was.stands) c.if-branch.false in
+    let end = ended left_in given_by no_failures c.args.limits
+    (start c.args.limits c.requires.limits c.args.bytes.now) c.loop-text.reader
+    c.loop-text.records was c.next.new.self c.next.new.reader _ _ _
+    (c.in_ok-next.ensures c.args.limits was.bytes was.messages was.normal was.stands)
+    c.if-branch.false in
     let kept = end.kept ∙ c.loop-text.invariant.text_is in
     subst HoldsSome (sym kept)
     (holds_of c.args.limits c.args.bytes.now (text was.normal)
-    (normalised_whole c.args.limits c.requires.limits c.args.bytes.now c.loop-text.reader c.loop-text.records was c.next.new.reader c.next.new.self _ _ end))
+    (normalised_whole c.args.limits c.requires.limits c.args.bytes.now c.loop-text.reader
+    c.loop-text.records was c.next.new.reader c.next.new.self _ _ end))
 
 pub returns-clause-ok : goal.returns-clause-ok
 returns-clause-ok c =
     let was = c.loop-text.invariant.going in
-    let end = ended left_in given_by no_failures c.args.limits (start c.args.limits c.requires.limits c.args.bytes.now) c.loop-text.reader c.loop-text.records was c.next.new.self c.next.new.reader _ _ _
-    (c.in_ok-next.ensures c.args.limits was.bytes was.messages was.normal was.stands) c.if-branch.false in
-    canonical_whole c.args.limits c.requires.limits c.args.bytes.now c.loop-text.reader c.loop-text.records was c.next.new.reader c.next.new.self _ _ end _
+    let end = ended left_in given_by no_failures c.args.limits
+    (start c.args.limits c.requires.limits c.args.bytes.now) c.loop-text.reader
+    c.loop-text.records was c.next.new.self c.next.new.reader _ _ _
+    (c.in_ok-next.ensures c.args.limits was.bytes was.messages was.normal was.stands)
+    c.if-branch.false in
+    canonical_whole c.args.limits c.requires.limits c.args.bytes.now c.loop-text.reader
+    c.loop-text.records was c.next.new.reader c.next.new.self _ _ end _
     (c.new-2.ensures ∙ end.kept ∙ c.loop-text.invariant.text_is)

@@ -9,7 +9,9 @@ use Rattle.dap_normal.proofs.normalising.normalise_bytes.Given as goal
 abbrev pub invariant-loop-text : goal.invariant-loop-text
 invariant-loop-text l =
     record {
-      going : Going index_numbers index_limit (λ (s : GivenBytes). Some s.left) (λ (s : GivenBytes). s.given) (λ (s : GivenBytes). 0) l.fn.limits record { left = l.fn.bytes; given = 0 } l.reader l.records;
+      going : Going index_numbers index_limit (λ (s : GivenBytes). Some s.left)
+          (λ (s : GivenBytes). s.given) (λ (s : GivenBytes). 0) l.fn.limits record
+          { left = l.fn.bytes; given = 0 } l.reader l.records;
       text_is : l.text.items ≡ text going.normal;
     }
 

@@ -8,7 +8,8 @@ use Rattle.dap_normal.proofs.normalising.normalise_with.Given as goal
 abbrev pub invariant-loop-writer : goal.invariant-loop-writer
 invariant-loop-writer g l =
     record {
-      going : Going g.T.NameTable.numbers g.T.NameTable.limit g.R.Source.left g.R.Source.given g.R.Source.failures l.fn.limits l.fn.reader l.reader l.records;
+      going : Going g.T.NameTable.numbers g.T.NameTable.limit g.R.Source.left g.R.Source.given
+          g.R.Source.failures l.fn.limits l.fn.reader l.reader l.records;
       written : Appends (g.W.Sink.out l.fn.writer) (g.W.Sink.out l.writer) (text going.normal);
       no_failure : g.W.Sink.failures l.writer ≡ g.W.Sink.failures l.fn.writer;
     }

@@ -15,15 +15,21 @@ loop-at-preserved c =
     let inside : c.loop-at.at < length c.args.rest.now = omega arith in
     record {
       within = omega arith;
-      counted = λ text was. on c.in-More.next text c.args.rest.now c.loop-at.at inside (c.in-More.ensures (text ++ take c.loop-at.at c.args.rest.now) (c.loop-at.invariant.counted text was));
+      counted = λ text was. on c.in-More.next text c.args.rest.now c.loop-at.at inside
+          (c.in-More.ensures (text ++ take c.loop-at.at c.args.rest.now)
+          (c.loop-at.invariant.counted text was));
     }
 
 pub returns-in-Ended-clause-ends : goal.returns-in-Ended-clause-ends
 returns-in-Ended-clause-ends c = λ text was.
     let inside : c.loop-at.at < length c.args.rest.now = omega arith in
     let had = c.loop-at.invariant.counted text was in
-    let got = c.in-Ended.ensures (text ++ take c.loop-at.at c.args.rest.now) had in
-    (text ++ take c.loop-at.at c.args.rest.now, ended_at text c.args.rest.now c.loop-at.at inside got.0, got.1, had.number)
+    let got = c.in-Ended.ensures (text ++ take c.loop-at.at c.args.rest.now) had in (
+      text ++ take c.loop-at.at c.args.rest.now,
+      ended_at text c.args.rest.now c.loop-at.at inside got.0,
+      got.1,
+      had.number,
+    )
 
 pub returns-in-Bad-clause-ends : goal.returns-in-Bad-clause-ends
 returns-in-Bad-clause-ends c = λ text was.
@@ -34,4 +40,5 @@ returns-in-Bad-clause-ends c = λ text was.
 pub returns-clause-ends : goal.returns-clause-ends
 returns-clause-ends c = λ text was.
     let all : length c.args.rest.now ≤ c.loop-at.at = omega arith in
-    subst (λ xs. IsCountOf c.loop-at.count (text ++ xs)) (take_all c.loop-at.at c.args.rest.now all) (c.loop-at.invariant.counted text was)
+    subst (λ xs. IsCountOf c.loop-at.count (text ++ xs)) (take_all c.loop-at.at c.args.rest.now all)
+    (c.loop-at.invariant.counted text was)

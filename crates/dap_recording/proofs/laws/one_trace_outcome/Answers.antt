@@ -6,7 +6,8 @@ use Rattle.dap_recording.proofs.laws.one_trace_outcome.Goals as goal
 pub returns : goal.returns
 returns c = record {
   some = items.some_outcome piece_grammar;
-  piece_not_faulty = λ front more side raw. items.item_not_faulty piece_grammar front more (side, raw);
+  piece_not_faulty =
+      λ front more side raw. items.item_not_faulty piece_grammar front more (side, raw);
   piece_not_open = λ front more side raw. items.item_not_open piece_grammar front more (side, raw);
   open_not_faulty = items.open_not_faulty piece_grammar;
   stands_open = stands_open_piece;

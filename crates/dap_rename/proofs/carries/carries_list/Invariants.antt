@@ -4,4 +4,6 @@ use Rattle.dap_rename.specs.Carrying.{carries_list}
 use Rattle.dap_rename.proofs.carries.carries_list.Given as goal
 
 abbrev pub invariant-loop-message : goal.invariant-loop-message
-invariant-loop-message l = carries_list l.pairs (map sent (drop l.message-index l.from)) (map sent l.rest) ≡ carries_list l.pairs (map sent l.from) (map sent l.fn.to)
+invariant-loop-message l =
+    carries_list l.pairs (map sent (drop l.message-index l.from)) (map sent l.rest)
+    ≡ carries_list l.pairs (map sent l.from) (map sent l.fn.to)

@@ -1,4 +1,5 @@
-use Rattle.dap_session.proofs.RulesOneByOne.{none_keep, keeps_one_more, keeps_front, keeps_or_breaks}
+use Rattle.dap_session.proofs.RulesOneByOne.{none_keep, keeps_one_more, keeps_front}
+use Rattle.dap_session.proofs.RulesOneByOne.{keeps_or_breaks}
 use Rattle.dap_session.proofs.laws.rules_one_by_one.Goals as goal
 
 pub returns-clause-none : goal.returns-clause-none

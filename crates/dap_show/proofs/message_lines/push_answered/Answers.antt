@@ -5,4 +5,6 @@ use Rattle.dap_show.proofs.message_lines.push_answered.Goals as goal
 
 pub returns-in-Some : goal.returns-in-Some
 returns-in-Some c =
-    regrouped c.push_number.result (string_bytes c.args.out.now) (codes " request_seq=") _ (string_bytes c.push_number.new.out) (answered_words c.args.answered) c.push_number.ensures (rw c.in-Some.is (search rules))
+    regrouped c.push_number.result (string_bytes c.args.out.now) (codes " request_seq=") _
+    (string_bytes c.push_number.new.out) (answered_words c.args.answered) c.push_number.ensures
+    (rw c.in-Some.is (search rules))

@@ -6,4 +6,6 @@ use Rattle.dap_show.proofs.message_lines.push_frames.Given as goal
 
 -- the lines so far, and those of what is left, are those of all
 abbrev pub invariant-loop-frame : goal.invariant-loop-frame
-invariant-loop-frame l = string_bytes l.out ++ flat_map frame_line (frames_left l.frame-iterator) ≡ string_bytes l.fn.out ++ flat_map frame_line (frames_left l.fn.frames)
+invariant-loop-frame l =
+    string_bytes l.out ++ flat_map frame_line (frames_left l.frame-iterator)
+    ≡ string_bytes l.fn.out ++ flat_map frame_line (frames_left l.fn.frames)

@@ -9,4 +9,5 @@ returns c =
     let old = string_bytes c.args.out.now in
     let one = c.in_ok-push_number.ensures ∙ append_assoc old (codes "  frame ") _ in
     let two = then_after old _ (codes " ") _ _ _ one c.in_ok-push_number-2.ensures in
-    ended_after c.push_number-3.result old _ (codes ":") _ _ (string_bytes c.push_number-3.new.out) (place_words (frame_shown c.args.frame)) two c.push_number-3.ensures (search rules)
+    ended_after c.push_number-3.result old _ (codes ":") _ _ (string_bytes c.push_number-3.new.out)
+    (place_words (frame_shown c.args.frame)) two c.push_number-3.ensures (search rules)

@@ -6,4 +6,6 @@ use Rattle.dap_show.proofs.message_lines.push_scopes.Given as goal
 
 -- the lines so far, and those of what is left, are those of all
 abbrev pub invariant-loop-scope : goal.invariant-loop-scope
-invariant-loop-scope l = string_bytes l.out ++ flat_map scope_line (scopes_left l.scope-iterator) ≡ string_bytes l.fn.out ++ flat_map scope_line (scopes_left l.fn.scopes)
+invariant-loop-scope l =
+    string_bytes l.out ++ flat_map scope_line (scopes_left l.scope-iterator)
+    ≡ string_bytes l.fn.out ++ flat_map scope_line (scopes_left l.fn.scopes)

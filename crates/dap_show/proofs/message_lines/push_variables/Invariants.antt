@@ -6,4 +6,6 @@ use Rattle.dap_show.proofs.message_lines.push_variables.Given as goal
 
 -- the lines so far, and those of what is left, are those of all
 abbrev pub invariant-loop-variable : goal.invariant-loop-variable
-invariant-loop-variable l = string_bytes l.out ++ flat_map variable_line (variables_left l.variable-iterator) ≡ string_bytes l.fn.out ++ flat_map variable_line (variables_left l.fn.variables)
+invariant-loop-variable l =
+    string_bytes l.out ++ flat_map variable_line (variables_left l.variable-iterator)
+    ≡ string_bytes l.fn.out ++ flat_map variable_line (variables_left l.fn.variables)

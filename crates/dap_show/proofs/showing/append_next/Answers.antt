@@ -6,5 +6,6 @@ use Rattle.dap_show.proofs.showing.append_next.Goals as goal
 
 pub returns-in-Ok : goal.returns-in-Ok
 returns-in-Ok c =
-    let is : IsMessage (held_of c.in-Some.record) (sent c.in_ok-message.message) = rw c.as_slice.ensures at c.in_ok-message.ensures.ok in
+    let is : IsMessage (held_of c.in-Some.record) (sent c.in_ok-message.message) =
+    rw c.as_slice.ensures at c.in_ok-message.ensures.ok in
     rw c.in-Some.is (refl, (sent c.in_ok-message.message, is, c.in-Ok.ensures))

@@ -1,4 +1,5 @@
-use Rattle.dap_trace.proofs.TraceOutcomes.{traces_have_one_outcome, refusal_stays as trace_refusal_stays}
+use Rattle.dap_trace.proofs.TraceOutcomes.{traces_have_one_outcome}
+use Rattle.dap_trace.proofs.TraceOutcomes.{refusal_stays as trace_refusal_stays}
 use Rattle.dap_trace.proofs.laws.trace_has_one_outcome.Goals as goal
 
 pub returns : goal.returns

@@ -1,5 +1,5 @@
 use Rattle.std.proofs.Common.{length}
-use Rattle.dap_trace.proofs.TracingLoop.{RunGoesOn}
+use Rattle.dap_trace.proofs.RawRunLoop.{RunGoesOn}
 use Rattle.dap_trace.proofs.tracing.record_run.Given as goal
 
 abbrev pub invariant-loop-rest : goal.invariant-loop-rest

@@ -1,4 +1,5 @@
-use Rattle.std.proofs.Common.{◌≡◌, [], ◌∷◌, ◌++◌, string_bytes, string_cmp, sym, ap, ◌∙◌, subst, append_assoc}
+use Rattle.std.proofs.Common.{◌≡◌, [], ◌∷◌, ◌++◌, string_bytes, string_cmp, sym, ap, ◌∙◌, subst}
+use Rattle.std.proofs.Common.{append_assoc}
 use Rattle.std.specs.List.Sorted.{IsStrictlySortedBy}
 use Rattle.std.specs.Map.{keys_of}
 use Rattle.dap_tree.specs.View.{members_view}
@@ -10,10 +11,16 @@ copy_members-loop-name-preserved t c =
     let done = c.loop-name.invariant.0 in
     let e : Entry = (c.in-Some.name.now, c.in-Some.member.now) in
     let left = c.next.new.self in
-    let all : c.args.members.now.entries ≡ done ++ e ∷ left = c.loop-name.invariant.1 ∙ ap (λ es. done ++ es) c.in-Some.ensures.steps in
-    let last = put_last done e left (subst (λ es. IsStrictlySortedBy string_cmp (keys_of es)) all c.iter-name-items.ensures.ordered) in
+    let all : c.args.members.now.entries ≡ done ++ e ∷ left =
+    c.loop-name.invariant.1 ∙ ap (λ es. done ++ es) c.in-Some.ensures.steps in
+    let last = put_last done e left
+    (subst (λ es. IsStrictlySortedBy string_cmp (keys_of es)) all
+    c.iter-name-items.ensures.ordered) in
     let named : string_bytes c.in_ok-name.name ≡ string_bytes e.0 = c.in_ok-name.ensures.cases in (
       done ++ e ∷ [],
       all ∙ sym (append_assoc done (e ∷ []) left),
-      ap members_view c.in_ok-insert.ensures.entries ∙ members_view-insert_entry c.loop-name.copies.entries c.in_ok-name.name c.in_ok-copy_tree.field-0 ∙ rw (named, c.in_ok-copy_tree.ensures, c.loop-name.invariant.2) last,
+      ap members_view c.in_ok-insert.ensures.entries
+          ∙ members_view-insert_entry c.loop-name.copies.entries c.in_ok-name.name
+          c.in_ok-copy_tree.field-0
+          ∙ rw (named, c.in_ok-copy_tree.ensures, c.loop-name.invariant.2) last,
     )

@@ -1,4 +1,5 @@
-use Rattle.std.proofs.Common.{◌≡◌, ◌∷◌, ◌++◌, List, ℤ, string_cmp, sym, ap, ◌∙◌, subst, append_assoc, rules}
+use Rattle.std.proofs.Common.{◌≡◌, ◌∷◌, ◌++◌, List, ℤ, string_cmp, sym, ap, ◌∙◌, subst}
+use Rattle.std.proofs.Common.{append_assoc, rules}
 use Rattle.std.specs.List.Sorted.{IsStrictlySortedBy}
 use Rattle.std.specs.Map.{keys_of}
 use Rattle.dap_tree.specs.declared.sort.Sort.{Sort}
@@ -9,11 +10,13 @@ use Rattle.dap_tree.proofs.Views.{Entry, members_ordered-sorted, sorted_rest}
 use Rattle.dap_tree.proofs.ids.+add.Goals as goal
 
 extends_more : (xs ys zs : List (Sort × ℤ)) → Extends xs ys → Extends ys zs → Extends xs zs
-extends_more xs ys zs first more = (first.0 ++ more.0, more.1 ∙ ap (λ is. is ++ more.0) first.1 ∙ append_assoc xs first.0 more.0)
+extends_more xs ys zs first more =
+    (first.0 ++ more.0, more.1 ∙ ap (λ is. is ++ more.0) first.1 ∙ append_assoc xs first.0 more.0)
 
 pub add_items-returns-in_err-add-clause-err : goal.add_items-returns-in_err-add-clause-err
 add_items-returns-in_err-add-clause-err t c =
-    let more = extends_more c.args.found.now.items c.loop-item.found.items c.add.new.found.items c.loop-item.invariant.more c.in_err-add.ensures.err in
+    let more = extends_more c.args.found.now.items c.loop-item.found.items c.add.new.found.items
+    c.loop-item.invariant.more c.in_err-add.ensures.err in
     search (rules, more)
 
 pub add_members-loop-member-preserved : goal.add_members-loop-member-preserved
@@ -25,8 +28,12 @@ add_members-loop-member-preserved t c =
     let sorted = subst (λ es. IsStrictlySortedBy string_cmp (keys_of es)) step l.invariant.sorted in
     let added = c.in_ok-add.ensures.ok in
     record {
-      all = ap (λ is. is ++ members_ids (members_view left)) added ∙ append_assoc l.found.items (ids (view e.1)) _ ∙ ap (λ es. l.found.items ++ members_ids (members_view es)) (sym step) ∙ l.invariant.all;
-      more = extends_more c.args.found.now.items l.found.items c.add.new.found.items l.invariant.more (ids (view e.1), added);
+      all = ap (λ is. is ++ members_ids (members_view left)) added
+          ∙ append_assoc l.found.items (ids (view e.1)) _
+          ∙ ap (λ es. l.found.items ++ members_ids (members_view es)) (sym step) ∙ l.invariant.all;
+      more = extends_more c.args.found.now.items l.found.items c.add.new.found.items
+          l.invariant.more (ids (view e.1), added);
       sorted = sorted_rest e left sorted;
-      ordered = sym (members_ordered-sorted e left sorted c.in_ok-add.ensures.ordered) ∙ ap (λ es. members_ordered (members_view es)) (sym step) ∙ l.invariant.ordered;
+      ordered = sym (members_ordered-sorted e left sorted c.in_ok-add.ensures.ordered)
+          ∙ ap (λ es. members_ordered (members_view es)) (sym step) ∙ l.invariant.ordered;
     }

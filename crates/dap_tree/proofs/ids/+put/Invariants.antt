@@ -21,5 +21,7 @@ decreases-put_members l = 3 * l.levels + 2
 abbrev pub invariant-put_items-loop-item : goal.invariant-put_items-loop-item
 invariant-put_items-loop-item l = record {
   shallow : items_depth (items_view (drop l.item-index l.item-items)) ≤ l.levels;
-  done : items_join (take l.item-index l.item-items) (items_with_ids (items_view (drop l.item-index l.item-items)) l.rest) ≡ items_with_ids (items_view l.initial.item-items) l.numbers;
+  done : items_join (take l.item-index l.item-items)
+      (items_with_ids (items_view (drop l.item-index l.item-items)) l.rest)
+      ≡ items_with_ids (items_view l.initial.item-items) l.numbers;
 }

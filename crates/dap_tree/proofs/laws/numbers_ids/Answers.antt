@@ -1,4 +1,5 @@
-use Rattle.dap_tree.proofs.IdNumbers.{ids-no_id, no_id-ids, count_ids, numbers-with, ids-with_numbers, with_own, sound_with}
+use Rattle.dap_tree.proofs.IdNumbers.{ids-no_id, no_id-ids, count_ids, numbers-with}
+use Rattle.dap_tree.proofs.IdNumbers.{ids-with_numbers, with_own, sound_with}
 use Rattle.dap_tree.proofs.laws.numbers_ids.Goals as goal
 
 pub returns : goal.returns

@@ -1,4 +1,6 @@
-use Rattle.dap_tree.proofs.IdNumbers.{skeleton-with, with_others, same_from_skeleton, sorts_alike, count_alike, depth-skeleton, sound-skeleton, ordered-skeleton, utf8-skeleton}
+use Rattle.dap_tree.proofs.IdNumbers.{skeleton-with, with_others, same_from_skeleton, sorts_alike}
+use Rattle.dap_tree.proofs.IdNumbers.{count_alike, depth-skeleton, sound-skeleton, ordered-skeleton}
+use Rattle.dap_tree.proofs.IdNumbers.{utf8-skeleton}
 use Rattle.dap_tree.proofs.laws.skeletons_are_all_but_numbers.Goals as goal
 
 pub returns : goal.returns

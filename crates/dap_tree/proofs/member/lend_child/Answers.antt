@@ -12,8 +12,12 @@ returns-in-Some g c =
     let is = object_from d (members_view m.entries) c.in-Some.ensures.value in (
       (
         refl,
-        λ w. lent_written k d _ m (c.get_mut.follows.lender w) c.get_mut.result w c.in-Some.ensures.value c.get_mut.ensures.value (c.get_mut.follows.holds w).0 (g.met.T.HasMembers.shows (c.get_mut.follows.lender w)),
-        g.met.T.HasMembers.shows c.get_mut.follows.lender-at-none ∙ ap (λ n. object (members_view n.entries)) c.get_mut.follows.holds-at-none ∙ sym is,
+        λ w. lent_written k d _ m (c.get_mut.follows.lender w) c.get_mut.result w
+            c.in-Some.ensures.value c.get_mut.ensures.value (c.get_mut.follows.holds w).0
+            (g.met.T.HasMembers.shows (c.get_mut.follows.lender w)),
+        g.met.T.HasMembers.shows c.get_mut.follows.lender-at-none
+            ∙ ap (λ n. object (members_view n.entries)) c.get_mut.follows.holds-at-none ∙ sym is,
       ),
-      view_of_mut c.get_mut.result ∙ ap (option_map view) c.get_mut.ensures.value ∙ view-lookup k m.entries ∙ ap (get k) (sym is),
+      view_of_mut c.get_mut.result ∙ ap (option_map view) c.get_mut.ensures.value
+          ∙ view-lookup k m.entries ∙ ap (get k) (sym is),
     )

@@ -9,12 +9,20 @@ use Rattle.dap_tree.proofs.read.read_tree.Goals as goal
 
 pub returns-in-Ok-clause-ok : goal.returns-in-Ok-clause-ok
 returns-in-Ok-clause-ok c =
-    IfOk-weaker c.tree_of.result (λ t. Stands (value_view c.in-Ok.value) (view t)) (λ t. IsRead c.args.content.now (view t)) (λ t stands. ((c.in-Ok.ensures.ok.0, c.in-Ok.ensures.ok.1 ∙ ap Some stands.0), stands.1)) c.tree_of.ensures.ok
+    IfOk-weaker c.tree_of.result (λ t. Stands (value_view c.in-Ok.value) (view t))
+    (λ t. IsRead c.args.content.now (view t))
+    (λ t stands. ((c.in-Ok.ensures.ok.0, c.in-Ok.ensures.ok.1 ∙ ap Some stands.0), stands.1))
+    c.tree_of.ensures.ok
 
 pub returns-in-Ok-clause-plain : goal.returns-in-Ok-clause-plain
 returns-in-Ok-clause-plain c =
-    IfOk-weaker c.tree_of.result (λ t. Stands (value_view c.in-Ok.value) (view t)) (λ t. is_plain (view t) ≡ true)
-    (λ t stands. read_is_plain c.args.content.now (view t) ((c.in-Ok.ensures.ok.0, c.in-Ok.ensures.ok.1 ∙ ap Some stands.0), stands.1)) c.tree_of.ensures.ok
+    IfOk-weaker c.tree_of.result (λ t. Stands (value_view c.in-Ok.value) (view t))
+    (λ t. is_plain (view t) ≡ true)
+    (λ t stands. read_is_plain c.args.content.now (view t)
+    ((c.in-Ok.ensures.ok.0, c.in-Ok.ensures.ok.1 ∙ ap Some stands.0), stands.1))
+    c.tree_of.ensures.ok
 
 pub returns-in-Ok-clause-exactly : goal.returns-in-Ok-clause-exactly
-returns-in-Ok-clause-exactly c = λ o has. answers c.args.content.now (value_view c.in-Ok.value) c.tree_of.result o c.in-Ok.ensures.ok c.tree_of.ensures.ok c.tree_of.ensures.err has
+returns-in-Ok-clause-exactly c =
+    λ o has. answers c.args.content.now (value_view c.in-Ok.value) c.tree_of.result o
+    c.in-Ok.ensures.ok c.tree_of.ensures.ok c.tree_of.ensures.err has

@@ -5,7 +5,11 @@ use Rattle.dap_tree.proofs.sound.+fits.Given as goal
 
 -- what is left decides
 abbrev pub invariant-items_fit-loop-item : goal.invariant-items_fit-loop-item
-invariant-items_fit-loop-item l = items_fit l.levels (items_view (drop l.item-index l.item-items)) ≡ items_fit l.levels (items_view l.item-items)
+invariant-items_fit-loop-item l =
+    items_fit l.levels (items_view (drop l.item-index l.item-items))
+    ≡ items_fit l.levels (items_view l.item-items)
 
 abbrev pub invariant-members_fit-loop-member : goal.invariant-members_fit-loop-member
-invariant-members_fit-loop-member l = members_fit l.levels (members_view l.member-iterator) ≡ members_fit l.levels (members_view l.members.entries)
+invariant-members_fit-loop-member l =
+    members_fit l.levels (members_view l.member-iterator)
+    ≡ members_fit l.levels (members_view l.members.entries)

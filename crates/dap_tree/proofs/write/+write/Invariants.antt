@@ -16,17 +16,23 @@ invariant-write_items-loop-item l =
     let all = items_view l.item-items in record {
       before : l.out.before ≡ l.initial.out.before;
       in_range : items_in_range left ≡ true;
-      tokens : l.out.tokens ++ items_tokens (items_json left) ≡ l.initial.out.tokens ++ items_tokens (items_json all);
-      reads : of_items (items_json left) ≡ Some (items_data left) → of_items (items_json all) ≡ Some (items_data all);
+      tokens : l.out.tokens ++ items_tokens (items_json left)
+          ≡ l.initial.out.tokens ++ items_tokens (items_json all);
+      reads : of_items (items_json left) ≡ Some (items_data left)
+          → of_items (items_json all) ≡ Some (items_data all);
     }
 
--- the tokens so far and those of the members that are left are all, and the members so far have been read
+-- the tokens so far and those of the members that are left are all, and the members so far have
+-- been read
 abbrev pub invariant-write_members-loop-name : goal.invariant-write_members-loop-name
 invariant-write_members-loop-name l =
     let left = members_view l.name-iterator in
     let all = members_view l.members.entries in record {
       before : l.out.before ≡ l.initial.out.before;
       in_range : members_in_range left ≡ true;
-      tokens : l.out.tokens ++ members_tokens (members_json left) ≡ l.initial.out.tokens ++ members_tokens (members_json all);
-      done : (done : List Entry) × (l.members.entries ≡ done ++ l.name-iterator) × (of_members (members_json all) no_members ≡ of_members (members_json left) (members_data (members_view done)));
+      tokens : l.out.tokens ++ members_tokens (members_json left)
+          ≡ l.initial.out.tokens ++ members_tokens (members_json all);
+      done : (done : List Entry) × (l.members.entries ≡ done ++ l.name-iterator)
+          × (of_members (members_json all) no_members
+          ≡ of_members (members_json left) (members_data (members_view done)));
     }

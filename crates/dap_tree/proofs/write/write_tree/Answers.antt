@@ -11,7 +11,8 @@ returns-clause-text c =
     let told = rw c.unwrap.ensures at c.from_utf8.ensures.ok in
     let is = ap (λ v. v.items) told ∙ c.into_inner.ensures.items in
     let empty = c.in_ok-write.ensures.before ∙ c.new-out.ensures.before ∙ c.new.ensures.items in
-    text_of_tokens (view c.args.tree.now) c.new-out.result.tokens c.write.new.out.tokens _ (string_bytes c.unwrap.result) c.new-out.ensures.tokens empty c.in_ok-write.ensures.ok is
+    text_of_tokens (view c.args.tree.now) c.new-out.result.tokens c.write.new.out.tokens _
+    (string_bytes c.unwrap.result) c.new-out.ensures.tokens empty c.in_ok-write.ensures.ok is
 
 pub returns-clause-reads_back : goal.returns-clause-reads_back
 returns-clause-reads_back c =
@@ -19,5 +20,8 @@ returns-clause-reads_back c =
     let told = rw c.unwrap.ensures at c.from_utf8.ensures.ok in
     let is = ap (λ v. v.items) told ∙ c.into_inner.ensures.items in
     let empty = c.in_ok-write.ensures.before ∙ c.new-out.ensures.before ∙ c.new.ensures.items in
-    let reads = tokens_read_back d c.new-out.result.tokens c.write.new.out.tokens _ (string_bytes c.unwrap.result) c.new-out.ensures.tokens empty c.in_ok-write.ensures.ok is c.into_inner.ensures.reads_back (depth_from_sound d c.requires) in
+    let reads =
+    tokens_read_back d c.new-out.result.tokens c.write.new.out.tokens _
+    (string_bytes c.unwrap.result) c.new-out.ensures.tokens empty c.in_ok-write.ensures.ok is
+    c.into_inner.ensures.reads_back (depth_from_sound d c.requires) in
     ((IsUtf8-string_bytes c.unwrap.result, reads ∙ ap Some (sym (data-without d))), no_id_without d)

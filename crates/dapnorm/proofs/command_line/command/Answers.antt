@@ -7,11 +7,19 @@ use Rattle.dapnorm.proofs.command_line.command.Goals as goal
 pub returns : goal.returns
 returns c =
     let top = λ (a : App). a.top in
-    let compact = c.in_ok-compact.ensures ∙ ap (λ a. with_subcommand a (plain (codes "compact")).top) c.bare_command.ensures in
-    let tracing = c.in_ok-tracing.ensures ∙ ap (λ a. with_subcommand a (plain (codes "record")).top) compact in
-    let normalise = c.in_ok-normalise.ensures ∙ ap (λ a. with_subcommand a (plain (codes "normalise")).top) tracing in
-    let judged = c.in_ok-judged.ensures ∙ ap₂ with_subcommand normalise (ap top c.in_ok-check.ensures.0) in
-    let showing = c.in_ok-showing.ensures ∙ ap (λ a. with_subcommand a (plain (codes "show")).top) judged in
+    let compact =
+    c.in_ok-compact.ensures
+    ∙ ap (λ a. with_subcommand a (plain (codes "compact")).top) c.bare_command.ensures in
+    let tracing =
+    c.in_ok-tracing.ensures
+    ∙ ap (λ a. with_subcommand a (plain (codes "record")).top) compact in
+    let normalise =
+    c.in_ok-normalise.ensures
+    ∙ ap (λ a. with_subcommand a (plain (codes "normalise")).top) tracing in
+    let judged =
+    c.in_ok-judged.ensures ∙ ap₂ with_subcommand normalise (ap top c.in_ok-check.ensures.0) in
+    let showing =
+    c.in_ok-showing.ensures ∙ ap (λ a. with_subcommand a (plain (codes "show")).top) judged in
     IfOk-weaker c.with_other-2.result _ _
     (λ d h. h ∙ ap₂ with_subcommand showing (ap top c.in_ok-compare.ensures.0))
     c.with_other-2.ensures

@@ -12,9 +12,13 @@ returns-clause-err c = λ taken named.
     (ap (λ a. takes a (map (λ w. w.now) c.args.words.now)) c.in-Ok.ensures ∙ taken))
 
 -- words that a parse takes with a subcommand name a job
-pub returns-in-Ok-try_get_matches_from-clause-err : goal.returns-in-Ok-try_get_matches_from-clause-err
+pub returns-in-Ok-try_get_matches_from-clause-err :
+    goal.returns-in-Ok-try_get_matches_from-clause-err
 returns-in-Ok-try_get_matches_from-clause-err c = λ taken named.
     let simple = ap is_simple c.in-Ok.ensures ∙ (both (is_simple program) _ taken).0 in
-    let rows = (c.in-Ok-try_get_matches_from.ensures.matches simple).1 ∙ ap (λ a. subcommand_of a (map (λ w. w.now) c.args.words.now)) c.in-Ok.ensures in
-    let none = ap job_named (sym rows) ∙ sym c.told_by.ensures ∙ ap (option_map told) c.in-None.is in
-    absurd (true≢false (sym (takes_job (map (λ w. w.now) c.args.words.now) taken named) ∙ ap is_some none))
+    let rows = (c.in-Ok-try_get_matches_from.ensures.matches simple).1
+    ∙ ap (λ a. subcommand_of a (map (λ w. w.now) c.args.words.now)) c.in-Ok.ensures in
+    let none = ap job_named (sym rows) ∙ sym c.told_by.ensures
+    ∙ ap (option_map told) c.in-None.is in
+    absurd (true≢false (sym (takes_job (map (λ w. w.now) c.args.words.now) taken named)
+    ∙ ap is_some none))

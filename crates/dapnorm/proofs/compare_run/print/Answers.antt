@@ -8,15 +8,32 @@ use Rattle.dapnorm.proofs.compare_run.print.Goals as goal
 
 pub returns-in_err-write_pairs : goal.returns-in_err-write_pairs
 returns-in_err-write_pairs g c =
-    let because = err_from_is_err_and c.from_residual-in_err-write_pairs.result c.from_residual-in_err-write_pairs.ensures.1 in
-    let line = subst (AllWritten g.W.Sink.out g.W.Sink.failures c.args.writer.now c.write_all.new.writer) (c.as_bytes.ensures.value ∙ c.deref.ensures.0 ∙ c.first_line_of.ensures) c.in_ok-write_all.ensures in
+    let because =
+    err_from_is_err_and c.from_residual-in_err-write_pairs.result
+    c.from_residual-in_err-write_pairs.ensures.1 in
+    let line = subst
+    (AllWritten g.W.Sink.out g.W.Sink.failures c.args.writer.now c.write_all.new.writer)
+    (c.as_bytes.ensures.value ∙ c.deref.ensures.0 ∙ c.first_line_of.ensures)
+    c.in_ok-write_all.ensures in
     rw (because.1)
-    (all_then_front g.W.Sink.out g.W.Sink.failures c.args.writer.now c.write_all.new.writer c.write_pairs.new.writer (first_line c.args.verdict.now) (flat_map pair_line (pairs_in c.args.verdict.now)) line
-    (subst (λ ps. FrontWritten g.W.Sink.out g.W.Sink.failures c.write_all.new.writer c.write_pairs.new.writer (flat_map pair_line ps)) c.pairs.ensures c.in_err-write_pairs.ensures))
+    (all_then_front g.W.Sink.out g.W.Sink.failures c.args.writer.now c.write_all.new.writer
+    c.write_pairs.new.writer (first_line c.args.verdict.now)
+    (flat_map pair_line (pairs_in c.args.verdict.now)) line
+    (subst (λ ps. FrontWritten g.W.Sink.out g.W.Sink.failures c.write_all.new.writer
+    c.write_pairs.new.writer (flat_map pair_line ps)) c.pairs.ensures
+    c.in_err-write_pairs.ensures))
 
 pub returns : goal.returns
 returns g c =
-    let line = subst (AllWritten g.W.Sink.out g.W.Sink.failures c.args.writer.now c.write_all.new.writer) (c.as_bytes.ensures.value ∙ c.deref.ensures.0 ∙ c.first_line_of.ensures) c.in_ok-write_all.ensures in
-    let all = all_then_all g.W.Sink.out g.W.Sink.failures c.args.writer.now c.write_all.new.writer c.write_pairs.new.writer (first_line c.args.verdict.now) (flat_map pair_line (pairs_in c.args.verdict.now)) line
-    (subst (λ ps. AllWritten g.W.Sink.out g.W.Sink.failures c.write_all.new.writer c.write_pairs.new.writer (flat_map pair_line ps)) c.pairs.ensures c.in_ok-write_pairs.ensures) in
-    all_then_flush g.W.Sink.out g.W.Sink.failures c.args.writer.now c.write_pairs.new.writer c.flush.new.self _ c.flush.result all c.flush.ensures.flushed
+    let line = subst
+    (AllWritten g.W.Sink.out g.W.Sink.failures c.args.writer.now c.write_all.new.writer)
+    (c.as_bytes.ensures.value ∙ c.deref.ensures.0 ∙ c.first_line_of.ensures)
+    c.in_ok-write_all.ensures in
+    let all = all_then_all g.W.Sink.out g.W.Sink.failures c.args.writer.now c.write_all.new.writer
+    c.write_pairs.new.writer (first_line c.args.verdict.now)
+    (flat_map pair_line (pairs_in c.args.verdict.now)) line
+    (subst (λ ps. AllWritten g.W.Sink.out g.W.Sink.failures c.write_all.new.writer
+    c.write_pairs.new.writer (flat_map pair_line ps)) c.pairs.ensures
+    c.in_ok-write_pairs.ensures) in
+    all_then_flush g.W.Sink.out g.W.Sink.failures c.args.writer.now c.write_pairs.new.writer
+    c.flush.new.self _ c.flush.result all c.flush.ensures.flushed

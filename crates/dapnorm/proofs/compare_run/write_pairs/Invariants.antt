@@ -6,4 +6,6 @@ use Rattle.dapnorm.proofs.compare_run.write_pairs.Given as goal
 
 -- the lines of the pairs so far went out
 abbrev pub invariant-loop-pair : goal.invariant-loop-pair
-invariant-loop-pair g l = AllWritten g.W.Sink.out g.W.Sink.failures l.fn.writer l.writer (flat_map pair_line (take l.pair-index l.pairs))
+invariant-loop-pair g l =
+    AllWritten g.W.Sink.out g.W.Sink.failures l.fn.writer l.writer
+    (flat_map pair_line (take l.pair-index l.pairs))

@@ -5,4 +5,6 @@ use Rattle.dap_message.proofs.ListedElements.{each_shown}
 use Rattle.dap_message.proofs.message.Message.variables.Goals as goal
 
 pub returns-clause-every : goal.returns-clause-every
-returns-clause-every c = ap (map Some) (c.new.ensures ∙ ap (filter_map variable_of) c.listed.ensures) ∙ (each_shown (view c.args.self.now.tree) c.args.self.now.shown).2
+returns-clause-every c =
+    ap (map Some) (c.new.ensures ∙ ap (filter_map variable_of) c.listed.ensures)
+    ∙ (each_shown (view c.args.self.now.tree) c.args.self.now.shown).2

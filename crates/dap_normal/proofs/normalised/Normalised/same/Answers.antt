@@ -7,18 +7,26 @@ use Rattle.dap_normal.proofs.HeldMessages.{equal_hold, hold_equal, equal_recordi
 use Rattle.dap_normal.proofs.normalised.Normalised.same.Goals as goal
 
 -- what the test of the bytes tells of the texts
-told : (xs ys bytes others : List ℕ) (r : Bool) → r ≡ pointwise eqb xs ys → xs ≡ bytes → ys ≡ others → (r ≡ true) ↔ (bytes ≡ others)
+told : (xs ys bytes others : List ℕ) (r : Bool) → r ≡ pointwise eqb xs ys → xs ≡ bytes → ys ≡ others
+    → (r ≡ true) ↔ (bytes ≡ others)
 told xs ys bytes others r is one two =
-    let decides = slice_eq-Decides unsigned_Decides xs ys (pointwise eqb xs ys) refl in
-    ((λ yes. sym one ∙ decides.0 (sym is ∙ yes) ∙ two), (λ same. is ∙ decides.1 (one ∙ same ∙ sym two)))
+    let decides = slice_eq-Decides unsigned_Decides xs ys (pointwise eqb xs ys) refl in (
+      (λ yes. sym one ∙ decides.0 (sym is ∙ yes) ∙ two),
+      (λ same. is ∙ decides.1 (one ∙ same ∙ sym two)),
+    )
 
 pub returns-clause-holds : goal.returns-clause-holds
 returns-clause-holds c =
-    let so = told c.bytes.result.now c.bytes-2.result.now c.args.self.now c.args.other.now c.eq.result c.eq.ensures c.bytes.ensures.same c.bytes-2.ensures.same in
-    ((λ yes. equal_hold c.args.self.now c.args.other.now (subst HoldsSome c.bytes.ensures.same c.bytes.ensures.holds) (so.0 yes)), (λ h. so.1 (hold_equal c.args.self.now c.args.other.now h)))
+    let so = told c.bytes.result.now c.bytes-2.result.now c.args.self.now c.args.other.now
+    c.eq.result c.eq.ensures c.bytes.ensures.same c.bytes-2.ensures.same in (
+      (λ yes. equal_hold c.args.self.now c.args.other.now
+          (subst HoldsSome c.bytes.ensures.same c.bytes.ensures.holds) (so.0 yes)),
+      (λ h. so.1 (hold_equal c.args.self.now c.args.other.now h)),
+    )
 
 pub returns-clause-recordings : goal.returns-clause-recordings
 returns-clause-recordings c = λ limits sound bytes others a b.
-    let so = told c.bytes.result.now c.bytes-2.result.now c.args.self.now c.args.other.now c.eq.result c.eq.ensures c.bytes.ensures.same c.bytes-2.ensures.same in
+    let so = told c.bytes.result.now c.bytes-2.result.now c.args.self.now c.args.other.now
+    c.eq.result c.eq.ensures c.bytes.ensures.same c.bytes-2.ensures.same in
     let tells = equal_recordings limits sound bytes others c.args.self.now c.args.other.now a b in
     ((λ yes. tells.0 (so.0 yes)), (λ same. so.1 (tells.1 same)))

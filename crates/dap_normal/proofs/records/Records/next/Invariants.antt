@@ -11,7 +11,8 @@ invariant-loop-stop g l =
     let failures = g.R.Source.failures in
     record {
       counted : AreCounted given failures l.fn.self l.self l.fn.reader l.reader;
-      looking : (limits : FrameLimits) → StandsBetween limits l.fn.self → Looking left given failures limits l.fn.self l.self l.fn.reader l.reader;
+      looking : (limits : FrameLimits) → StandsBetween limits l.fn.self
+          → Looking left given failures limits l.fn.self l.self l.fn.reader l.reader;
     }
 
 abbrev pub decreases-loop-stop : goal.decreases-loop-stop

@@ -10,5 +10,6 @@ returns g c =
     let x = c.args.number in
     let xs = c.args.self.now.items.keys in
     let e : c.get_index_of.result ≡ position (int_eq x) xs =
-    subst (λ n. c.get_index_of.result ≡ position (int_eq n) xs) (to_z-of_z w64 x c.ranges.number) c.get_index_of.ensures.index in
+    subst (λ n. c.get_index_of.result
+    ≡ position (int_eq n) xs) (to_z-of_z w64 x c.ranges.number) c.get_index_of.ensures.index in
     position_tells (int_eq x) xs c.get_index_of.result e

@@ -5,7 +5,11 @@ use Rattle.dap_rename.proofs.names.Names.new.Goals as goal
 
 pub returns-clause-stand : goal.returns-clause-stand
 unfolding table
-returns-clause-stand g c ClientSeq = grind (arith, c.requires.0, c.requires.1, c.requires.2, c.requires.3)
-returns-clause-stand g c AdapterSeq = grind (arith, c.requires.0, c.requires.1, c.requires.2, c.requires.3)
-returns-clause-stand g c Frame = grind (arith, c.requires.0, c.requires.1, c.requires.2, c.requires.3)
-returns-clause-stand g c Reference = grind (arith, c.requires.0, c.requires.1, c.requires.2, c.requires.3)
+returns-clause-stand g c ClientSeq =
+    grind (arith, c.requires.0, c.requires.1, c.requires.2, c.requires.3)
+returns-clause-stand g c AdapterSeq =
+    grind (arith, c.requires.0, c.requires.1, c.requires.2, c.requires.3)
+returns-clause-stand g c Frame =
+    grind (arith, c.requires.0, c.requires.1, c.requires.2, c.requires.3)
+returns-clause-stand g c Reference =
+    grind (arith, c.requires.0, c.requires.1, c.requires.2, c.requires.3)

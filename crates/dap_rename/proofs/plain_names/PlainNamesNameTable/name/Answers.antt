@@ -8,6 +8,9 @@ use Rattle.dap_rename.proofs.plain_names.PlainNamesNameTable.name.Goals as goal
 pub returns-in-Ok-clause-named : goal.returns-in-Ok-clause-named
 returns-in-Ok-clause-named c =
     let xs = c.args.self.now.items.items in
-    let e : position_or_len (int_eq c.args.number) xs ≡ length xs = place_missing (int_eq c.args.number) xs (rw (to_z-of_z w64 c.args.number c.ranges.number) at c.in_default.ensures) in
-    let k : to_z w64 (of_z w64 (to_z w64 c.len-count.result +ℤ pos 1)) ≡ pos (suc (length xs)) = omega (arith, ints) in
+    let e : position_or_len (int_eq c.args.number) xs ≡ length xs =
+    place_missing (int_eq c.args.number) xs
+    (rw (to_z-of_z w64 c.args.number c.ranges.number) at c.in_default.ensures) in
+    let k : to_z w64 (of_z w64 (to_z w64 c.len-count.result +ℤ pos 1)) ≡ pos (suc (length xs)) =
+    omega (arith, ints) in
     k ∙ ap (λ n. pos (suc n)) (sym e)

@@ -19,7 +19,12 @@ add_pairs-requires-4 g c = c.requires.3
 pub returns-clause-stand : goal.returns-clause-stand
 returns-clause-stand g c ms ns h k =
     let numbers = g.T.NameTable.numbers in
-    let e : entries c.add_pairs-4.new.pairs.items ≡ equal_names (numbers_in numbers c.args.from.now) (numbers_in numbers c.args.to.now) =
-    joined c.new-pairs.result.items c.add_pairs.new.pairs.items c.add_pairs-2.new.pairs.items c.add_pairs-3.new.pairs.items c.add_pairs-4.new.pairs.items (numbers_in numbers c.args.from.now) (numbers_in numbers c.args.to.now)
-    c.new-pairs.ensures.items c.in_ok-add_pairs.ensures c.in_ok-add_pairs-2.ensures c.in_ok-add_pairs-3.ensures c.in_ok-add_pairs-4.ensures in
-    e ∙ places_equal numbers g.T.NameTable.limit c.args.from.now.tables c.args.to.now.tables ms ns h k
+    let e : entries c.add_pairs-4.new.pairs.items
+    ≡ equal_names (numbers_in numbers c.args.from.now) (numbers_in numbers c.args.to.now) =
+    joined c.new-pairs.result.items c.add_pairs.new.pairs.items c.add_pairs-2.new.pairs.items
+    c.add_pairs-3.new.pairs.items c.add_pairs-4.new.pairs.items
+    (numbers_in numbers c.args.from.now) (numbers_in numbers c.args.to.now)
+    c.new-pairs.ensures.items c.in_ok-add_pairs.ensures c.in_ok-add_pairs-2.ensures
+    c.in_ok-add_pairs-3.ensures c.in_ok-add_pairs-4.ensures in
+    e ∙ places_equal numbers g.T.NameTable.limit c.args.from.now.tables c.args.to.now.tables ms ns h
+    k

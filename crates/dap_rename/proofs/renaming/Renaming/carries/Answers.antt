@@ -9,5 +9,6 @@ returns c =
     let ps = c.args.self.now.pairs.items in
     let ms = map sent c.args.from.now in
     let ns = map sent c.args.to.now in
-    let e : c.carries_list.result ≡ carries_list ps ms ns = c.carries_list.ensures ∙ ap (λ qs. carries_list qs ms ns) c.as_slice.ensures.value in
+    let e : c.carries_list.result ≡ carries_list ps ms ns =
+    c.carries_list.ensures ∙ ap (λ qs. carries_list qs ms ns) c.as_slice.ensures.value in
     ((λ h. list_carried ps ms ns (sym e ∙ h)), (λ h. e ∙ carried_list ps ms ns h))

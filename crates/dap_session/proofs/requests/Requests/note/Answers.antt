@@ -1,4 +1,5 @@
-use Rattle.std.proofs.Common.{◌≡◌, ℕ, ℤ, List, Option, true, false, Some, ap, sym, ◌∙◌, w64, to_z, of_z, arith}
+use Rattle.std.proofs.Common.{◌≡◌, ℕ, ℤ, List, Option, true, false, Some, ap, sym, ◌∙◌, w64, to_z}
+use Rattle.std.proofs.Common.{of_z, arith}
 use Rattle.std.proofs.lemmas.Bool.{and_from}
 use Rattle.std.proofs.lemmas.Int.{to_z-of_z}
 use Rattle.dap_message.specs.Message.{sent}
@@ -17,18 +18,23 @@ pub answer-requires : goal.answer-requires
 answer-requires c =
     let n : to_z w64 (of_z w64 c.in-Some.number) ≡ c.in-Some.number = grind (arith, to_z-of_z) in
     let away : is_from c.args.side (sent c.args.message.now) ≡ false = grind arith in
-    let there : is_from (other c.args.side) (sent c.args.message.now) ≡ true = from_other c.args.side (sent c.args.message.now) away in
+    let there : is_from (other c.args.side) (sent c.args.message.now) ≡ true =
+    from_other c.args.side (sent c.args.message.now) away in
     let response : is_response (sent c.args.message.now) ≡ true = grind arith in
-    rw n (c.requires.answers c.in-Some.number (and_from _ _ response there) (sym c.in-Some.ensures) ∙ ap (λ (t : List ℕ). Some (t, false)) (sym c.name_of-in-Some.ensures))
+    rw n (c.requires.answers c.in-Some.number (and_from _ _ response there) (sym c.in-Some.ensures)
+    ∙ ap (λ (t : List ℕ). Some (t, false)) (sym c.name_of-in-Some.ensures))
 
 pub returns-in-Some-clause-ok : goal.returns-in-Some-clause-ok
 returns-in-Some-clause-ok c =
     let n : to_z w64 (of_z w64 c.in-Some.number) ≡ c.in-Some.number = grind (arith, to_z-of_z) in
     let away : is_from c.args.side (sent c.args.message.now) ≡ false = grind arith in
-    let there : is_from (other c.args.side) (sent c.args.message.now) ≡ true = from_other c.args.side (sent c.args.message.now) away in
+    let there : is_from (other c.args.side) (sent c.args.message.now) ≡ true =
+    from_other c.args.side (sent c.args.message.now) away in
     let response : is_response (sent c.args.message.now) ≡ true = grind arith in
     let now : Requests = c.args.self.now in
     let name : List ℕ = name_of (sent c.args.message.now) in
-    c.answer.ensures ∙ ap (λ (k : ℤ). with_answer k c.name_of-in-Some.result.now now) n ∙ ap (λ (t : List ℕ). with_answer c.in-Some.number t now) c.name_of-in-Some.ensures
+    c.answer.ensures ∙ ap (λ (k : ℤ). with_answer k c.name_of-in-Some.result.now now) n
+    ∙ ap (λ (t : List ℕ). with_answer c.in-Some.number t now) c.name_of-in-Some.ensures
     ∙ ap (λ (o : Option ℤ). answered_in o name now) c.in-Some.ensures
-    ∙ sym (after_response c.args.side c.args.self.now (sent c.args.message.now) (and_from _ _ response there) (no_request (sent c.args.message.now) response))
+    ∙ sym (after_response c.args.side c.args.self.now (sent c.args.message.now)
+    (and_from _ _ response there) (no_request (sent c.args.message.now) response))

@@ -6,10 +6,16 @@ use Rattle.dap_session.proofs.SessionSteps.{judged_is, stands_push}
 use Rattle.dap_session.proofs.session.Session.accept.Goals as goal
 
 pub returns-in-Some-clause-says : goal.returns-in-Some-clause-says
-returns-in-Some-clause-says c = λ ms s. (sym (judged_is c.args.self.now ms (sent c.args.message.now) s) ∙ sym c.in-Some.ensures, refl)
+returns-in-Some-clause-says c =
+    λ ms s. (
+      sym (judged_is c.args.self.now ms (sent c.args.message.now) s)
+          ∙ sym c.in-Some.ensures,
+      refl,
+    )
 
 pub returns-in-Ok-clause-says : goal.returns-in-Ok-clause-says
 returns-in-Ok-clause-says c = λ ms s. (
   sym (judged_is c.args.self.now ms (sent c.args.message.now) s) ∙ sym c.in_default.ensures,
-  subst (λ (k : Kept). Stands k (ms ++ (sent c.args.message.now) ∷ [])) (sym c.in-Ok.ensures.ok) (stands_push c.args.self.now ms (sent c.args.message.now) s (sym c.in_default.ensures)),
+  subst (λ (k : Kept). Stands k (ms ++ (sent c.args.message.now) ∷ [])) (sym c.in-Ok.ensures.ok)
+      (stands_push c.args.self.now ms (sent c.args.message.now) s (sym c.in_default.ensures)),
 )

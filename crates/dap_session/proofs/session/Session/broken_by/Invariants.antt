@@ -5,4 +5,6 @@ use Rattle.dap_session.specs.KeptRules.{tells}
 use Rattle.dap_session.proofs.session.Session.broken_by.Given as goal
 
 abbrev pub invariant-loop-rule : goal.invariant-loop-rule
-invariant-loop-rule l = first_of (λ r. tells r l.self (sent l.message)) rules ≡ first_of (λ r. tells r l.self (sent l.message)) (drop l.rule-index rules)
+invariant-loop-rule l =
+    first_of (λ r. tells r l.self (sent l.message)) rules
+    ≡ first_of (λ r. tells r l.self (sent l.message)) (drop l.rule-index rules)

@@ -7,4 +7,5 @@ use Rattle.dap_tree.proofs.tree.Tree.child.Goals as goal
 pub returns-in-Object : goal.returns-in-Object
 returns-in-Object c =
     rw (c.in-Object.is, view-Object c.in-Object.members)
-    (view_of_ref c.get.result ∙ ap (option_map view) c.get.ensures.value ∙ view-lookup c.args.name.now c.in-Object.members.entries)
+    (view_of_ref c.get.result ∙ ap (option_map view) c.get.ensures.value
+    ∙ view-lookup c.args.name.now c.in-Object.members.entries)

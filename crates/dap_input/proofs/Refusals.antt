@@ -1,0 +1,137 @@
+-- What follows from what a refusal says.
+use Rattle.std.proofs.Common.{◌≡◌, ◌≢◌, ℕ, Bool, true, false, List, ◌++◌, Option, Some, None}
+use Rattle.std.proofs.Common.{MatchOption, Err, refl, sym, ◌∙◌, ap, ap₂, subst, true≢false}
+use Rattle.std.specs.Option.{option_map_or}
+use Rattle.dap_device.specs.declared.reading.Stop.{Stop}
+use Rattle.dap_device.specs.declared.reading.Stop.TheVariants.{End, Full, Failed}
+use Rattle.dap_recording.specs.declared.record_fault.RecordCause.{RecordCause}
+use Rattle.dap_recording.specs.declared.record_fault.RecordCause.TheVariants.{Cut}
+use Rattle.dap_recording.specs.declared.record_fault.RecordCause.TheVariants.{Memory as NoMemory}
+use Rattle.dap_items.proofs.Ends.{IsReadable}
+use Rattle.dap_input.specs.Engine.{Judges}
+use Rattle.dap_input.specs.Inputs.{Input, Fault, refused, read_fault, IsRefusedAt}
+use Rattle.dap_input.specs.Judging.{Judging, Objection, Reason, faulty, cut, objected}
+use Rattle.dap_input.specs.Judging.{IsFirstRefusal}
+use Rattle.dap_input.specs.ReadTo.{IsOf, has_failed, so_far}
+use Rattle.dap_input.specs.Refusals.{IsObjected, IsRefused, RefusesAt, RefusesHeld, Tells}
+use Rattle.dap_input.specs.Refusals.{reason_of}
+use Rattle.dap_input.specs.declared.refused.Refused.{Refused}
+use Rattle.dap_input.specs.declared.refused.Refused.TheVariants.{Record, ReadFault, WriteFault}
+use Rattle.dap_input.specs.declared.refused.Refused.TheVariants.{Memory}
+use Rattle.dap_input.proofs.Outcomes.{refusal_stays}
+use Rattle.dap_input.proofs.Runs.{ValueLaws, AcceptedFacts}
+
+-- It is told that the record is cut.
+abbrev TellsCut : Option (ℕ × Reason) → Type 0
+TellsCut (Some (n, cut)) = Unit {0}
+TellsCut told = ⊥
+
+-- Only a record that is cut tells so.
+pub cut_told : (because : Refused) (n : ℕ) → reason_of because ≡ Some (n, cut)
+    → because ≡ Record n Cut
+cut_told (Record m Cut) n told =
+    ap (λ t. Record (option_map_or (λ (of : ℕ × Reason). of.0) t n) Cut) told
+cut_told because n told = absurd (subst TellsCut (sym told) tt)
+
+-- What a record holds is not where it ends.
+pub objected_not_cut : (because : Refused) (n m : ℕ) (why : Objection)
+    → reason_of because ≡ Some (n, objected why) → because ≡ Record m Cut → ⊥
+objected_not_cut because n m why told same = subst TellsCut (sym (ap reason_of same) ∙ told) tt
+
+-- Bytes show neither that a recording ends too early nor want of memory.
+abbrev pub IsShownCause : RecordCause → Type 0
+IsShownCause Cut = ⊥
+IsShownCause NoMemory = ⊥
+IsShownCause cause = Unit {0}
+
+pub faulty_told : (cause : RecordCause) (n : ℕ) → IsShownCause cause
+    → reason_of (Record n cause) ≡ Some (n, faulty cause)
+faulty_told Cut n shown = absurd shown
+faulty_told NoMemory n shown = absurd shown
+faulty_told cause n shown = refl
+
+-- What a whole record is refused for is one of the objections.
+pub objection_told : (Objects : Objection → Type 0) (n : ℕ) (told : Option (ℕ × Reason))
+    → MatchOption told ⊥ (λ t. (t.0 ≡ n) × IsObjected Objects t.1)
+    → (why : Objection) × (told ≡ Some (n, objected why)) × Objects why
+objection_told Objects n None refuses = absurd refuses
+objection_told Objects n (Some (m, objected why)) (same, objects) =
+    (why, ap (λ k. Some (k, objected why)) same, objects)
+objection_told Objects n (Some (m, why)) (same, objects) = absurd objects
+
+-- What has no reason, and is no fault of the reader, tells nothing.
+pub untold : (because : Refused) (number : ℕ) (fault : Fault) → reason_of because ≡ None
+    → because ≢ ReadFault → Tells because number fault → ⊥
+untold because number (refused why) none other told =
+    subst (λ o. MatchOption o (Unit {0}) (λ t. ⊥)) (sym none ∙ told) tt
+untold because number read_fault none other told = other told
+
+module _ (j : Judging) where
+  -- The first refusal of an input is what tells it.
+  pub refused_as : (whole : List ℕ) (because : Refused) (number : ℕ) (why : Reason)
+      → reason_of because ≡ Some (number, why) → IsFirstRefusal j whole number why
+      → IsRefused j whole because
+  refused_as whole because number why is first =
+      subst (λ told. MatchOption told ⊥ (λ t. IsFirstRefusal j whole t.0 t.1)) (sym is) first
+
+  module _ (records : IsReadable j.records) (judged : ValueLaws j) (accepted : AcceptedFacts j)
+      (bytes : List ℕ) (number : ℕ) (because : Refused) (input : Input) where
+    -- Where more may come, what has come is not refused for its end.
+    stays : (stop : Option Stop) → has_failed stop ≡ false → stop ≢ Some End → (more : List ℕ)
+        → input.bytes ≡ bytes ++ more → ((n : ℕ) → because ≡ Record n Cut → stop ≡ Some End)
+        → (fault : Fault) → Tells because number fault
+        → IsRefusedAt j (so_far bytes stop) number fault → RefusesAt j input number because
+    stays stop still on more split ended read_fault told is = absurd (true≢false (sym is.0 ∙ still))
+    stays stop still on more split ended (refused cut) told is =
+        absurd (on (ended number (cut_told because number told)))
+    stays stop still on more split ended (refused why) told is =
+        let other : why ≢ cut = λ e. absurd (let same = e in cc) in
+        let first =
+        subst (λ t. IsFirstRefusal j t number why) (sym split)
+        (refusal_stays j records judged accepted bytes more number why other is.0) in
+        record { fault = refused why; tells = told; is_refused = (first, λ failed. other) }
+
+    -- an input by its parts
+    same_input : (failed : Bool) → input.bytes ≡ bytes → input.failed ≡ failed
+        → record { bytes = bytes; failed = failed } ≡ input
+    same_input failed one two = ap₂ (λ b f. record { bytes = b; failed = f }) (sym one) (sym two)
+
+    -- Where what has come is refused, the input is.
+    pub refused_in : (stop : Option Stop) → IsOf bytes stop input
+        → RefusesAt j (so_far bytes stop) number because
+        → ((n : ℕ) → because ≡ Record n Cut → stop ≡ Some End) → RefusesAt j input number because
+    refused_in None is said ended =
+        stays None refl (λ e. absurd (let same = e in cc)) is.0 is.1 ended said.fault said.tells
+        said.is_refused
+    refused_in (Some End) is said ended =
+        subst (λ i. RefusesAt j i number because) (same_input false is.0 is.1) said
+    refused_in (Some Full) is said ended =
+        stays (Some Full) refl (λ e. absurd (let same = e in cc)) is.0 is.1 ended said.fault
+        said.tells said.is_refused
+    refused_in (Some Failed) is said ended =
+        subst (λ i. RefusesAt j i number because) (same_input true is.0 is.1) said
+
+  -- What an engine answers that reads its whole input and then judges it.
+  module _ {T : Type 0} (Gives : List ℕ → List ℕ → Type 0) (text_of : T
+      → List ℕ) (bytes : List ℕ) (stop : Stop) (n : ℕ) where
+    abbrev Judged : Refused → Type 0
+    Judged because = Judges Gives (IsRefused j) text_of bytes stop (Err because)
+
+    pub judged_faulty : (cause : RecordCause) → IsShownCause cause
+        → IsFirstRefusal j bytes n (faulty cause) → Judged (Record n cause)
+    judged_faulty cause shown first = (
+      refused_as bytes (Record n cause) n (faulty cause) (faulty_told cause n shown) first,
+      λ m same. let is : cause ≡ Cut = (let e = same in cc) in absurd (subst IsShownCause is shown),
+    )
+
+    pub judged_held : (Objects : Objection → Type 0)
+        → ((why : Objection) → Objects why → IsFirstRefusal j bytes n (objected why))
+        → (because : Refused) → RefusesHeld Objects n because → Judged because
+    judged_held Objects first Memory refuses = tt
+    judged_held Objects first ReadFault refuses = absurd refuses
+    judged_held Objects first WriteFault refuses = absurd refuses
+    judged_held Objects first because refuses =
+        let told = objection_told Objects n (reason_of because) refuses in (
+          refused_as bytes because n (objected told.0) told.1 (first told.0 told.2),
+          λ m same. absurd (objected_not_cut because n m told.0 told.1 same),
+        )

@@ -1,0 +1,59 @@
+-- What a refusal says: of which record it is, and why that is refused. Source: own.
+use Rattle.std.specs.Prelude.{◌≡◌, ℕ, List, Option, Some, None, MatchOption}
+use Rattle.dap_message.specs.Message.{no_reading, fraction, faulty as profile_fault}
+use Rattle.dap_recording.specs.declared.record_fault.RecordCause.TheVariants.{Cut}
+use Rattle.dap_recording.specs.declared.record_fault.RecordCause.TheVariants.{Memory as NoMemory}
+use Rattle.dap_input.specs.Inputs.{Input, Fault, refused, read_fault, IsRefusedAt}
+use Rattle.dap_input.specs.Judging.{Judging, Objection, Reason, faulty, input_too_long, cut}
+use Rattle.dap_input.specs.Judging.{objected, no_message, broken, too_many_ids, grew}
+use Rattle.dap_input.specs.Judging.{IsFirstRefusal}
+use Rattle.dap_input.specs.declared.refused.Refused.{Refused}
+use Rattle.dap_input.specs.declared.refused.Refused.TheVariants.{InputTooLong, Record, Json}
+use Rattle.dap_input.specs.declared.refused.Refused.TheVariants.{Fraction, Message, Rule}
+use Rattle.dap_input.specs.declared.refused.Refused.TheVariants.{TooManyIds, Grew, ReadFault}
+use Rattle.dap_input.specs.declared.refused.Refused.TheVariants.{Memory}
+
+-- The record of a refusal, and the reason of the same name. What is no reason to refuse a record of
+-- the input has none: a fault of a device, want of memory, a response that is missing, and what is
+-- wrong with a trace.
+abbrev pub reason_of : Refused → Option (ℕ × Reason)
+reason_of (InputTooLong n) = Some (n, input_too_long)
+reason_of (Record n Cut) = Some (n, cut)
+reason_of (Record n NoMemory) = None
+reason_of (Record n cause) = Some (n, faulty cause)
+reason_of (Json n) = Some (n, objected (no_message no_reading))
+reason_of (Fraction n) = Some (n, objected (no_message fraction))
+reason_of (Message n fault) = Some (n, objected (no_message (profile_fault fault)))
+reason_of (Rule n rule) = Some (n, objected (broken rule))
+reason_of (TooManyIds n) = Some (n, objected too_many_ids)
+reason_of (Grew n) = Some (n, objected grew)
+reason_of because = None
+
+-- The refusal is that of this record, for this fault.
+abbrev pub Tells : Refused → ℕ → Fault → Type 0
+Tells because number (refused why) = reason_of because ≡ Some (number, why)
+Tells because number read_fault = because ≡ ReadFault
+
+-- What a whole record holds is refused for this.
+abbrev pub IsObjected : (Objection → Type 0) → Reason → Type 0
+IsObjected Objects (objected why) = Objects why
+IsObjected Objects why = ⊥
+
+-- Record n is refused for what it holds, to which these are the objections. Memory that was refused
+-- tells nothing.
+abbrev pub RefusesHeld : (Objection → Type 0) → ℕ → Refused → Type 0
+RefusesHeld Objects n Memory = Unit {0}
+RefusesHeld Objects n because =
+    MatchOption (reason_of because) ⊥ (λ told. (told.0 ≡ n) × IsObjected Objects told.1)
+
+module _ (j : Judging) where
+  -- This is the first refusal of the input.
+  abbrev pub IsRefused : List ℕ → Refused → Type 0
+  IsRefused whole because =
+      MatchOption (reason_of because) ⊥ (λ told. IsFirstRefusal j whole told.0 told.1)
+
+  -- The input is refused at this record, and the refusal tells it.
+  pub record RefusesAt (input : Input) (number : ℕ) (because : Refused) : Type 0 where
+    pub fault : Fault
+    pub tells : Tells because number fault
+    pub is_refused : IsRefusedAt j input number fault
