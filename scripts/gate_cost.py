@@ -31,10 +31,23 @@ def prover(process):
     return (crate, part), fields[19], sum(int(fields[it]) for it in (11, 12, 13, 14)) / TICK
 
 
-class Cost:
-    """Adds up what provers take, from its making until `close`."""
+def is_below(process, root):
+    """Whether a process was started by the one with the number `root`, or by one that it started."""
+    number = os.path.basename(process)
+    while number not in ("0", "1", str(root)):
+        try:
+            with open(f"/proc/{number}/stat", encoding="utf-8", errors="replace") as file:
+                number = file.read().rsplit(")", 1)[1].split()[1]
+        except (OSError, IndexError):
+            return False
+    return number == str(root)
 
-    def __init__(self):
+
+class Cost:
+    """Adds up what provers take, from its making until `close`: those that stand below the process with the number `root`, or all."""
+
+    def __init__(self, root=None):
+        self.root = root
         self.taken = {}
         self.ended = threading.Event()
         self.seen = time.monotonic()
@@ -45,7 +58,7 @@ class Cost:
         while not self.ended.wait(1):
             for process in glob.glob("/proc/[0-9]*"):
                 found = prover(process)
-                if found:
+                if found and (self.root is None or is_below(process, self.root)):
                     key, begun, seconds = found
                     self.taken[process, begun] = key, seconds
                     self.seen = time.monotonic()

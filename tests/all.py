@@ -35,7 +35,7 @@ def counted(name, arguments):
 def main():
     toolchain()
     tests = os.path.join(TOP, "tests")
-    cost = Cost()
+    cost = Cost(os.getpid())
     passed, failed = counted("the gate, rt ci", ["rt", "ci"])
     cost.close()
     print("\n".join(cost.table()), flush=True)
