@@ -1,188 +1,140 @@
--- What the loop of `compact` over its input keeps, and what it may answer.
-use Rattle.std.proofs.Common.{◌≡◌, ◌≢◌, ◌⊎◌, inl, inr, ℕ, ◌<◌, ◌≤◌, List, [], ◌∷◌, ◌++◌, length}
-use Rattle.std.proofs.Common.{take, drop, Option, Some, None, MatchOption, Ok, Err, refl, sym, ◌∙◌}
-use Rattle.std.proofs.Common.{subst, arith}
-use Rattle.std.proofs.lemmas.List.{nil_from_length, length-drop}
+-- What the loop of `compact` over the records of its input keeps, and what it may answer.
+use Rattle.std.proofs.Common.{◌≡◌, ℕ, ◌+◌, ◌-◌, ◌<◌, ◌^◌, List, [], ◌∷◌, ◌++◌, length, Option}
+use Rattle.std.proofs.Common.{Some, None, Result, Ok, Err, refl}
 use Rattle.dap_tree.specs.Doc.{Doc}
-use Rattle.dap_frame.specs.declared.fault.FrameFault.{FrameFault}
-use Rattle.dap_frame.specs.Frame.{IsFrame, IsOpen, Shows, frames}
-use Rattle.dap_frame.specs.Reading.{Reading, Stands, limits_of}
-use Rattle.dap_input.specs.declared.limits.Limits.{Limits}
-use Rattle.dap_device.specs.declared.reading.Stop.{Stop}
-use Rattle.dap_input.specs.declared.refused.Refused.{Refused}
-use Rattle.dap_input.specs.declared.refused.Refused.TheVariants.{Record}
-use Rattle.dap_recording.specs.declared.record_fault.RecordCause.TheVariants.{Cut, Frame}
+use Rattle.dap_frame.specs.Reading.{Reading}
+use Rattle.dap_input.specs.InputSteps.{AcceptsAll, RefusesOne}
+use Rattle.dap_input.specs.ItemReading.{StandsForFrame, frame_items}
 use Rattle.dap_input.specs.Limits.{AreSound}
-use Rattle.dap_input.specs.Judging.{IsFirstRefusal, faulty, cut, input_too_long}
-use Rattle.dap_input.specs.Refusals.{IsRefused}
-use Rattle.dap_compact.specs.Compacting.{Compacts, Fits, Objects, compacting, text}
-use Rattle.dap_compact.specs.CompactingSteps.{HasGoneOn, JudgesInput}
-use Rattle.dap_input.proofs.InputLoop.{Going, going_start, going_fed, going_record, going_accepted}
-use Rattle.dap_input.proofs.InputLoop.{going_shown, going_objected, going_cut, going_too_long}
-use Rattle.dap_input.proofs.Refusals.{judged_held}
-use Rattle.std.specs.declared.vec.Vec.{Vec}
-use Rattle.std.specs.declared.alloc.Global.{Global}
+use Rattle.dap_input.specs.RecordSteps.{IsAtStart, ReadsNext}
+use Rattle.dap_input.specs.declared.limits.Limits.{Limits}
+use Rattle.dap_input.specs.declared.records.Records.{Records}
+use Rattle.dap_input.specs.declared.refused.Refused.{Refused}
+use Rattle.dap_input.proofs.InputLoop.{ReadsAs}
+use Rattle.dap_input.proofs.WholeInputs.{Going, accepts_all, at_start, few_failures, fewer_left}
+use Rattle.dap_input.proofs.WholeInputs.{on, refuses_held, refuses_read, small_count, small_number}
+use Rattle.dap_compact.specs.Compacting.{Fits, compacting, text}
+use Rattle.dap_compact.specs.CompactingSteps.{Appended}
 use Rattle.dap_compact.proofs.CompactingFacts.{accepted_facts, fits_none, readable_frames}
 use Rattle.dap_compact.proofs.CompactingFacts.{value_laws}
-use Rattle.dap_items.proofs.Then.{shows_as}
 
--- The values of the frames so far are written, and the framer stands for what came behind them.
-pub record Compacting (limits : Limits) (whole rest out : List ℕ) (framer : Reading)
-    (number : ℕ) : Type 0 where
-  pub values : List Doc
-  pub held : List ℕ
-  pub going : Going (compacting limits) whole rest values number held
-  pub stands : Stands framer held
-  pub fits : Fits limits values
-  pub text_is : out ≡ text values
-  pub its_limits : limits_of framer ≡ limits.frame
-
-pub start : (limits : Limits) (whole : List ℕ) (framer : Reading) → length whole ≤ limits.input
-    → Stands framer [] → limits_of framer ≡ limits.frame
-    → Compacting limits whole whole [] framer 1
-start limits whole framer short stands its_limits = record {
-  values = [];
-  held = [];
-  going = going_start whole (subst (λ l. IsOpen l []) its_limits stands.is_open) short;
-  stands = stands;
-  fits = fits_none limits;
-  text_is = refl;
-  its_limits = its_limits;
+-- A framer gives the records that are judged.
+pub reads_frames : (limits : Limits) → AreSound limits
+    → ReadsAs (compacting limits) (frame_items limits.frame) (λ content. content)
+reads_frames limits sound = record {
+  records = readable_frames limits sound;
+  judged = value_laws limits;
+  accepted = accepted_facts limits;
+  item_of = λ bytes content is. is;
+  fault_of = λ bytes cause ends. ends;
+  open_of = λ bytes is_open. is_open;
 }
 
-module _ (limits : Limits) (sound : AreSound limits) (whole rest out : List ℕ) (framer : Reading)
-    (n : ℕ) (was : Compacting limits whole rest out framer n) where
-  -- what a framer that has taken no frame's end, or one, has made of what it held
-  abbrev pub HasFed : ℕ → Option (List ℕ) → Reading → Type 0
-  HasFed used content new = (held : List ℕ) → Stands framer held
-      → (used ≤ length rest) × MatchOption content
-      ((used ≡ length rest) × Stands new (held ++ rest))
-      (λ ended. IsFrame (limits_of framer) (held ++ take used rest) ended × Stands new [])
+-- The records before the next one are judged, and the text of their values is made.
+pub record Compacting {R : Type 0} (limits : Limits) (left : R → Option (List ℕ))
+    (given failures : R → ℕ) (start reader : R) (records : Records Reading)
+    (out : List ℕ) : Type 0 where
+  pub values : List Doc
+  pub going : Going (compacting limits) (StandsForFrame limits.frame) left given failures start
+      reader records values
+  pub fits : Fits limits values
+  pub text_is : out ≡ text values
 
-  is_frame : (used : ℕ) (content : List ℕ) (new : Reading) → HasFed used (Some content) new
-      → IsFrame limits.frame (was.held ++ take used rest) content
-  is_frame used content new fed =
-      subst (λ l. IsFrame l (was.held ++ take used rest) content) was.its_limits
-      (fed was.held was.stands).1.0
+module _ {R : Type 0} (limits : Limits) (sound : AreSound limits) (left : R → Option (List ℕ))
+    (given failures : R → ℕ) where
+  pub none_read : (reader : R) (records : Records Reading)
+      → IsAtStart (StandsForFrame limits.frame) limits.input records
+      → Compacting limits left given failures reader reader records []
+  none_read reader records start = record {
+    values = [];
+    going = at_start (compacting limits) (frame_items limits.frame) (λ content. content)
+        (reads_frames limits sound) (StandsForFrame limits.frame) left given failures reader records
+        start;
+    fits = fits_none limits;
+    text_is = refl;
+  }
 
-  pub step : (used next : ℕ) (content : Option (List ℕ)) (new : Reading) (written : List ℕ)
-      → HasFed used content new → limits_of new ≡ limits_of framer
-      → ((values : List Doc) → Fits limits values → out ≡ text values
-      → HasGoneOn limits values n out content (Ok next) written)
-      → Compacting limits whole (drop used rest) written new next
-  step used next None new written fed kept gone =
-      let went = gone was.values was.fits was.text_is in
-      let now = fed was.held was.stands in
-      let its_limits = kept ∙ was.its_limits in
-      let none : drop used rest ≡ [] =
-      nil_from_length (drop used rest) (omega (arith, now.1.0, length-drop used rest)) in
-      record {
-        values = was.values;
-        held = was.held ++ rest;
-        going = subst (λ r. Going (compacting limits) whole r was.values next (was.held ++ rest))
-            (sym none)
-            (subst (λ m. Going (compacting limits) whole [] was.values m (was.held ++ rest))
-            (sym went.0)
-            (going_fed was.going
-            (subst (λ l. IsOpen l (was.held ++ rest)) its_limits now.1.1.is_open)));
-        stands = now.1.1;
-        fits = was.fits;
-        text_is = went.1 ∙ was.text_is;
-        its_limits = its_limits;
-      }
-  step used next (Some content) new written fed kept gone =
-      let went = gone was.values was.fits was.text_is in
-      let now = fed was.held was.stands in
-      let its_limits = kept ∙ was.its_limits in
-      let added = went.1 in
-      record {
-        values = was.values ++ added.value ∷ [];
-        held = [];
-        going = subst
-            (λ m. Going (compacting limits) whole (drop used rest) (was.values ++ added.value ∷ [])
-            m []) (sym went.0)
-            (going_record (readable_frames limits sound) used content added.value was.going
-            (is_frame used content new fed) (added.is_read, added.fits));
-        stands = now.1.1;
-        fits = added.fits;
-        text_is = added.text_is;
-        its_limits = its_limits;
-      }
+  module _ (start reader : R) (records : Records Reading) (out : List ℕ)
+      (was : Compacting limits left given failures start reader records out) where
+    pub few_records : records.number < 2 ^ 63
+    few_records =
+        small_number (compacting limits) (frame_items limits.frame) (λ content. content)
+        (reads_frames limits sound) (StandsForFrame limits.frame) left given failures start reader
+        records was.values was.going sound.input
 
-  -- ---- what the input, of which the whole is what is taken, is refused for
+    pub few_given : given start < 2 ^ 62
+        → given reader + (records.pieces.limit - records.pieces.taken) < 2 ^ 63
+    few_given =
+        small_count (compacting limits) (frame_items limits.frame) (λ content. content)
+        (reads_frames limits sound) (StandsForFrame limits.frame) left given failures start reader
+        records was.values was.going sound.input
 
-  module _ (bytes : List ℕ) (taken : whole ≡ take limits.input bytes) where
-    pub shown : (fault : FrameFault)
-        → ((held : List ℕ) → Stands framer held
-        → (place : ℕ) × Shows (limits_of framer) (held ++ rest) fault place)
-        → IsFirstRefusal (compacting limits) bytes n (faulty (Frame fault))
-    shown fault shows =
-        let there = shows was.held was.stands in
-        going_shown (readable_frames limits sound) (value_laws limits) (accepted_facts limits) bytes
-        was.going taken (Frame fault) there.0
-        (shows_as Frame (frames limits.frame) (was.held ++ rest) fault there.0
-        (subst (λ l. Shows l (was.held ++ rest) fault there.0) was.its_limits there.1))
+    pub few_failed : failures start < 2 ^ 62 → failures reader < 2 ^ 63
+    few_failed =
+        few_failures (compacting limits) (frame_items limits.frame) (λ content. content)
+        (reads_frames limits sound) (StandsForFrame limits.frame) left given failures start reader
+        records was.values was.going
 
-    pub refused_next : (stop : Stop) (used : ℕ) (content : Option (List ℕ)) (new : Reading)
-        (written : List ℕ) (because : Refused) → HasFed used content new
-        → ((values : List Doc) → Fits limits values → out ≡ text values
-        → HasGoneOn limits values n out content (Err because) written)
-        → JudgesInput limits bytes stop (Err because)
-    refused_next stop used None new written because fed gone =
-        absurd (gone was.values was.fits was.text_is)
-    refused_next stop used (Some content) new written because fed gone =
-        judged_held (compacting limits) (Compacts limits) (λ (out : Vec ℕ Global). out.items) bytes
-        stop n (Objects limits was.values content)
-        (λ why. going_objected (readable_frames limits sound) (value_laws limits)
-        (accepted_facts limits) bytes was.going taken used content why
-        (is_frame used content new fed))
-        because (gone was.values was.fits was.text_is)
+  module _ (start reader : R) (records : Records Reading) (out : List ℕ)
+      (was : Compacting limits left given failures start reader records out)
+      (new : Records Reading) (after : R) where
+    abbrev Reads : Result (Option (List ℕ)) Refused → Type 0
+    Reads answer = ReadsNext (frame_items limits.frame) (StandsForFrame limits.frame) left given
+        failures records new reader after answer
 
-    -- ---- at the end of what is taken
+    abbrev Refuses : Refused → Type 0
+    Refuses because = RefusesOne (compacting limits) left given failures start after new because
 
-    module _ (ended : rest ≡ []) where
-      pub too_long : limits.input < length bytes
-          → IsFirstRefusal (compacting limits) bytes n input_too_long
-      too_long long =
-          going_too_long (readable_frames limits sound) (value_laws limits) (accepted_facts limits)
-          bytes was.going taken ended long
+    abbrev Appends : {U : Type 0} → List ℕ → Result U Refused → List ℕ → Type 0
+    Appends content answer written = (values : List Doc) → Fits limits values → out ≡ text values
+        → Appended limits values records.number content answer written
 
-      module _ (short : length bytes ≤ limits.input) where
-        pub accepted : ((held : List ℕ) → Stands framer held → held ≡ [])
-            → Compacts limits bytes out
-        accepted none = (
-          was.values,
-          going_accepted bytes was.going taken (accepted_facts limits) ended
-              (none was.held was.stands) short,
-          was.text_is,
-        )
+    pub not_read : (because : Refused) → Reads (Err because) → Refuses because
+    not_read =
+        refuses_read (compacting limits) (frame_items limits.frame) (λ content. content)
+        (reads_frames limits sound) (StandsForFrame limits.frame) left given failures start reader
+        records was.values was.going new after
 
-        pub is_cut : ((held : List ℕ) → Stands framer held → held ≢ [])
-            → IsFirstRefusal (compacting limits) bytes n cut
-        is_cut some =
-            going_cut (readable_frames limits sound) (value_laws limits) (accepted_facts limits)
-            bytes was.going taken ended (some was.held was.stands) short
+    pub all_compacted : Reads (Ok None)
+        → (values : List Doc)
+        × AcceptsAll (compacting limits) left given failures start after values
+        × (out ≡ text values)
+    all_compacted read = (
+      was.values,
+      accepts_all (compacting limits) (frame_items limits.frame) (λ content. content)
+          (reads_frames limits sound) (StandsForFrame limits.frame) left given failures start reader
+          records was.values was.going new after read,
+      was.text_is,
+    )
 
-        pub not_refused : ((written : List ℕ) × Compacts limits bytes written)
-            ⊎ ((m : ℕ) × IsRefused (compacting limits) bytes (Record m Cut))
-        not_refused = told was.held refl
-          where
-            told : (held : List ℕ) → was.held ≡ held
-                → ((written : List ℕ) × Compacts limits bytes written)
-                ⊎ ((m : ℕ) × IsRefused (compacting limits) bytes (Record m Cut))
-            told [] none =
-                inl (
-                  out,
-                  (
-                    was.values,
-                    going_accepted bytes was.going taken (accepted_facts limits) ended none short,
-                    was.text_is,
-                  ),
-                )
-            told (b ∷ held) some =
-                inr (
-                  n,
-                  going_cut (readable_frames limits sound) (value_laws limits)
-                      (accepted_facts limits) bytes was.going taken ended
-                      (λ none. absurd (let e = sym some ∙ none in cc)) short,
-                )
+    pub not_appended : (content written : List ℕ) (because : Refused)
+        → Reads (Ok (Some content)) → Appends {U = Unit {0}} content (Err because) written
+        → Refuses because
+    not_appended content written because read appended =
+        refuses_held (compacting limits) (frame_items limits.frame) (λ content. content)
+        (reads_frames limits sound) (StandsForFrame limits.frame) left given failures start reader
+        records was.values was.going new after content read because
+        (appended was.values was.fits was.text_is)
+
+    pub one_more : {U : Type 0} (done : U) (content written : List ℕ)
+        → Reads (Ok (Some content)) → Appends content (Ok done) written
+        → Compacting limits left given failures start after new written
+    one_more done content written read appended =
+        let added = appended was.values was.fits was.text_is in
+        record {
+          values = was.values ++ added.value ∷ [];
+          going = on (compacting limits) (frame_items limits.frame) (λ content. content)
+              (reads_frames limits sound) (StandsForFrame limits.frame) left given failures start
+              reader records was.values was.going new after content read added.value
+              (added.is_read, added.fits);
+          fits = added.fits;
+          text_is = added.text_is;
+        }
+
+    pub fewer : (content : List ℕ) → Reads (Ok (Some content))
+        → (new.pieces.limit - new.pieces.taken) + length new.pieces.unread
+        < (records.pieces.limit - records.pieces.taken) + length records.pieces.unread
+    fewer =
+        fewer_left (compacting limits) (frame_items limits.frame) (λ content. content)
+        (reads_frames limits sound) (StandsForFrame limits.frame) left given failures start reader
+        records was.values was.going new after

@@ -2,16 +2,16 @@
 ghost use Rattle.std.specs.Prelude.{◌≡◌, ◌+◌, ◌<◌, ◌≤◌, ◌^◌, List, Result, Ok, Err};
 ghost use Rattle.dap_tree.specs.Doc.{Doc};
 ghost use Rattle.dap_compact.specs.Compacting.{Compacts, Fits, compacting, text};
-ghost use Rattle.dap_compact.specs.CompactingSteps.{Appended, HasGoneOn, JudgesInput};
-ghost use Rattle.dap_device.specs.Reading.{HasLength};
+ghost use Rattle.dap_compact.specs.CompactingSteps.{Appended, JudgesInput};
 ghost use Rattle.dap_input.specs.Engine.{Answers};
+ghost use Rattle.dap_input.specs.ItemReading.{StandsForFrame};
 ghost use Rattle.dap_input.specs.Limits.{AreSound};
+ghost use Rattle.dap_input.specs.RecordSteps.{IsAtStart};
 ghost use Rattle.dap_input.specs.Refusals.{IsRefused};
 
-use dap_device::{Input, Sink, Source, Stop, read_all, write_and_flush};
-use dap_frame::{Content, FrameFault, Framer, write_frame};
-use dap_input::{Limits, Refused};
-use dap_recording::RecordCause;
+use dap_device::{Sink, Source, write_and_flush};
+use dap_frame::{FrameFault, Framer, write_frame};
+use dap_input::{Limits, Records, Refused};
 use dap_tree::{TreeFault, read_tree, write_tree};
 use std::alloc::Global;
 
@@ -47,57 +47,27 @@ fn append_compact(
     Ok(())
 }
 
-/// Appends the compact frame of a content that has come, and answers the number of the next record.
-fn append_next(
+/// The compact text of all records, or why there is none.
+fn compact_records<R: Source>(
     alloc: Global,
-    out: &mut Vec<u8>,
-    number: u64,
-    content: Option<Content>,
+    records: &mut Records<Framer>,
+    reader: &mut R,
     limits: Limits,
-) -> Result<u64, Refused>
+) -> Result<Vec<u8>, Refused>
     requires sound { AreSound limits }
-    requires few { number < 2 ^ 63 }
-    ensures { (values : List Doc) → Fits limits values → out.old.items ≡ text values
-        → HasGoneOn limits values number out.old.items content result out.new.items }
+    requires start { IsAtStart (StandsForFrame limits.frame) limits.input records.old }
+    requires given { R.given reader.old < 2 ^ 62 }
+    requires failures { R.failures reader.old < 2 ^ 62 }
+    ensures { JudgesInput limits R.left R.given R.failures reader.old reader.new records.new
+        result }
 {
-    let Some(content) = content else {
-        return Ok(number);
-    };
-    match append_compact(alloc, out, number, content.as_slice(), limits) {
-        Ok(()) => Ok(number + 1),
-        Err(refused) => Err(refused),
-    }
-}
-
-/// The compact text of what was read, or why there is none.
-fn compact_input(alloc: Global, input: &Input, limits: Limits) -> Result<Vec<u8>, Refused>
-    requires sound { AreSound limits }
-    requires has_length { HasLength limits.input input.now.bytes.items input.now.stop }
-    ensures { JudgesInput limits input.now.bytes.items input.now.stop result }
-{
-    let bytes = input.bytes.as_slice();
-    let mut framer = Framer::new(alloc, limits.frame);
     let mut out = Vec::new(alloc);
-    let mut number: u64 = 1;
-    let mut rest = &bytes[..bytes.len().min(limits.input as usize)];
-    while !rest.is_empty() {
-        let fed = match framer.feed(rest) {
-            Ok(fed) => fed,
-            Err(fault) => match fault {
-                FrameFault::Memory => return Err(Refused::Memory),
-                _ => return Err(Refused::Record(number, RecordCause::Frame(fault))),
-            },
+    loop {
+        let number = records.number();
+        let Some(content) = records.next(reader)? else {
+            return Ok(out);
         };
-        rest = &rest[fed.used..];
-        number = append_next(alloc, &mut out, number, fed.content, limits)?;
-    }
-    match input.stop {
-        Stop::Full => Err(Refused::InputTooLong(number)),
-        Stop::Failed => Err(Refused::ReadFault),
-        Stop::End => match framer.finish() {
-            Ok(()) => Ok(out),
-            Err(_) => Err(Refused::Record(number, RecordCause::Cut)),
-        },
+        append_compact(alloc, &mut out, number, content.as_slice(), limits)?;
     }
 }
 
@@ -105,8 +75,8 @@ fn compact_input(alloc: Global, input: &Input, limits: Limits) -> Result<Vec<u8>
 ///
 /// A canonical content is its JSON value without spaces, the members of each object in the byte
 /// order of their names. It reads its whole input, at most one byte past `limits.input`, judges it,
-/// and writes last: nothing is written where it is refused. Records are counted from 1 in the order
-/// of the input.
+/// and writes last: nothing is written where it is refused. One record is held at a time, and the
+/// text that is made. Records are counted from 1 in the order of the input.
 ///
 /// # Errors
 ///
@@ -131,13 +101,19 @@ pub fn compact<R: Source, W: Sink>(
     // It takes at most one byte past the limit.
     ensures taken { R.given reader.new ≤ R.given reader.old + limits.input + 1 }
 {
-    let input = match read_all(alloc, reader, limits.input) {
-        Ok(input) => input,
+    let framer = Framer::new(alloc, limits.frame);
+    let mut records = match Records::new(alloc, framer, limits.input) {
+        Ok(records) => records,
         Err(_) => return Err(Refused::Memory),
     };
-    let text = compact_input(alloc, &input, limits)?;
-    match write_and_flush(writer, text.as_slice()) {
-        Ok(()) => Ok(()),
-        Err(_) => Err(Refused::WriteFault),
+    match compact_records(alloc, &mut records, reader, limits) {
+        Ok(text) => match write_and_flush(writer, text.as_slice()) {
+            Ok(()) => Ok(()),
+            Err(_) => Err(Refused::WriteFault),
+        },
+        Err(refused) => {
+            records.drain(reader);
+            Err(refused)
+        }
     }
 }

@@ -1,7 +1,9 @@
 -- What `compare` answers while it reads two inputs.
+use Rattle.std.proofs.Common.{⊎_elim}
 use Rattle.std.proofs.Common.{◌≡◌, ◌⊎◌, inl, inr, ℕ, ℤ, ◌+◌, Bool, true, false, List, [], ◌∷◌, ◌++◌}
 use Rattle.std.proofs.Common.{length, Option, Some, None, Ok, Err, refl, sym, ◌∙◌, ap, subst, arith}
 use Rattle.std.proofs.Common.{append_assoc, append-nil}
+use Rattle.std.proofs.lemmas.Bool.{true≢false}
 use Rattle.std.proofs.lemmas.List.{length_push}
 use Rattle.dap_device.specs.Pieces.{HasComeSoFar}
 use Rattle.dap_device.specs.declared.reading.Stop.{Stop}
@@ -22,6 +24,7 @@ use Rattle.dap_input.specs.declared.limits.Limits.{Limits}
 use Rattle.dap_normal.specs.declared.normal_records.NormalRecords.{NormalRecords}
 use Rattle.dap_input.specs.declared.refused.Refused.{Refused}
 use Rattle.dap_input.specs.declared.refused.Refused.TheVariants as why
+use Rattle.dap_compare.specs.declared.verdict.CompareRefused.{CompareRefused}
 use Rattle.dap_compare.specs.declared.verdict.CompareRefused.TheVariants as because
 use Rattle.dap_compare.specs.declared.verdict.Verdict.TheVariants as code
 use Rattle.dap_compare.specs.declared.verdict.Which.TheVariants.{A, B}
@@ -32,7 +35,9 @@ use Rattle.dap_normal.specs.JudgingSteps.{record_of}
 use Rattle.dap_input.specs.Limits.{AreSound}
 use Rattle.dap_normal.specs.NormalSteps.{HasEnded, HasGone, HasNext, HasStoppedAt}
 use Rattle.dap_input.specs.ReadTo.{IsOf, IsReadTo, so_far}
-use Rattle.dap_compare.specs.Verdicts.{HasCompared, IsRecordingVerdict}
+use Rattle.dap_compare.specs.ComparingSteps.{AreNext, IsRefusalOf}
+use Rattle.dap_compare.specs.declared.comparing.NextRecords.TheVariants.{Apart}
+use Rattle.dap_compare.specs.Verdicts.{Compares, HasCompared, IsRecordingVerdict}
 use Rattle.dap_input.specs.Refusals.{RefusesAt}
 use Rattle.dap_input.proofs.Refusals.{refused_in}
 use Rattle.dap_normal.proofs.AcceptingFacts.{accepted_facts, value_laws}
@@ -40,7 +45,8 @@ use Rattle.dap_recording.proofs.Records.{readable}
 use Rattle.dap_compare.proofs.ComparingLoop.{are_apart, both_have_ended, front_of, goes_on}
 use Rattle.dap_compare.proofs.ComparingLoop.{has_ended, not_the_same, one_form, taken_in}
 use Rattle.dap_compare.proofs.ComparingLoop.{x_has_ended, y_has_ended}
-use Rattle.dap_normal.proofs.StreamLoop.{Going, before_in, came_on, next_in}
+use Rattle.dap_input.proofs.Coming.{came_on}
+use Rattle.dap_normal.proofs.StreamLoop.{Going, before_in, next_in}
 use Rattle.dap_compare.proofs.Verdicts.{same_lengths}
 
 -- What is answered of the next record is that memory was refused, or a refusal there.
@@ -195,6 +201,34 @@ module _ {T R S : Type 0} {numbers : T → List ℤ} {table_limit : T → ℕ} (
           );
         };
   }
+
+  -- What is told of a refusal, as its two clauses say.
+  pub told_by_a : (new : NormalRecords T) (after : R) (refused : Refused) (refusal : CompareRefused)
+      → IsRefusalOf A refused refusal
+      → HasStoppedAt numbers table_limit left_a given_a failures_a limits a.bytes a.messages
+      a.normal records_a new reader_a after refused
+      → Compares left_a given_a failures_a left_b given_b failures_b limits start_a after start_b
+      reader_b (Err refusal)
+  told_by_a new after refused refusal of_it stopped =
+      ⊎_elim (λ is. rw (of_it.0 is) tt)
+      (λ told. rw (of_it.1 told.0) (refused_by_a new after refused stopped told.1))
+      (as_told left_a given_a failures_a limits a.bytes a.messages a.normal records_a new reader_a
+      after refused stopped)
+
+  pub told_by_b : (passed_to : R) (more : List ℕ) (stop : Option Stop)
+      → Passed passed_to more stop
+      → (new : NormalRecords T) (after : S) (refused : Refused) (refusal : CompareRefused)
+      → IsRefusalOf B refused refusal
+      → HasStoppedAt numbers table_limit left_b given_b failures_b limits b.bytes b.messages
+      b.normal records_b new reader_b after refused
+      → Compares left_a given_a failures_a left_b given_b failures_b limits start_a passed_to
+      start_b after (Err refusal)
+  told_by_b passed_to more stop passed new after refused refusal of_it stopped =
+      ⊎_elim (λ is. rw (of_it.0 is) tt)
+      (λ told. rw (of_it.1 told.0)
+      (refused_by_b passed_to more stop passed new after refused stopped told.1))
+      (as_told left_b given_b failures_b limits b.bytes b.messages b.normal records_b new reader_b
+      after refused stopped)
 
   -- ---- the record of the one
 
@@ -363,6 +397,34 @@ module _ {T R S : Type 0} {numbers : T → List ℤ} {table_limit : T → ℕ} (
           (sym (gone.appended ∙ ap (λ t. t ++ record_of gone.named) none) ∙ equal ∙ went.appended
           ∙ ap (λ t. t ++ record_of went.named) nothing))
           ∙ ap (λ n. n ++ went.named ∷ []) alike
+
+    -- what is told where the next records are apart
+    abbrev pub Next_a : Bool → Type 0
+    Next_a some = HasNext numbers table_limit left_a given_a failures_a limits a.bytes a.messages
+        a.normal records_a new_a reader_a after_a text_a longer_a (Ok some)
+
+    abbrev pub Next_b : Bool → Type 0
+    Next_b some = HasNext numbers table_limit left_b given_b failures_b limits b.bytes b.messages
+        b.normal records_b new_b reader_b after_b text_b longer_b (Ok some)
+
+    pub told_apart : (some_a some_b : Bool) → Next_a some_a → Next_b some_b → text_a ≡ []
+        → text_b ≡ [] → AreNext some_a some_b longer_a longer_b Apart → (n : ℕ) → n ≡ number
+        → HasCompared left_a given_a failures_a left_b given_b failures_b limits start_a after_a
+        start_b after_b (Ok (code.Differ n))
+    told_apart true false gone ended none nothing apart n is = some_and_none n is gone ended
+    told_apart false true ended gone none nothing apart n is = none_and_some n is ended gone
+    told_apart true true gone went none nothing (inl wrong) n is =
+        absurd (true≢false wrong.1)
+    told_apart true true gone went none nothing (inr (inl wrong)) n is =
+        absurd (true≢false wrong.0)
+    told_apart true true gone went none nothing (inr (inr apart)) n is =
+        texts_apart gone went none nothing n is apart.2
+    told_apart false false ended over none nothing (inl wrong) n is =
+        absurd (true≢false (sym wrong.0))
+    told_apart false false ended over none nothing (inr (inl wrong)) n is =
+        absurd (true≢false (sym wrong.1))
+    told_apart false false ended over none nothing (inr (inr wrong)) n is =
+        absurd (true≢false (sym wrong.0))
 
     module _ (end_a : Ended_a) (end_b : Ended_b) where
       pub names_a : StandFor numbers new_a.judge.names a.messages

@@ -1,2 +1,3 @@
 pub mod Comparing
+pub mod ComparingSteps
 pub mod Verdicts

@@ -1,5 +1,8 @@
 //! Compares recordings.
-ghost use Rattle.std.specs.Prelude.{◌≡◌, ◌+◌, ◌<◌, ◌≤◌, ◌^◌};
+ghost use Rattle.std.specs.Prelude.{◌≡◌, ◌+◌, ◌-◌, ◌<◌, ◌≤◌, ◌^◌, ℕ, List, []};
+ghost use Rattle.dap_message.specs.Message.{Sent};
+ghost use Rattle.dap_normal.specs.NormalSteps.{StandsBefore};
+ghost use Rattle.dap_compare.specs.ComparingSteps.{AreNext, IsRefusalOf, TellsNext};
 ghost use Rattle.dap_input.specs.Limits.{AreSound};
 ghost use Rattle.dap_normal.specs.NameTables.{AreReady};
 ghost use Rattle.dap_compare.specs.Verdicts.{Compares};
@@ -13,12 +16,61 @@ use std::alloc::Global;
 
 /// Whose refusal it is. That memory was refused is nobody's.
 fn refusal_of(which: Which, refused: Refused) -> CompareRefused
-    ensures memory { refused ≡ Refused.Memory → result ≡ CompareRefused.Memory }
-    ensures other { (refused ≡ Refused.Memory → ⊥) → result ≡ CompareRefused.Input which refused }
+    ensures { IsRefusalOf which refused result }
 {
     match refused {
         Refused::Memory => CompareRefused::Memory,
         refused => CompareRefused::Input(which, refused),
+    }
+}
+
+/// Reads and judges the next record of an input, and leaves the record of its normal form in
+/// `text`. None is left where the input has ended and all of it is accepted.
+fn next_text<R: Source, T: NameTable + Drop>(
+    alloc: Global,
+    which: Which,
+    records: &mut NormalRecords<T>,
+    reader: &mut R,
+    text: &mut Vec<u8>,
+) -> Result<bool, CompareRefused>
+    requires number { records.old.records.number < 2 ^ 63 }
+    requires given { R.given reader.old
+        + (records.old.records.pieces.limit - records.old.records.pieces.taken) < 2 ^ 63 }
+    requires failures { R.failures reader.old < 2 ^ 63 }
+    ensures { (limits : Limits) (bytes : List ℕ) (messages normal : List Sent)
+        → StandsBefore T.numbers T.limit limits bytes records.old messages normal
+        → TellsNext T.numbers T.limit R.left R.given R.failures limits bytes messages normal
+        records.old records.new reader.old reader.new which text.new.items result }
+{
+    text.clear();
+    match records.next(alloc, reader, text) {
+        Ok(some) => Ok(some),
+        Err(refused) => Err(refusal_of(which, refused)),
+    }
+}
+
+/// What the next records of two inputs are to each other.
+enum NextRecords {
+    Alike,
+    /// Their texts differ, or just one of the inputs has one.
+    Apart,
+    NoneLeft,
+}
+
+/// Says what the next records are to each other: whether each input has one, and their texts.
+fn next_records(some_a: bool, some_b: bool, text_a: &[u8], text_b: &[u8]) -> NextRecords
+    ensures { AreNext some_a some_b text_a.now text_b.now result }
+{
+    match (some_a, some_b) {
+        (true, true) => {
+            if text_a == text_b {
+                NextRecords::Alike
+            } else {
+                NextRecords::Apart
+            }
+        }
+        (true, false) | (false, true) => NextRecords::Apart,
+        (false, false) => NextRecords::NoneLeft,
     }
 }
 
@@ -98,34 +150,52 @@ pub fn compare_with<A: Source, B: Source, T: NameTable + Drop>(
     let Ok(mut records_b) = NormalRecords::new(alloc, limits, tables_b) else {
         return Err(CompareRefused::Memory);
     };
+    compare_records(
+        alloc,
+        &mut records_a,
+        reader_a,
+        &mut records_b,
+        reader_b,
+        limits,
+    )
+}
+
+/// Compares the records of two inputs, of which nothing has been read.
+fn compare_records<A: Source, B: Source, T: NameTable + Drop>(
+    alloc: Global,
+    records_a: &mut NormalRecords<T>,
+    reader_a: &mut A,
+    records_b: &mut NormalRecords<T>,
+    reader_b: &mut B,
+    limits: Limits,
+) -> Result<Verdict, CompareRefused>
+    requires limits { AreSound limits }
+    requires stands_a { StandsBefore T.numbers T.limit limits [] records_a.old [] [] }
+    requires stands_b { StandsBefore T.numbers T.limit limits [] records_b.old [] [] }
+    requires given_a { A.given reader_a.old < 2 ^ 62 }
+    requires given_b { B.given reader_b.old < 2 ^ 62 }
+    requires failures_a { A.failures reader_a.old < 2 ^ 62 }
+    requires failures_b { B.failures reader_b.old < 2 ^ 62 }
+    ensures answer { Compares A.left A.given A.failures B.left B.given B.failures limits
+        reader_a.old reader_a.new reader_b.old reader_b.new result }
+    ensures taken_a { A.given reader_a.new ≤ A.given reader_a.old + limits.input + 1 }
+    ensures taken_b { B.given reader_b.new ≤ B.given reader_b.old + limits.input + 1 }
+{
     let mut text_a = Vec::new(alloc);
     let mut text_b = Vec::new(alloc);
     loop {
-        text_a.clear();
-        text_b.clear();
         let number = records_a.number();
-        let some_a = match records_a.next(alloc, reader_a, &mut text_a) {
-            Ok(some) => some,
-            Err(refused) => return Err(refusal_of(Which::A, refused)),
-        };
-        let some_b = match records_b.next(alloc, reader_b, &mut text_b) {
-            Ok(some) => some,
-            Err(refused) => return Err(refusal_of(Which::B, refused)),
-        };
-        match (some_a, some_b) {
-            (false, false) => {
-                let Ok(renaming) = records_a.renaming_to(alloc, &records_b) else {
+        let some_a = next_text(alloc, Which::A, records_a, reader_a, &mut text_a)?;
+        let some_b = next_text(alloc, Which::B, records_b, reader_b, &mut text_b)?;
+        match next_records(some_a, some_b, text_a.as_slice(), text_b.as_slice()) {
+            NextRecords::Alike => {}
+            NextRecords::Apart => return Ok(Verdict::Differ(number)),
+            NextRecords::NoneLeft => {
+                let Ok(renaming) = records_a.renaming_to(alloc, records_b) else {
                     return Err(CompareRefused::Memory);
                 };
                 return Ok(Verdict::Same(renaming));
             }
-            (true, true) => {
-                if text_a.as_slice() != text_b.as_slice() {
-                    return Ok(Verdict::Differ(number));
-                }
-            }
-            (true, false) => return Ok(Verdict::Differ(number)),
-            (false, true) => return Ok(Verdict::Differ(number)),
         }
     }
 }

@@ -110,8 +110,8 @@ module _ (limits : FrameLimits) (bytes rest piece new : List ℕ) (header_len co
 pub content_byte : (limits : FrameLimits) (bytes rest piece : List ℕ)
     (header_len content_len used : ℕ)
     → IsAtContent limits bytes rest piece header_len content_len used
-    → 0 < length (drop used piece) → HasContentByte limits (rest ++ piece)
-content_byte limits bytes rest piece header_len content_len used begun some =
+    → 0 < content_len → 0 < length (drop used piece) → HasContentByte limits (rest ++ piece)
+content_byte limits bytes rest piece header_len content_len used begun wanted some =
     let front : List ℕ = rest ++ take used piece in
     let whole : front ++ drop used piece ≡ rest ++ piece =
     append_assoc rest (take used piece) (drop used piece)
@@ -121,6 +121,7 @@ content_byte limits bytes rest piece header_len content_len used begun some =
       content_len = content_len;
       header = subst (λ xs. BeginsWith limits xs header_len (Ok content_len)) whole
           (BeginsWith-more limits front (drop used piece) header_len (Ok content_len) begun.header);
+      some = wanted;
       byte = omega (
         arith,
         begun.header.ended.within,

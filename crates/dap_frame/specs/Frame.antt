@@ -49,11 +49,13 @@ pub record BeginsWith (limits : FrameLimits) (bytes : List ℕ) (len : ℕ)
   pub within : len ≤ limits.header
   pub says : Says limits (take len bytes) said
 
--- The bytes begin with a header part that says a length, and a byte of the content has come.
+-- The bytes begin with a header part that says a length other than 0, and a byte of the content has
+-- come.
 pub record HasContentByte (limits : FrameLimits) (bytes : List ℕ) : Type 0 where
   pub len : ℕ
   pub content_len : ℕ
   pub header : BeginsWith limits bytes len (Ok content_len)
+  pub some : 0 < content_len
   pub byte : len < length bytes
 
 -- the frame that is written for a content (own: the one field, one space, no leading zeros)

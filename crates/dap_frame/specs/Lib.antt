@@ -1,3 +1,4 @@
+pub mod FaultName
 pub mod Limits
 pub mod Lines
 pub mod Frame

@@ -1,21 +1,6 @@
 //! Frames read from the pieces of a stream.
-ghost use Rattle.std.specs.Prelude.{
-  ◌≡◌,
-  ℕ,
-  ◌≤◌,
-  ◌+◌,
-  ◌<◌,
-  ◌↔◌,
-  ◌++◌,
-  List,
-  [],
-  length,
-  Err,
-  IsErrOf,
-  IfErr,
-  IsOk,
-  IfOk,
-};
+ghost use Rattle.std.specs.Prelude.{◌≡◌, ℕ, ◌≤◌, ◌+◌, ◌<◌, ◌↔◌, ◌++◌, List, [], length, Err};
+ghost use Rattle.std.specs.Prelude.{IsErrOf, IfErr, IsOk, IfOk};
 ghost use Rattle.dap_frame.specs.Limits.{IsSound};
 ghost use Rattle.dap_frame.specs.Frame.{HasContentByte};
 ghost use Rattle.dap_frame.specs.Reading.{Stands, HasFailed, Gives, limits_of};

@@ -1,24 +1,10 @@
 //! Theorems on frames, which hold of all bytes, and on framers, which hold of all pieces. Each
 //! function does nothing: a call of it gives its clauses to a proof.
 
-ghost use Rattle.dap_frame.specs.Laws.{
-  OneFrame,
-  NoEmptyFrame,
-  OneFault,
-  ShownWithin,
-  ShownOfFormat,
-  FaultStays,
-  FaultNeedsNoMore,
-  FrameNotFaulty,
-  FrameNotOpen,
-  OpenNotFaulty,
-  SomeOutcome,
-  WrittenIsFrame,
-  SomeStream,
-  OneStream,
-  AnyPieces,
-  FaultInAnyPieces,
-};
+ghost use Rattle.dap_frame.specs.Laws.{OneFrame, NoEmptyFrame, OneFault, ShownWithin};
+ghost use Rattle.dap_frame.specs.Laws.{ShownOfFormat, FaultStays, FaultNeedsNoMore, FrameNotFaulty};
+ghost use Rattle.dap_frame.specs.Laws.{FrameNotOpen, OpenNotFaulty, SomeOutcome, WrittenIsFrame};
+ghost use Rattle.dap_frame.specs.Laws.{SomeStream, OneStream, AnyPieces, FaultInAnyPieces};
 
 /// Bytes begin with at most one frame, and no frame is empty.
 pub fn one_frame()

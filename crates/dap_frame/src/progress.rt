@@ -1,20 +1,7 @@
 //! How far a frame has come, and what of a piece belongs to it.
 
-ghost use Rattle.std.specs.Prelude.{
-  ◌≡◌,
-  ◌<◌,
-  ◌≤◌,
-  ◌+◌,
-  ◌-◌,
-  ◌++◌,
-  ℕ,
-  List,
-  length,
-  take,
-  min,
-  OnErr,
-  IfOk,
-};
+ghost use Rattle.std.specs.Prelude.{◌≡◌, ◌<◌, ◌≤◌, ◌+◌, ◌-◌, ◌++◌, ℕ, List, length, take, min};
+ghost use Rattle.std.specs.Prelude.{OnErr, IfOk};
 ghost use Rattle.dap_frame.specs.Limits.{IsSound};
 ghost use Rattle.dap_frame.specs.HeaderScan.{IsScanOf};
 ghost use Rattle.dap_frame.specs.Reading.{IsKeptOf};
@@ -122,6 +109,7 @@ pub fn take_content(
         × (bytes.new.items ≡ bytes.old.items ++ take n piece.now)) }
     ensures err { OnErr result (bytes.new.items ≡ bytes.old.items) }
     ensures refused { OnErr result (0 < length piece.now) }
+    ensures wanted { OnErr result (length bytes.old.items < content_len) }
 {
     let count = piece.len().min(content_len - bytes.len());
     bytes.extend_from_slice(&piece[..count])?;

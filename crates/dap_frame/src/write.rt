@@ -1,22 +1,6 @@
 //! Frames written.
-ghost use Rattle.std.specs.Prelude.{
-  ◌≡◌,
-  ◌+◌,
-  ◌^◌,
-  ◌<◌,
-  ◌≤◌,
-  ◌⊎◌,
-  ◌↔◌,
-  ◌++◌,
-  length,
-  vec_len,
-  vec_capacity,
-  Err,
-  IsOk,
-  OnOk,
-  OnErr,
-  IfErr,
-};
+ghost use Rattle.std.specs.Prelude.{◌≡◌, ◌+◌, ◌^◌, ◌<◌, ◌≤◌, ◌⊎◌, ◌↔◌, ◌++◌, length, vec_len};
+ghost use Rattle.std.specs.Prelude.{vec_capacity, Err, IsOk, OnOk, OnErr, IfErr};
 ghost use Rattle.std.specs.Io.{StartsWith};
 ghost use Rattle.dap_frame.specs.Limits.{IsSound};
 ghost use Rattle.dap_frame.specs.Frame.{frame_text};

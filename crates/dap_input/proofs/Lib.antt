@@ -1,8 +1,14 @@
-pub mod NextRecord
-pub mod RunFronts
+pub mod Coming
+pub mod Draining
 pub mod InputLoop
 pub mod InputRefusals
+pub mod InputSteps
+pub mod ItemReaders
+pub mod NextRecord
 pub mod Outcomes
 pub mod ReadBounds
+pub mod RecordLoop
 pub mod Refusals
+pub mod RunFronts
 pub mod Runs
+pub mod WholeInputs

@@ -1,6 +1,6 @@
 -- What follows from what a refusal says.
 use Rattle.std.proofs.Common.{◌≡◌, ◌≢◌, ℕ, Bool, true, false, List, ◌++◌, Option, Some, None}
-use Rattle.std.proofs.Common.{MatchOption, Err, refl, sym, ◌∙◌, ap, ap₂, subst, true≢false}
+use Rattle.std.proofs.Common.{MatchOption, refl, sym, ◌∙◌, ap, ap₂, subst, true≢false}
 use Rattle.std.specs.Option.{option_map_or}
 use Rattle.dap_device.specs.declared.reading.Stop.{Stop}
 use Rattle.dap_device.specs.declared.reading.Stop.TheVariants.{End, Full, Failed}
@@ -8,16 +8,14 @@ use Rattle.dap_recording.specs.declared.record_fault.RecordCause.{RecordCause}
 use Rattle.dap_recording.specs.declared.record_fault.RecordCause.TheVariants.{Cut}
 use Rattle.dap_recording.specs.declared.record_fault.RecordCause.TheVariants.{Memory as NoMemory}
 use Rattle.dap_items.proofs.Ends.{IsReadable}
-use Rattle.dap_input.specs.Engine.{Judges}
 use Rattle.dap_input.specs.Inputs.{Input, Fault, refused, read_fault, IsRefusedAt}
 use Rattle.dap_input.specs.Judging.{Judging, Objection, Reason, faulty, cut, objected}
 use Rattle.dap_input.specs.Judging.{IsFirstRefusal}
 use Rattle.dap_input.specs.ReadTo.{IsOf, has_failed, so_far}
-use Rattle.dap_input.specs.Refusals.{IsObjected, IsRefused, RefusesAt, RefusesHeld, Tells}
+use Rattle.dap_input.specs.Refusals.{IsObjected, IsRefused, RefusesAt, Tells}
 use Rattle.dap_input.specs.Refusals.{reason_of}
 use Rattle.dap_input.specs.declared.refused.Refused.{Refused}
-use Rattle.dap_input.specs.declared.refused.Refused.TheVariants.{Record, ReadFault, WriteFault}
-use Rattle.dap_input.specs.declared.refused.Refused.TheVariants.{Memory}
+use Rattle.dap_input.specs.declared.refused.Refused.TheVariants.{Record, ReadFault}
 use Rattle.dap_input.proofs.Outcomes.{refusal_stays}
 use Rattle.dap_input.proofs.Runs.{ValueLaws, AcceptedFacts}
 
@@ -110,28 +108,3 @@ module _ (j : Judging) where
         said.tells said.is_refused
     refused_in (Some Failed) is said ended =
         subst (λ i. RefusesAt j i number because) (same_input true is.0 is.1) said
-
-  -- What an engine answers that reads its whole input and then judges it.
-  module _ {T : Type 0} (Gives : List ℕ → List ℕ → Type 0) (text_of : T
-      → List ℕ) (bytes : List ℕ) (stop : Stop) (n : ℕ) where
-    abbrev Judged : Refused → Type 0
-    Judged because = Judges Gives (IsRefused j) text_of bytes stop (Err because)
-
-    pub judged_faulty : (cause : RecordCause) → IsShownCause cause
-        → IsFirstRefusal j bytes n (faulty cause) → Judged (Record n cause)
-    judged_faulty cause shown first = (
-      refused_as bytes (Record n cause) n (faulty cause) (faulty_told cause n shown) first,
-      λ m same. let is : cause ≡ Cut = (let e = same in cc) in absurd (subst IsShownCause is shown),
-    )
-
-    pub judged_held : (Objects : Objection → Type 0)
-        → ((why : Objection) → Objects why → IsFirstRefusal j bytes n (objected why))
-        → (because : Refused) → RefusesHeld Objects n because → Judged because
-    judged_held Objects first Memory refuses = tt
-    judged_held Objects first ReadFault refuses = absurd refuses
-    judged_held Objects first WriteFault refuses = absurd refuses
-    judged_held Objects first because refuses =
-        let told = objection_told Objects n (reason_of because) refuses in (
-          refused_as bytes because n (objected told.0) told.1 (first told.0 told.2),
-          λ m same. absurd (objected_not_cut because n m told.0 told.1 same),
-        )

@@ -70,15 +70,3 @@ module _ {R W : Type 0} (left : R → Option (List ℕ)) (read_failures : R → 
   Answers old new before after (Err Memory) = after ≡ before
   Answers old new before after (Err refused) =
       RefusesInput left read_failures input IsRefused old new refused × (after ≡ before)
-
--- What an engine makes of the bytes that it has read, where reading stopped so: the text that they
--- give; or the reader failed, and they are not refused but for where they end; or they are refused.
-module _ (Gives : List ℕ → List ℕ → Type 0) (IsRefused : List ℕ → Refused → Type 0) where
-  abbrev pub Judges : {T : Type 0} → (T → List ℕ) → List ℕ → Stop → Result T Refused → Type 0
-  Judges text_of bytes stop (Ok out) = (stop ≡ End) × Gives bytes (text_of out)
-  Judges text_of bytes stop (Err ReadFault) = (stop ≡ Failed)
-      × (((given : List ℕ) × Gives bytes given) ⊎ ((n : ℕ) × IsRefused bytes (Record n Cut)))
-  Judges text_of bytes stop (Err WriteFault) = ⊥
-  Judges text_of bytes stop (Err Memory) = Unit {0}
-  Judges text_of bytes stop (Err refused) = IsRefused bytes refused
-      × ((n : ℕ) → refused ≡ Record n Cut → stop ≡ End)

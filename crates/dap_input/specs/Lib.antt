@@ -1,6 +1,9 @@
 pub mod Engine
+pub mod InputSteps
 pub mod Inputs
+pub mod ItemReading
 pub mod Judging
 pub mod Limits
 pub mod ReadTo
+pub mod RecordSteps
 pub mod Refusals

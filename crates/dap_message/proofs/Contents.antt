@@ -24,7 +24,8 @@ use Rattle.dap_message.specs.Laws.{IsWellFormed}
 use Rattle.dap_message.specs.Marks.{mark}
 use Rattle.dap_message.specs.Message.{IsTyped, IsTypedContent, message_of, Refusal, no_reading}
 use Rattle.dap_message.specs.Message.{fraction, faulty, HasRefusal}
-use Rattle.dap_message.specs.Numbers.{is_proper_number, is_proper, has_small_ids}
+use Rattle.dap_message.specs.Numbers.{is_proper_number, is_proper, has_id_numbers}
+use Rattle.dap_message.specs.Numbers.{has_small_ids}
 use Rattle.dap_message.specs.Rows.{is_of_kind, type_name, name_key}
 use Rattle.dap_message.specs.declared.fault.MessageFault.{MessageFault}
 use Rattle.dap_message.specs.declared.profile.Kind.{Kind}
@@ -35,6 +36,7 @@ use Rattle.dap_message.proofs.KeptByTyping.{sound-message, proper-message}
 use Rattle.dap_message.proofs.MemberNames.{ordered-message, utf8-message}
 use Rattle.dap_message.proofs.FilledFits.{fault-filled}
 use Rattle.dap_message.proofs.Shapes.{skeleton_keeps, text-shape}
+use Rattle.dap_message.proofs.MarkedPlaces.{small_ids}
 use Rattle.dap_message.proofs.TypedAgain.{typed_again, text_again}
 
 -- ---- one outcome
@@ -146,20 +148,30 @@ content_well_formed side bytes m (d, reads, h) =
 
 -- ---- typed again
 
-pub document_again : (side : Side) (d m n : Doc) → is_plain d ≡ true → IsTyped side d m
-    → skeleton n ≡ skeleton m → has_small_ids n ≡ true → IsTyped side (without_ids n) n
-document_again side d m n plain h same small =
-    (typed_again side d n plain h.0 (same ∙ ap skeleton h.1) small).1
+pub document_renumbered : (side : Side) (d m n : Doc) → is_plain d ≡ true → IsTyped side d m
+    → skeleton n ≡ skeleton m → has_id_numbers n ≡ true → IsTyped side (without_ids n) n
+document_renumbered side d m n plain h same fit =
+    (typed_again side d n plain h.0 (same ∙ ap skeleton h.1) fit).1
 
-pub content_again : (side : Side) (bytes : List ℕ) (m n : Doc) → IsTypedContent side bytes m
-    → skeleton n ≡ skeleton m → has_small_ids n ≡ true → IsTypedContent side (text_of n) n
-content_again side bytes m n (d, reads, h) same small =
+pub content_renumbered : (side : Side) (bytes : List ℕ) (m n : Doc) → IsTypedContent side bytes m
+    → skeleton n ≡ skeleton m → has_id_numbers n ≡ true → IsTypedContent side (text_of n) n
+content_renumbered side bytes m n (d, reads, h) same fit =
     let plain = read_is_plain bytes d reads in (
       without_ids n,
       text_again side d n plain (read_is_ordered bytes d reads) (read_is_utf8 bytes d reads) (same
-          ∙ ap skeleton h.1) small,
-      document_again side d m n plain h same small,
+          ∙ ap skeleton h.1) fit,
+      document_renumbered side d m n plain h same fit,
     )
+
+pub document_again : (side : Side) (d m n : Doc) → is_plain d ≡ true → IsTyped side d m
+    → skeleton n ≡ skeleton m → has_small_ids n ≡ true → IsTyped side (without_ids n) n
+document_again side d m n plain h same small =
+    document_renumbered side d m n plain h same (small_ids (ids n) small)
+
+pub content_again : (side : Side) (bytes : List ℕ) (m n : Doc) → IsTypedContent side bytes m
+    → skeleton n ≡ skeleton m → has_small_ids n ≡ true → IsTypedContent side (text_of n) n
+content_again side bytes m n h same small =
+    content_renumbered side bytes m n h same (small_ids (ids n) small)
 
 pub own_again : (side : Side) (d m : Doc) → is_plain d ≡ true → IsTyped side d m
     → IsTyped side (without_ids m) m
@@ -231,6 +243,6 @@ typed_back side m bytes reads d plain h =
 
 pub renumbered_back : (side : Side) (n : Doc) (bytes : List ℕ) → IsRead bytes (without_ids n)
     → IsRenumberedBack side n bytes
-renumbered_back side n bytes reads d m plain h same small =
-    let again = typed_again side d n plain h.0 (same ∙ ap skeleton h.1) small in
+renumbered_back side n bytes reads d m plain h same fit =
+    let again = typed_again side d n plain h.0 (same ∙ ap skeleton h.1) fit in
     (without_ids n, reads, again.1)

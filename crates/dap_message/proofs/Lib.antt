@@ -9,6 +9,8 @@ pub mod RenumberedMessages
 pub mod FilledOnce
 pub mod BodyRows
 pub mod FilledFits
+pub mod BreakingPaths
+pub mod LeastBroken
 pub mod MarkedPlaces
 pub mod SortsApart
 pub mod AskedRows

@@ -245,7 +245,7 @@ agreed t (mark_at u [] es) s z a h =
 agreed t (mark_at u (named k ∷ ps) es) s z a h = agreed t es s z a.1 h
 agreed t (mark_at u (each ∷ ps) es) s z a h = agreed t es s z a.1 h
 
-pub small_number : (z : ℤ) → is_small z ≡ true → is_id_number z ≡ true
+small_number : (z : ℤ) → is_small z ≡ true → is_id_number z ≡ true
 small_number (pos n) h = grind (arith, nat_tests)
 small_number (negsuc n) h = cc
 
@@ -255,38 +255,54 @@ not_zero (pos n) h =
     ≡ true = ap is_small (sym ((Decides-int_eq (pos n) (pos 0)).0 e)) ∙ h in cc) (λ e. ap not e)
 not_zero (negsuc n) h = cc
 
-pub small_id : (s : Sort) (z : ℤ) → is_small z ≡ true → is_id_of s z ≡ true
+small_id : (s : Sort) (z : ℤ) → is_small z ≡ true → is_id_of s z ≡ true
 small_id ClientSeq z h = small_number z h
 small_id AdapterSeq z h = small_number z h
 small_id Frame z h = small_number z h
 small_id Reference z h =
     and_both (is_id_number z) (not (int_eq z (pos 0))) (small_number z h) (not_zero z h)
 
--- places that make one number an id of a sort make any small number one
-edits-small : (es : Pending) (s : Sort) (z y : ℤ) → Agree es → is_small y ≡ true
+pub id_number : (s : Sort) (z : ℤ) → is_id_of s z ≡ true → is_id_number z ≡ true
+id_number ClientSeq z h = h
+id_number AdapterSeq z h = h
+id_number Frame z h = h
+id_number Reference z h = and_left (is_id_number z) (not (int_eq z (pos 0))) h
+
+-- places that make one number an id of a sort make every number one that may be
+edits-other : (es : Pending) (s : Sort) (z y : ℤ) → Agree es → is_id_of s y ≡ true
     → edits es (whole z) ≡ id s z → edits es (whole y) ≡ id s y
-edits-small done s z y a small h = cc
-edits-small (mark_at t [] es) s z y a small h =
+edits-other done s z y a fit h = cc
+edits-other (mark_at t [] es) s z y a fit h =
     let same : t ≡ s = agreed t (mark_at t [] es) s z ((λ m. refl), a.0) h in
-    ap (λ b. edits es (cond b (id t y) (whole y))) (small_id t y small) ∙ edits-id es t y
+    ap (λ b. edits es (cond b (id t y) (whole y))) (ap (λ u. is_id_of u y) same ∙ fit)
+    ∙ edits-id es t y
     ∙ ap (λ r. id r y) same
-edits-small (mark_at t (named k ∷ ps) es) s z y a small h = edits-small es s z y a.1 small h
-edits-small (mark_at t (each ∷ ps) es) s z y a small h = edits-small es s z y a.1 small h
+edits-other (mark_at t (named k ∷ ps) es) s z y a fit h = edits-other es s z y a.1 fit h
+edits-other (mark_at t (each ∷ ps) es) s z y a fit h = edits-other es s z y a.1 fit h
 
 -- ---- a document
 
-abbrev pub SmallIds : List (Sort × ℤ) → Type 0
-SmallIds is = list_all (λ i. is_small i.1) is ≡ true
+abbrev pub IdNumbers : List (Sort × ℤ) → Type 0
+IdNumbers is = list_all (λ i. is_id_of i.0 i.1) is ≡ true
 
-pub small_left : (xs ys : List (Sort × ℤ)) → SmallIds (xs ++ ys) → SmallIds xs
-small_left xs ys h =
-    and_left (list_all (λ i. is_small i.1) xs) (list_all (λ i. is_small i.1) ys)
-    (sym (list_all-append (λ i. is_small i.1) xs ys) ∙ h)
+pub small_ids : (is : List (Sort × ℤ)) → list_all (λ i. is_small i.1) is ≡ true → IdNumbers is
+small_ids [] h = refl
+small_ids (i ∷ is) h =
+    let later : list_all (λ j. is_small j.1) is ≡ true =
+    and_right (is_small i.1) (list_all (λ j. is_small j.1) is) h in
+    and_both (is_id_of i.0 i.1) (list_all (λ j. is_id_of j.0 j.1) is)
+    (small_id i.0 i.1 (and_left (is_small i.1) (list_all (λ j. is_small j.1) is) h))
+    (small_ids is later)
 
-pub small_right : (xs ys : List (Sort × ℤ)) → SmallIds (xs ++ ys) → SmallIds ys
-small_right xs ys h =
-    and_right (list_all (λ i. is_small i.1) xs) (list_all (λ i. is_small i.1) ys)
-    (sym (list_all-append (λ i. is_small i.1) xs ys) ∙ h)
+pub numbers_left : (xs ys : List (Sort × ℤ)) → IdNumbers (xs ++ ys) → IdNumbers xs
+numbers_left xs ys h =
+    and_left (list_all (λ i. is_id_of i.0 i.1) xs) (list_all (λ i. is_id_of i.0 i.1) ys)
+    (sym (list_all-append (λ i. is_id_of i.0 i.1) xs ys) ∙ h)
+
+pub numbers_right : (xs ys : List (Sort × ℤ)) → IdNumbers (xs ++ ys) → IdNumbers ys
+numbers_right xs ys h =
+    and_right (list_all (λ i. is_id_of i.0 i.1) xs) (list_all (λ i. is_id_of i.0 i.1) ys)
+    (sym (list_all-append (λ i. is_id_of i.0 i.1) xs ys) ∙ h)
 
 same_lists : (ds es : Items) → list ds ≡ list es → ds ≡ es
 same_lists ds es h = cc
@@ -307,55 +323,55 @@ later_members : (k l : List ℕ) (d e : Doc) (ms os : Members) → member k d ms
     → ms ≡ os
 later_members k l d e ms os h = cc
 
--- the places that give a document its ids give it the same ids with other small numbers
+-- the places that give a document its ids give it the same ids with other numbers
 mutual
   pub edits-again : (es : Pending) → Agree es → (m : Doc) (ns : List ℤ)
-      → SmallIds (ids (with_ids m ns)) → edits es (without_ids m) ≡ m
+      → IdNumbers (ids (with_ids m ns)) → edits es (without_ids m) ≡ m
       → edits es (without_ids (with_ids m ns)) ≡ with_ids m ns
-  edits-again es a null ns small h = h
-  edits-again es a (boolean b) ns small h = h
-  edits-again es a (whole z) ns small h = h
-  edits-again es a (text s) ns small h = h
-  edits-again es a (list ds) ns small h =
+  edits-again es a null ns fit h = h
+  edits-again es a (boolean b) ns fit h = h
+  edits-again es a (whole z) ns fit h = h
+  edits-again es a (text s) ns fit h = h
+  edits-again es a (list ds) ns fit h =
       edits-list es (items_without_ids (items_with_ids ds ns))
-      ∙ ap list (items-again (for_items es) (agree_items es a) ds ns small
+      ∙ ap list (items-again (for_items es) (agree_items es a) ds ns fit
       (same_lists _ _ (sym (edits-list es (items_without_ids ds)) ∙ h)))
-  edits-again es a (object ms) ns small h =
+  edits-again es a (object ms) ns fit h =
       edits-object es (members_without_ids (members_with_ids ms ns))
       ∙ ap object
-      (members-again es a ms ns small
+      (members-again es a ms ns fit
       (same_objects _ _ (sym (edits-object es (members_without_ids ms)) ∙ h)))
-  edits-again es a (id s z) ns small h =
-      edits-small es s z (get_or ns 0 z) a (and_left (is_small (get_or ns 0 z)) true small) h
+  edits-again es a (id s z) ns fit h =
+      edits-other es s z (get_or ns 0 z) a (and_left (is_id_of s (get_or ns 0 z)) true fit) h
 
   items-again : (es : Pending) → Agree es → (ds : Items) (ns : List ℤ)
-      → SmallIds (items_ids (items_with_ids ds ns))
+      → IdNumbers (items_ids (items_with_ids ds ns))
       → map_items (edits es) (items_without_ids ds) ≡ ds
       → map_items (edits es) (items_without_ids (items_with_ids ds ns)) ≡ items_with_ids ds ns
-  items-again es a no_items ns small h = refl
-  items-again es a (item d ds) ns small h =
+  items-again es a no_items ns fit h = refl
+  items-again es a (item d ds) ns fit h =
       let later = drop (id_count d) ns in
       ap₂ item (edits-again es a d ns
-      (small_left (ids (with_ids d ns)) (items_ids (items_with_ids ds later)) small)
+      (numbers_left (ids (with_ids d ns)) (items_ids (items_with_ids ds later)) fit)
       (first_item _ _ _ _ h))
       (items-again es a ds later
-      (small_right (ids (with_ids d ns)) (items_ids (items_with_ids ds later)) small)
+      (numbers_right (ids (with_ids d ns)) (items_ids (items_with_ids ds later)) fit)
       (later_items _ _ _ _ h))
 
   members-again : (es : Pending) → Agree es → (ms : Members) (ns : List ℤ)
-      → SmallIds (members_ids (members_with_ids ms ns))
+      → IdNumbers (members_ids (members_with_ids ms ns))
       → members_edits es (members_without_ids ms) ≡ ms
       → members_edits es (members_without_ids (members_with_ids ms ns)) ≡ members_with_ids ms ns
-  members-again es a no_members ns small h = h
-  members-again es a (member k d ms) ns small h =
+  members-again es a no_members ns fit h = h
+  members-again es a (member k d ms) ns fit h =
       let later = drop (id_count d) ns in
       let split = sym (members_edits-member es k (without_ids d) (members_without_ids ms)) ∙ h in
       members_edits-member es k (without_ids (with_ids d ns))
       (members_without_ids (members_with_ids ms later))
       ∙ ap₂ (member k)
       (edits-again (for_member k es) (agree_member k es a) d ns
-      (small_left (ids (with_ids d ns)) (members_ids (members_with_ids ms later)) small)
+      (numbers_left (ids (with_ids d ns)) (members_ids (members_with_ids ms later)) fit)
       (first_member _ _ _ _ _ _ split))
       (members-again (for_others k es) (agree_others k es a) ms later
-      (small_right (ids (with_ids d ns)) (members_ids (members_with_ids ms later)) small)
+      (numbers_right (ids (with_ids d ns)) (members_ids (members_with_ids ms later)) fit)
       (later_members _ _ _ _ _ _ split))

@@ -18,7 +18,7 @@ use Rattle.dap_message.specs.Rows.{is_text, is_true, is_asked, may_have_body, ty
 use Rattle.dap_message.specs.declared.profile.Kind.{Kind}
 use Rattle.dap_message.specs.declared.profile.Kind.TheVariants.{Request, Response, Event}
 use Rattle.dap_message.proofs.SortsApart.{AskedAlike}
-use Rattle.dap_message.proofs.MarkedPlaces.{SmallIds, small_left, small_right}
+use Rattle.dap_message.proofs.MarkedPlaces.{IdNumbers, numbers_left, numbers_right}
 
 map_append : {A B : Type 0} (f : A → B) (xs ys : List A) → map f (xs ++ ys) ≡ map f xs ++ map f ys
 map_append f [] ys = refl
@@ -275,72 +275,75 @@ asked_without m n same k o =
     ∙ asked-shape skeleton skeleton_keeps m k o
     ∙ sym (asked-shape without_ids without_keeps m k o)
 
--- ---- small ids
+-- ---- ids with numbers that they may have
 
-abbrev pub SmallAt : Option Doc → Type 0
-SmallAt None = Unit {0}
-SmallAt (Some d) = SmallIds (ids d)
+abbrev pub NumbersAt : Option Doc → Type 0
+NumbersAt None = Unit {0}
+NumbersAt (Some d) = IdNumbers (ids d)
 
-abbrev pub AllSmall : List (Option Doc) → Type 0
-AllSmall [] = Unit {0}
-AllSmall (o ∷ os) = SmallAt o × AllSmall os
+abbrev pub AllNumbered : List (Option Doc) → Type 0
+AllNumbered [] = Unit {0}
+AllNumbered (o ∷ os) = NumbersAt o × AllNumbered os
 
-small_get_member : (k : List ℕ) (ms : Members) → SmallIds (members_ids ms)
-    → SmallAt (get_member k ms)
-small_get_member k no_members h = tt
-small_get_member k (member l d ms) h =
+numbers_get_member : (k : List ℕ) (ms : Members) → IdNumbers (members_ids ms)
+    → NumbersAt (get_member k ms)
+numbers_get_member k no_members h = tt
+numbers_get_member k (member l d ms) h =
     pick (slice_cmp nat_cmp k l) (get_member k ms)
-    (small_get_member k ms (small_right (ids d) (members_ids ms) h))
+    (numbers_get_member k ms (numbers_right (ids d) (members_ids ms) h))
   where
-    pick : (o : Ordering) (r : Option Doc) → SmallAt r → SmallAt (match_ordering o r (Some d) r)
+    pick : (o : Ordering) (r : Option Doc) → NumbersAt r → NumbersAt (match_ordering o r (Some d) r)
     pick Less r g = g
-    pick Equal r g = small_left (ids d) (members_ids ms) h
+    pick Equal r g = numbers_left (ids d) (members_ids ms) h
     pick Greater r g = g
 
-small_get : (k : List ℕ) (d : Doc) → SmallIds (ids d) → SmallAt (get k d)
-small_get k null h = tt
-small_get k (boolean b) h = tt
-small_get k (whole z) h = tt
-small_get k (text s) h = tt
-small_get k (list ds) h = tt
-small_get k (object ms) h = small_get_member k ms h
-small_get k (id s z) h = tt
+numbers_get : (k : List ℕ) (d : Doc) → IdNumbers (ids d) → NumbersAt (get k d)
+numbers_get k null h = tt
+numbers_get k (boolean b) h = tt
+numbers_get k (whole z) h = tt
+numbers_get k (text s) h = tt
+numbers_get k (list ds) h = tt
+numbers_get k (object ms) h = numbers_get_member k ms h
+numbers_get k (id s z) h = tt
 
-all_small_append : (xs ys : List (Option Doc)) → AllSmall xs → AllSmall ys → AllSmall (xs ++ ys)
-all_small_append [] ys h g = g
-all_small_append (x ∷ xs) ys h g = (h.0, all_small_append xs ys h.1 g)
+all_numbered_append : (xs ys : List (Option Doc)) → AllNumbered xs → AllNumbered ys
+    → AllNumbered (xs ++ ys)
+all_numbered_append [] ys h g = g
+all_numbered_append (x ∷ xs) ys h g = (h.0, all_numbered_append xs ys h.1 g)
 
-small_below : (ps : List PlaceStep) → ((e : Doc) → SmallIds (ids e) → AllSmall (parts_at ps e))
-    → (o : Option Doc) → SmallAt o → AllSmall (option_map_or (parts_at ps) o [])
-small_below ps below None h = tt
-small_below ps below (Some e) h = below e h
+numbers_below : (ps : List PlaceStep)
+    → ((e : Doc) → IdNumbers (ids e) → AllNumbered (parts_at ps e)) → (o : Option Doc)
+    → NumbersAt o → AllNumbered (option_map_or (parts_at ps) o [])
+numbers_below ps below None h = tt
+numbers_below ps below (Some e) h = below e h
 
-small_each : (ps : List PlaceStep) → ((e : Doc) → SmallIds (ids e) → AllSmall (parts_at ps e))
-    → (ds : Items) → SmallIds (items_ids ds) → AllSmall (flat_map (parts_at ps) (elements ds))
-small_each ps below no_items h = tt
-small_each ps below (item d ds) h =
-    all_small_append (parts_at ps d) (flat_map (parts_at ps) (elements ds))
-    (below d (small_left (ids d) (items_ids ds) h))
-    (small_each ps below ds (small_right (ids d) (items_ids ds) h))
+numbers_each : (ps : List PlaceStep) → ((e : Doc) → IdNumbers (ids e) → AllNumbered (parts_at ps e))
+    → (ds : Items) → IdNumbers (items_ids ds) → AllNumbered (flat_map (parts_at ps) (elements ds))
+numbers_each ps below no_items h = tt
+numbers_each ps below (item d ds) h =
+    all_numbered_append (parts_at ps d) (flat_map (parts_at ps) (elements ds))
+    (below d (numbers_left (ids d) (items_ids ds) h))
+    (numbers_each ps below ds (numbers_right (ids d) (items_ids ds) h))
 
-small_list : (ps : List PlaceStep) → ((e : Doc) → SmallIds (ids e) → AllSmall (parts_at ps e))
-    → (d : Doc) → SmallIds (ids d)
-    → AllSmall (option_map_or (flat_map (parts_at ps)) (list_of d) [])
-small_list ps below null h = tt
-small_list ps below (boolean b) h = tt
-small_list ps below (whole z) h = tt
-small_list ps below (text s) h = tt
-small_list ps below (list ds) h = small_each ps below ds h
-small_list ps below (object ms) h = tt
-small_list ps below (id s z) h = tt
+numbers_list : (ps : List PlaceStep) → ((e : Doc) → IdNumbers (ids e) → AllNumbered (parts_at ps e))
+    → (d : Doc) → IdNumbers (ids d)
+    → AllNumbered (option_map_or (flat_map (parts_at ps)) (list_of d) [])
+numbers_list ps below null h = tt
+numbers_list ps below (boolean b) h = tt
+numbers_list ps below (whole z) h = tt
+numbers_list ps below (text s) h = tt
+numbers_list ps below (list ds) h = numbers_each ps below ds h
+numbers_list ps below (object ms) h = tt
+numbers_list ps below (id s z) h = tt
 
-small_one : (b : Bool) (o : Option Doc) → SmallAt o → AllSmall (cond b (o ∷ []) [])
-small_one true o h = (h, tt)
-small_one false o h = tt
+numbers_one : (b : Bool) (o : Option Doc) → NumbersAt o → AllNumbered (cond b (o ∷ []) [])
+numbers_one true o h = (h, tt)
+numbers_one false o h = tt
 
-pub small_found : (ps : List PlaceStep) (d : Doc) → SmallIds (ids d) → AllSmall (parts_at ps d)
-small_found [] d h = (h, tt)
-small_found (named k ∷ []) d h = small_one (is_object d) (get k d) (small_get k d h)
-small_found (named k ∷ p ∷ ps) d h =
-    small_below (p ∷ ps) (λ e g. small_found (p ∷ ps) e g) (get k d) (small_get k d h)
-small_found (each ∷ ps) d h = small_list ps (λ e g. small_found ps e g) d h
+pub numbers_found : (ps : List PlaceStep) (d : Doc) → IdNumbers (ids d)
+    → AllNumbered (parts_at ps d)
+numbers_found [] d h = (h, tt)
+numbers_found (named k ∷ []) d h = numbers_one (is_object d) (get k d) (numbers_get k d h)
+numbers_found (named k ∷ p ∷ ps) d h =
+    numbers_below (p ∷ ps) (λ e g. numbers_found (p ∷ ps) e g) (get k d) (numbers_get k d h)
+numbers_found (each ∷ ps) d h = numbers_list ps (λ e g. numbers_found ps e g) d h

@@ -1,5 +1,5 @@
--- A document that differs from a message at the numbers of its ids alone, these small, is typed
--- again as itself.
+-- A document that differs from a message at the numbers of its ids alone, each one that an id of
+-- its sort may have, is typed again as itself.
 use Rattle.dap_tree.specs.Doc.{Doc, null, boolean, whole, text, list, object, id, Items, no_items}
 use Rattle.dap_tree.specs.Doc.{item, Members, no_members, member, get, get_member, put}
 use Rattle.dap_tree.specs.Doc.{change_member, change_child, is_plain, is_sound, in_range}
@@ -24,9 +24,9 @@ use Rattle.dap_message.specs.Capabilities.{is_given, default_to, false_members, 
 use Rattle.dap_message.specs.Capabilities.{capabilities, tells_capabilities, with_capabilities}
 use Rattle.dap_message.specs.Capabilities.{filled}
 use Rattle.dap_message.specs.Faults.{fault, Fits, has_kind, row_broken}
-use Rattle.dap_message.specs.Marks.{mark}
+use Rattle.dap_message.specs.Marks.{is_id_of, mark}
 use Rattle.dap_message.specs.Message.{message_of, IsTyped}
-use Rattle.dap_message.specs.Numbers.{has_small_ids, is_small}
+use Rattle.dap_message.specs.Numbers.{has_id_numbers}
 use Rattle.dap_message.specs.Places.{PlaceStep, parts_at, is_object}
 use Rattle.dap_message.specs.Profile.{profile}
 use Rattle.dap_message.specs.Rows.{ProfileRow, is_asked, is_id_number, cause_against, first_cause}
@@ -46,11 +46,12 @@ use Rattle.dap_message.proofs.Edits.{by_bool}
 use Rattle.dap_message.proofs.Envelopes.{fault_free, fault_parts, rows_free, free_at}
 use Rattle.dap_message.proofs.KeptByTyping.{sound-message}
 use Rattle.dap_message.proofs.MemberNames.{ordered-message, utf8-message}
-use Rattle.dap_message.proofs.MarkedPlaces.{edits, edits-again, small_number, SmallIds, small_left}
-use Rattle.dap_message.proofs.MarkedPlaces.{small_right}
+use Rattle.dap_message.proofs.MarkedPlaces.{edits, edits-again, id_number, IdNumbers, numbers_left}
+use Rattle.dap_message.proofs.MarkedPlaces.{numbers_right}
 use Rattle.dap_message.proofs.FilledFits.{fault-filled, rows_broken, faultless, body-filled}
 use Rattle.dap_message.proofs.Shapes.{KeepsShape, without_keeps, skeleton_keeps, found-shape}
-use Rattle.dap_message.proofs.Shapes.{asked-shape, asked_without, SmallAt, AllSmall, small_found}
+use Rattle.dap_message.proofs.Shapes.{asked-shape, asked_without, NumbersAt, AllNumbered}
+use Rattle.dap_message.proofs.Shapes.{numbers_found}
 
 -- the document with 0 for the number of each id, and no id
 abbrev zeroed : Doc → Doc
@@ -111,18 +112,18 @@ well_zeroed w b (Some (list ds)) h = list_alike w b _ _ ∙ h
 well_zeroed w b (Some (object ms)) h = object_alike w b _ _ ∙ h
 well_zeroed w b (Some (id s z)) h = numbers_alike w b (pos 0) z refl h
 
-well_small : (w : Want) (b : Bool) (o : Option Doc) → SmallAt o
+well_numbered : (w : Want) (b : Bool) (o : Option Doc) → NumbersAt o
     → Well w b (option_map without_ids (option_map skeleton o))
     → Well w b (option_map without_ids o)
-well_small w b None small h = h
-well_small w b (Some null) small h = h
-well_small w b (Some (boolean c)) small h = h
-well_small w b (Some (whole z)) small h = h
-well_small w b (Some (text s)) small h = h
-well_small w b (Some (list ds)) small h = list_alike w b _ _ ∙ h
-well_small w b (Some (object ms)) small h = object_alike w b _ _ ∙ h
-well_small w b (Some (id s z)) small h =
-    numbers_alike w b z (pos 0) (small_number z (and_left (is_small z) true small)) h
+well_numbered w b None fit h = h
+well_numbered w b (Some null) fit h = h
+well_numbered w b (Some (boolean c)) fit h = h
+well_numbered w b (Some (whole z)) fit h = h
+well_numbered w b (Some (text s)) fit h = h
+well_numbered w b (Some (list ds)) fit h = list_alike w b _ _ ∙ h
+well_numbered w b (Some (object ms)) fit h = object_alike w b _ _ ∙ h
+well_numbered w b (Some (id s z)) fit h =
+    numbers_alike w b z (pos 0) (id_number s z (and_left (is_id_of s z) true fit)) h
 
 abbrev Free : Want → Bool → List (Option Doc) → Type 0
 Free w b os = first_cause (map (cause_against w b) os) ≡ None
@@ -137,17 +138,17 @@ free_zeroed w b (o ∷ os) h =
     both_free (cause_against w b (option_map without_ids (option_map skeleton o))) _
     (well_zeroed w b o p.0) (free_zeroed w b os p.1)
 
-free_small : (w : Want) (b : Bool) (os : List (Option Doc)) → AllSmall os
+free_numbered : (w : Want) (b : Bool) (os : List (Option Doc)) → AllNumbered os
     → Free w b (map (option_map without_ids) (map (option_map skeleton) os))
     → Free w b (map (option_map without_ids) os)
-free_small w b [] small h = refl
-free_small w b (o ∷ os) small h =
+free_numbered w b [] fit h = refl
+free_numbered w b (o ∷ os) fit h =
     let p = fault_free (cause_against w b (option_map without_ids (option_map skeleton o)))
     (first_cause
     (map (cause_against w b) (map (option_map without_ids) (map (option_map skeleton) os)))) h
     in
-    both_free (cause_against w b (option_map without_ids o)) _ (well_small w b o small.0 p.0)
-    (free_small w b os small.1 p.1)
+    both_free (cause_against w b (option_map without_ids o)) _ (well_numbered w b o fit.0 p.0)
+    (free_numbered w b os fit.1 p.1)
 
 found_without : (ps : List PlaceStep) (d : Doc)
     → parts_at ps (without_ids d) ≡ map (option_map without_ids) (parts_at ps d)
@@ -168,12 +169,12 @@ place_zeroed r d h =
     (ap (λ os. first_cause (map (cause_against r.want r.needed) os))
     (sym (found_without r.place d)) ∙ h)
 
-place_small : (r : ProfileRow) (d : Doc) → SmallIds (ids d)
+place_numbered : (r : ProfileRow) (d : Doc) → IdNumbers (ids d)
     → broken_at r.place r.want r.needed (zeroed d) ≡ None
     → broken_at r.place r.want r.needed (without_ids d) ≡ None
-place_small r d small h =
+place_numbered r d fit h =
     ap (λ os. first_cause (map (cause_against r.want r.needed) os)) (found_without r.place d)
-    ∙ free_small r.want r.needed (parts_at r.place d) (small_found r.place d small)
+    ∙ free_numbered r.want r.needed (parts_at r.place d) (numbers_found r.place d fit)
     (ap (λ os. first_cause (map (cause_against r.want r.needed) os))
     (sym (found_zeroed r.place d)) ∙ h)
 
@@ -199,13 +200,13 @@ row_zeroed r d h =
     (broken_at r.place r.want r.needed (zeroed d))
     (sym (asked_zeroed d r.kind r.name)) (place_zeroed r d) h
 
-row_small : (r : ProfileRow) (d : Doc) → SmallIds (ids d) → row_fault r (zeroed d) ≡ None
+row_numbered : (r : ProfileRow) (d : Doc) → IdNumbers (ids d) → row_fault r (zeroed d) ≡ None
     → row_fault r (without_ids d) ≡ None
-row_small r d small h =
+row_numbered r d fit h =
     row_cond r.number (is_asked r.kind r.name (zeroed d)) (is_asked r.kind r.name (without_ids d))
     (broken_at r.place r.want r.needed (zeroed d))
     (broken_at r.place r.want r.needed (without_ids d))
-    (asked_zeroed d r.kind r.name) (place_small r d small) h
+    (asked_zeroed d r.kind r.name) (place_numbered r d fit) h
 
 rows_zeroed : (rs : List ProfileRow) (d : Doc) → first_fault rs (without_ids d) ≡ None
     → first_fault rs (zeroed d) ≡ None
@@ -215,13 +216,13 @@ rows_zeroed (r ∷ rs) d h =
     both_free (row_fault r (zeroed d)) (first_fault rs (zeroed d)) (row_zeroed r d p.0)
     (rows_zeroed rs d p.1)
 
-rows_small : (rs : List ProfileRow) (d : Doc) → SmallIds (ids d) → first_fault rs (zeroed d) ≡ None
-    → first_fault rs (without_ids d) ≡ None
-rows_small [] d small h = refl
-rows_small (r ∷ rs) d small h =
+rows_numbered : (rs : List ProfileRow) (d : Doc) → IdNumbers (ids d)
+    → first_fault rs (zeroed d) ≡ None → first_fault rs (without_ids d) ≡ None
+rows_numbered [] d fit h = refl
+rows_numbered (r ∷ rs) d fit h =
     let p = fault_free (row_fault r (zeroed d)) (first_fault rs (zeroed d)) h in
     both_free (row_fault r (without_ids d)) (first_fault rs (without_ids d))
-    (row_small r d small p.0) (rows_small rs d small p.1)
+    (row_numbered r d fit p.0) (rows_numbered rs d fit p.1)
 
 kind_zeroed : (d : Doc) → has_kind (zeroed d) ≡ has_kind (without_ids d)
 kind_zeroed d =
@@ -241,18 +242,18 @@ fits_zeroed d h =
     faultless (zeroed d) (object_zeroed d ∙ p.0) (kind_zeroed d ∙ p.1)
     (rows_broken (zeroed d) (rows_zeroed profile d (rows_free (without_ids d) p.2)))
 
-fits_small : (d : Doc) → SmallIds (ids d) → Fits (zeroed d) → Fits (without_ids d)
-fits_small d small h =
+fits_numbered : (d : Doc) → IdNumbers (ids d) → Fits (zeroed d) → Fits (without_ids d)
+fits_numbered d fit h =
     let p = fault_parts (is_object (zeroed d)) (has_kind (zeroed d)) (row_broken (zeroed d))
     UnknownType NotObject h in
     faultless (without_ids d) (sym (object_zeroed d) ∙ p.0) (sym (kind_zeroed d) ∙ p.1)
-    (rows_broken (without_ids d) (rows_small profile d small (rows_free (zeroed d) p.2)))
+    (rows_broken (without_ids d) (rows_numbered profile d fit (rows_free (zeroed d) p.2)))
 
--- a message's rows stand with other small numbers
-pub fits_again : (m n : Doc) → skeleton n ≡ skeleton m → SmallIds (ids n) → Fits (without_ids m)
+-- a message's rows stand with other numbers that its ids may have
+pub fits_again : (m n : Doc) → skeleton n ≡ skeleton m → IdNumbers (ids n) → Fits (without_ids m)
     → Fits (without_ids n)
-fits_again m n same small h =
-    fits_small n small (ap (λ d. fault (without_ids d)) same ∙ fits_zeroed m h)
+fits_again m n same fit h =
+    fits_numbered n fit (ap (λ d. fault (without_ids d)) same ∙ fits_zeroed m h)
 
 -- ---- the capabilities are there
 
@@ -405,83 +406,85 @@ filled_again Adapter d n plain fits same =
 
 -- ---- the marks come again
 
-mark-again_with : (side : Side) (m n : Doc) → skeleton n ≡ skeleton m → SmallIds (ids n)
+mark-again_with : (side : Side) (m n : Doc) → skeleton n ≡ skeleton m → IdNumbers (ids n)
     → mark side (without_ids m) ≡ m → mark side (without_ids n) ≡ n
 unfolding mark
-mark-again_with side m n same small h =
+mark-again_with side m n same fit h =
     let es = pending profile side (without_ids m) in
     let is : with_ids m (numbers_of (ids n)) ≡ n = with_others m n (sym same) in
     let first : edits es (without_ids m) ≡ m =
     sym (mark_rows-edits profile side (without_ids m) (without_ids m) (λ k o. refl)) ∙ h in
     let again =
     edits-again es (agree_profile side (without_ids m)) m (numbers_of (ids n))
-    (ap (λ e. list_all (λ i. is_small i.1) (ids e)) is ∙ small) first in
+    (ap (λ e. list_all (λ i. is_id_of i.0 i.1) (ids e)) is ∙ fit) first in
     mark_rows-edits profile side (without_ids m) (without_ids n) (asked_without m n same)
     ∙ ap (λ e. edits es (without_ids e)) (sym is) ∙ again ∙ is
 
 -- ---- the text
 
-small_in_range : (z : ℤ) → is_small z ≡ true → in_range z ≡ true
-small_in_range (pos n) h = grind (arith, nat_tests)
-small_in_range (negsuc n) h = cc
+number_in_range : (z : ℤ) → is_id_number z ≡ true → in_range z ≡ true
+number_in_range (pos n) h = grind (arith, nat_tests)
+number_in_range (negsuc n) h = h
 
 mutual
-  ids_in_range-small : (d : Doc) → SmallIds (ids d) → ids_in_range d ≡ true
-  ids_in_range-small null h = refl
-  ids_in_range-small (boolean b) h = refl
-  ids_in_range-small (whole z) h = refl
-  ids_in_range-small (text s) h = refl
-  ids_in_range-small (list ds) h = items_ids_in_range-small ds h
-  ids_in_range-small (object ms) h = members_ids_in_range-small ms h
-  ids_in_range-small (id s z) h = small_in_range z (and_left (is_small z) true h)
+  ids_in_range-numbers : (d : Doc) → IdNumbers (ids d) → ids_in_range d ≡ true
+  ids_in_range-numbers null h = refl
+  ids_in_range-numbers (boolean b) h = refl
+  ids_in_range-numbers (whole z) h = refl
+  ids_in_range-numbers (text s) h = refl
+  ids_in_range-numbers (list ds) h = items_ids_in_range-numbers ds h
+  ids_in_range-numbers (object ms) h = members_ids_in_range-numbers ms h
+  ids_in_range-numbers (id s z) h =
+      number_in_range z (id_number s z (and_left (is_id_of s z) true h))
 
-  items_ids_in_range-small : (ds : Items) → SmallIds (items_ids ds) → items_ids_in_range ds ≡ true
-  items_ids_in_range-small no_items h = refl
-  items_ids_in_range-small (item d ds) h =
+  items_ids_in_range-numbers : (ds : Items) → IdNumbers (items_ids ds)
+      → items_ids_in_range ds ≡ true
+  items_ids_in_range-numbers no_items h = refl
+  items_ids_in_range-numbers (item d ds) h =
       and_both (ids_in_range d) (items_ids_in_range ds)
-      (ids_in_range-small d (small_left (ids d) (items_ids ds) h))
-      (items_ids_in_range-small ds (small_right (ids d) (items_ids ds) h))
+      (ids_in_range-numbers d (numbers_left (ids d) (items_ids ds) h))
+      (items_ids_in_range-numbers ds (numbers_right (ids d) (items_ids ds) h))
 
-  members_ids_in_range-small : (ms : Members) → SmallIds (members_ids ms)
+  members_ids_in_range-numbers : (ms : Members) → IdNumbers (members_ids ms)
       → members_ids_in_range ms ≡ true
-  members_ids_in_range-small no_members h = refl
-  members_ids_in_range-small (member k d ms) h =
+  members_ids_in_range-numbers no_members h = refl
+  members_ids_in_range-numbers (member k d ms) h =
       and_both (ids_in_range d) (members_ids_in_range ms)
-      (ids_in_range-small d (small_left (ids d) (members_ids ms) h))
-      (members_ids_in_range-small ms (small_right (ids d) (members_ids ms) h))
+      (ids_in_range-numbers d (numbers_left (ids d) (members_ids ms) h))
+      (members_ids_in_range-numbers ms (numbers_right (ids d) (members_ids ms) h))
 
-plain_again : (m n : Doc) → skeleton n ≡ skeleton m → SmallIds (ids n) → is_sound m ≡ true
+plain_again : (m n : Doc) → skeleton n ≡ skeleton m → IdNumbers (ids n) → is_sound m ≡ true
     → is_plain (without_ids n) ≡ true
-plain_again m n same small sound =
+plain_again m n same fit sound =
     sound_without n (ap is_sound (sym (with_others m n (sym same)))
-    ∙ sound_with m (numbers_of (ids n)) ∙ sound) (ids_in_range-small n small)
+    ∙ sound_with m (numbers_of (ids n)) ∙ sound) (ids_in_range-numbers n fit)
 
 -- ---- typed again
 
 pub typed_again : (side : Side) (d n : Doc) → is_plain d ≡ true → Fits d
-    → skeleton n ≡ skeleton (message_of side d) → has_small_ids n ≡ true
+    → skeleton n ≡ skeleton (message_of side d) → has_id_numbers n ≡ true
     → (is_plain (without_ids n) ≡ true) × IsTyped side (without_ids n) n
-typed_again side d n plain fits same small =
+typed_again side d n plain fits same fit =
     let m = message_of side d in
     let numbers_of_m : without_ids m ≡ filled side d = numbers-again side d plain in
     let marks : mark side (without_ids m) ≡ m = ap (mark side) numbers_of_m in (
-      plain_again m n same small (sound-message side d plain),
+      plain_again m n same fit (sound-message side d plain),
       (
-        fits_again m n same small (ap fault numbers_of_m ∙ fault-filled side d fits),
+        fits_again m n same fit (ap fault numbers_of_m ∙ fault-filled side d fits),
         sym (ap (mark side) (filled_again side d n plain fits same)
-            ∙ mark-again_with side m n same small marks),
+            ∙ mark-again_with side m n same fit marks),
       ),
     )
 
 -- its text is read as its document with the ids as numbers
 pub text_again : (side : Side) (d n : Doc) → is_plain d ≡ true → is_ordered d ≡ true
-    → all_utf8 d ≡ true → skeleton n ≡ skeleton (message_of side d) → has_small_ids n ≡ true
+    → all_utf8 d ≡ true → skeleton n ≡ skeleton (message_of side d) → has_id_numbers n ≡ true
     → IsRead (text_of n) (without_ids n)
-text_again side d n plain ordered utf8 same small =
+text_again side d n plain ordered utf8 same fit =
     let m = message_of side d in
     text_is_read n (ap is_sound (sym (with_others m n (sym same)))
     ∙ sound_with m (numbers_of (ids n)) ∙ sound-message side d plain)
-    (ids_in_range-small n small)
+    (ids_in_range-numbers n fit)
     (sym (ordered-skeleton n) ∙ ap is_ordered same ∙ ordered-skeleton m
     ∙ ordered-message side d ordered)
     (sym (utf8-skeleton n) ∙ ap all_utf8 same ∙ utf8-skeleton m ∙ utf8-message side d utf8)

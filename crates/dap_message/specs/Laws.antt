@@ -4,18 +4,21 @@ use Rattle.dap_tree.specs.Ids.{ids, with_ids, skeleton, without_ids}
 use Rattle.dap_tree.specs.Json.{text_of}
 use Rattle.dap_tree.specs.declared.side.Side.{Side}
 use Rattle.dap_tree.specs.declared.sort.Sort.TheVariants.{Reference}
-use Rattle.std.specs.Prelude.{◌≡◌, ◌⊎◌, ℕ, ℤ, pos, List, Contains, true, length, map, Some}
+use Rattle.std.specs.Prelude.{◌≡◌, ◌⊎◌, ◌↔◌, ℕ, ℤ, pos, List, Contains, true, length, map, Some}
 use Rattle.dap_message.specs.Capabilities.{filled}
 use Rattle.dap_message.specs.Envelope.{kind_of, name_of, success_of, has_envelope}
-use Rattle.dap_message.specs.Faults.{Fits}
+use Rattle.dap_message.specs.Faults.{fault, Fits}
+use Rattle.dap_message.specs.FaultsByPath.{IsKept, IsLeastBroken, IsJudged, AreNumbered}
 use Rattle.dap_message.specs.Marks.{IsMarked, mark}
 use Rattle.dap_message.specs.Message.{IsTyped, IsTypedAs, IsTypedContent, Refusal, HasRefusal}
 use Rattle.dap_message.specs.Message.{side_of}
-use Rattle.dap_message.specs.Numbers.{is_proper, has_small_ids, renumbered}
+use Rattle.dap_message.specs.Numbers.{is_proper, has_id_numbers, has_small_ids, renumbered}
 use Rattle.dap_message.specs.Profile.{profile}
+use Rattle.dap_message.specs.Rows.{ProfileRow, of_row}
 use Rattle.dap_message.specs.Views.{frame_of, frames_of, listed_frames, scope_of, scopes_of}
 use Rattle.dap_message.specs.Views.{listed_scopes, variable_of, variables_of, listed_variables}
 use Rattle.dap_message.specs.Views.{shows_all}
+use Rattle.dap_message.specs.declared.broken_rows.Cause.{Cause}
 use Rattle.dap_message.specs.declared.message.Message.{Message}
 
 -- ---- one outcome of a content
@@ -99,14 +102,27 @@ EachShown = (m : Doc) → shows_all m ≡ true
 
 -- ---- typed again
 
--- A document that differs from a message at the numbers of its ids alone, each from 1 to
--- 2,147,483,647, is typed as itself with its ids as numbers.
+-- A document that differs from a message at the numbers of its ids alone, each one that an id of
+-- its sort may have, is typed as itself with its ids as numbers.
+abbrev pub RenumberedTyped : Type 0
+RenumberedTyped = (side : Side) (d m n : Doc) → is_plain d ≡ true → IsTyped side d m
+    → skeleton n ≡ skeleton m → has_id_numbers n ≡ true → IsTyped side (without_ids n) n
+
+-- Where some content is that of the message, the text of such a document is the content of that
+-- very document.
+abbrev pub RenumberedContentTyped : Type 0
+RenumberedContentTyped = (side : Side) (bytes : List ℕ) (m n : Doc) → IsTypedContent side bytes m
+    → skeleton n ≡ skeleton m → has_id_numbers n ≡ true → IsTypedContent side (text_of n) n
+
+-- Numbers from 1 to 2,147,483,647 may be those of any id.
+abbrev pub SmallAreIdNumbers : Type 0
+SmallAreIdNumbers = (n : Doc) → has_small_ids n ≡ true → has_id_numbers n ≡ true
+
+-- So it is where each number is from 1 to 2,147,483,647.
 abbrev pub TypedAgain : Type 0
 TypedAgain = (side : Side) (d m n : Doc) → is_plain d ≡ true → IsTyped side d m
     → skeleton n ≡ skeleton m → has_small_ids n ≡ true → IsTyped side (without_ids n) n
 
--- Where some content is that of the message, the text of such a document is the content of that
--- very document.
 abbrev pub ContentTypedAgain : Type 0
 ContentTypedAgain = (side : Side) (bytes : List ℕ) (m n : Doc) → IsTypedContent side bytes m
     → skeleton n ≡ skeleton m → has_small_ids n ≡ true → IsTypedContent side (text_of n) n
@@ -127,6 +143,23 @@ SkeletonTells = (m n : Doc) → skeleton n ≡ skeleton m
 abbrev pub Renumbers : Type 0
 Renumbers = (d : Doc) (ns : List ℤ) → length ns ≡ length (ids d)
     → ids (with_ids d ns) ≡ renumbered d ns
+
+-- ---- broken rows
+
+-- The rows are numbered from 1 to the last, in their order.
+abbrev pub ProfileNumbered : Type 0
+ProfileNumbered = AreNumbered profile
+
+-- A document fits exactly if it is an object of a known kind and no row is broken at any path.
+abbrev pub FitsByPath : Type 0
+FitsByPath = (d : Doc)
+    → Fits d ↔ (IsJudged d × ((r : ProfileRow) → Contains profile r → IsKept r d))
+
+-- The fault names a row exactly if the document is an object of a known kind, the row is broken at
+-- some path, at the first in this way, and no row of a lower number is broken at any path.
+abbrev pub FaultByPath : Type 0
+FaultByPath = (d : Doc) (n : ℕ) (c : Cause)
+    → (fault d ≡ Some (of_row n c)) ↔ (IsJudged d × IsLeastBroken d n c)
 
 -- ---- marks and capabilities
 

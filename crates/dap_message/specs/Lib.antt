@@ -2,6 +2,7 @@ pub mod Places
 pub mod Rows
 pub mod Profile
 pub mod Faults
+pub mod FaultsByPath
 pub mod Steps
 pub mod Marks
 pub mod Capabilities

@@ -10,7 +10,7 @@ use Rattle.std.specs.Prelude.{◌≡◌, ℕ, ℤ, List, Some, true}
 use Rattle.dap_message.specs.Capabilities.{filled}
 use Rattle.dap_message.specs.Faults.{fault, Fits}
 use Rattle.dap_message.specs.Marks.{IsMarked, mark}
-use Rattle.dap_message.specs.Numbers.{has_small_ids}
+use Rattle.dap_message.specs.Numbers.{has_id_numbers}
 use Rattle.dap_message.specs.Profile.{profile}
 use Rattle.dap_message.specs.declared.fault.MessageFault.{MessageFault}
 use Rattle.dap_message.specs.declared.fault.MessageFault.TheVariants.{NotObject, UnknownType}
@@ -56,10 +56,10 @@ IsTypedBack side m bytes = (d : Doc) → is_plain d ≡ true → IsTyped side d 
     → IsTypedContent side bytes m
 
 -- The content is that of the message n, if n differs from a typed one at the numbers of its ids
--- alone, each from 1 to 2,147,483,647.
+-- alone, each one that an id of its sort may have.
 abbrev pub IsRenumberedBack : Side → Doc → List ℕ → Type 0
 IsRenumberedBack side n bytes = (d m : Doc) → is_plain d ≡ true → IsTyped side d m
-    → skeleton n ≡ skeleton m → has_small_ids n ≡ true → IsTypedContent side bytes n
+    → skeleton n ≡ skeleton m → has_id_numbers n ≡ true → IsTypedContent side bytes n
 
 -- Why a content is no message (own): it is no JSON, a number in it is not whole, or its document
 -- has a fault.

@@ -6,6 +6,7 @@ use Rattle.dap_tree.specs.declared.sort.Sort.TheVariants.{Reference}
 use Rattle.std.specs.Prelude.{◌^◌, ℤ, pos, negsuc, Bool, true, false, not, ◌&&◌, nat_lt, List, zip}
 use Rattle.std.specs.List.{list_all}
 use Rattle.std.specs.Ordering.{int_eq}
+use Rattle.dap_message.specs.Marks.{is_id_of}
 
 -- A variables reference of 0 refers to nothing (DAP specification, Variable.variablesReference).
 abbrev pub is_proper_number : Sort → ℤ → Bool
@@ -28,6 +29,11 @@ renumbered d ns = zip (sorts_of (ids d)) ns
 abbrev pub is_small : ℤ → Bool
 is_small (pos n) = nat_lt 0 n && nat_lt n (2 ^ 31)
 is_small (negsuc n) = false
+
+-- Each id has a number that an id of its sort may have: one of 64 bits with a sign, and for a
+-- variables reference not 0.
+abbrev pub has_id_numbers : Doc → Bool
+has_id_numbers d = list_all (λ i. is_id_of i.0 i.1) (ids d)
 
 -- Each id has a number from 1 to 2,147,483,647.
 abbrev pub has_small_ids : Doc → Bool

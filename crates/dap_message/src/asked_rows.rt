@@ -2,18 +2,9 @@
 ghost use Rattle.std.specs.Prelude.{◌≡◌, true, Some, map, option_map, codes};
 ghost use Rattle.dap_tree.specs.Doc.{get};
 ghost use Rattle.dap_tree.specs.View.{view};
-ghost use Rattle.dap_message.specs.AskedRows.{
-  asked_rows,
-  kind_told,
-  name_told,
-  rows_in,
-  rows_asked,
-  rows_named,
-  has_name,
-  one_name,
-  together,
-  leading,
-};
+ghost use Rattle.dap_message.specs.AskedRows.{asked_rows, kind_told, name_told, rows_in};
+ghost use Rattle.dap_message.specs.AskedRows.{rows_asked, rows_named, has_name, one_name, together};
+ghost use Rattle.dap_message.specs.AskedRows.{leading};
 ghost use Rattle.dap_message.specs.Rows.{is_text, is_true, is_of_kind, row_of};
 
 use crate::message::text_at;

@@ -1,17 +1,10 @@
 //! The capabilities that an adapter leaves out, made false in place.
-ghost use Rattle.std.specs.Prelude.{◌≡◌, IfOk, map, codes, option_map};
+ghost use Rattle.std.specs.Prelude.{◌≡◌, true, IfOk, OnErr, map, codes, option_map};
 ghost use Rattle.dap_tree.specs.Doc.{get_member, object, no_members, change_child};
 ghost use Rattle.dap_tree.specs.View.{view, members_view};
-ghost use Rattle.dap_message.specs.Capabilities.{
-  is_given,
-  default_member,
-  default_to,
-  false_members,
-  false_at,
-  tells_capabilities,
-  with_capabilities,
-  filled,
-};
+ghost use Rattle.dap_message.specs.Capabilities.{is_given, default_member, default_to};
+ghost use Rattle.dap_message.specs.Capabilities.{false_members, false_at, tells_capabilities};
+ghost use Rattle.dap_message.specs.Capabilities.{with_capabilities, filled};
 
 use crate::asked_rows::{has_succeeded, has_text, is_of_kind};
 use crate::profile::Kind;
@@ -58,7 +51,8 @@ static CAPABILITIES: [&str; 35] = [
 ];
 
 pub(crate) fn fill(tree: &mut Tree, side: Side, alloc: Global) -> Result<(), AllocError>
-    ensures { IfOk result (λ _. view tree.new ≡ filled side (view tree.old)) }
+    ensures ok { IfOk result (λ _. view tree.new ≡ filled side (view tree.old)) }
+    ensures err { OnErr result (tells_capabilities side (view tree.old) ≡ true) }
 {
     if tells_capabilities(tree, side) {
         add_capabilities(tree, alloc)

@@ -1,30 +1,13 @@
 //! Theorems on typed messages, which hold of all documents and contents. Each function does
 //! nothing: a call of it gives its clauses to a proof.
-ghost use Rattle.dap_message.specs.Laws.{
-  OneMessage,
-  OneRefusal,
-  TypedNotRefused,
-  SomeMessage,
-  TypedSide,
-  TypedProper,
-  TypedSound,
-  TypedEnveloped,
-  TypedOrdered,
-  TypedUtf8,
-  ContentWellFormed,
-  TypedAgain,
-  ContentTypedAgain,
-  OwnContentTypedAgain,
-  SkeletonTells,
-  Renumbers,
-  MarkedByPath,
-  OneMarked,
-  FilledFits,
-  FilledOnce,
-  ContentShown,
-  ShownAlike,
-  EachShown,
-};
+ghost use Rattle.dap_message.specs.Laws.{OneMessage, OneRefusal, TypedNotRefused, SomeMessage};
+ghost use Rattle.dap_message.specs.Laws.{TypedSide, TypedProper, TypedSound, TypedEnveloped};
+ghost use Rattle.dap_message.specs.Laws.{TypedOrdered, TypedUtf8, ContentWellFormed, TypedAgain};
+ghost use Rattle.dap_message.specs.Laws.{ContentTypedAgain, OwnContentTypedAgain, SkeletonTells};
+ghost use Rattle.dap_message.specs.Laws.{RenumberedTyped, RenumberedContentTyped};
+ghost use Rattle.dap_message.specs.Laws.{SmallAreIdNumbers, Renumbers, MarkedByPath, OneMarked};
+ghost use Rattle.dap_message.specs.Laws.{FilledFits, ProfileNumbered, FitsByPath, FaultByPath};
+ghost use Rattle.dap_message.specs.Laws.{FilledOnce, ContentShown, ShownAlike, EachShown};
 
 /// A content is one message, or is refused for one reason.
 pub fn one_outcome()
@@ -51,9 +34,12 @@ pub fn typed_keeps()
     ensures content { ContentWellFormed }
 {}
 
-/// A message is read and typed again from its own content, also with other small numbers at its
-/// ids.
+/// A message is read and typed again from its own content, also with any other numbers at its ids
+/// that ids of their sorts may have: negative ones, and up to those of 64 bits.
 pub fn typed_again()
+    ensures renumbered { RenumberedTyped }
+    ensures renumbered_content { RenumberedContentTyped }
+    ensures small { SmallAreIdNumbers }
     ensures document { TypedAgain }
     ensures content { ContentTypedAgain }
     ensures own_numbers { OwnContentTypedAgain }
@@ -63,6 +49,13 @@ pub fn typed_again()
 pub fn renumbered_message()
     ensures skeleton_tells { SkeletonTells }
     ensures ids { Renumbers }
+{}
+
+/// Which documents fit and which fault one has, said path by path and by the rows' numbers.
+pub fn broken_by_path()
+    ensures numbered { ProfileNumbered }
+    ensures fits { FitsByPath }
+    ensures fault { FaultByPath }
 {}
 
 /// There is just one document whose ids are those that the rows tell.

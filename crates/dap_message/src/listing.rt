@@ -1,14 +1,8 @@
 //! The iterators over the stack frames, scopes and variables that a message lists.
 ghost use Rattle.std.specs.Prelude.{◌≡◌, true, map};
 ghost use Rattle.dap_tree.specs.View.{view};
-ghost use Rattle.dap_message.specs.Views.{
-  are_frames,
-  are_scopes,
-  are_variables,
-  frame_of,
-  scope_of,
-  variable_of,
-};
+ghost use Rattle.dap_message.specs.Views.{are_frames, are_scopes, are_variables, frame_of};
+ghost use Rattle.dap_message.specs.Views.{scope_of, variable_of};
 
 use crate::views::{FrameView, ScopeView, VariableView, frame_of, scope_of, variable_of};
 use dap_tree::Tree;

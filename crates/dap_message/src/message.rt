@@ -1,31 +1,13 @@
 //! Messages: their parts, their views, and their ids replaced.
-ghost use Rattle.std.specs.Prelude.{
-  ◌≡◌,
-  length,
-  true,
-  Some,
-  is_some,
-  option_map,
-  IfOk,
-  IfErr,
-  string_bytes,
-};
-ghost use Rattle.dap_tree.specs.Doc.{is_sound, get};
+ghost use Rattle.std.specs.Prelude.{◌≡◌, length, true, Some, is_some, option_map, IfOk, IfErr};
+ghost use Rattle.std.specs.Prelude.{OnOk, string_bytes};
+ghost use Rattle.dap_tree.specs.Doc.{is_sound, is_ordered, get};
 ghost use Rattle.dap_tree.specs.Ids.{ids, with_ids, without_ids, skeleton};
 ghost use Rattle.dap_tree.specs.Json.{text_of, IsRead};
 ghost use Rattle.dap_tree.specs.View.{view};
 ghost use Rattle.dap_message.specs.Rows.{is_of_kind};
-ghost use Rattle.dap_message.specs.Envelope.{
-  has_envelope,
-  id_number,
-  boolean_value,
-  text_value,
-  kind_of,
-  seq_of,
-  request_seq_of,
-  success_of,
-  name_of,
-};
+ghost use Rattle.dap_message.specs.Envelope.{has_envelope, id_number, boolean_value, text_value};
+ghost use Rattle.dap_message.specs.Envelope.{kind_of, seq_of, request_seq_of, success_of, name_of};
 ghost use Rattle.dap_message.specs.Numbers.{is_proper, are_proper, renumbered};
 ghost use Rattle.dap_message.specs.Views.{shows_all};
 ghost use Rattle.dap_message.specs.declared.fault.MessageFault.{MessageFault};
@@ -45,7 +27,7 @@ use std::alloc::Global;
 /// Its tree is sound, none of its ids is a variables reference of 0, and it has the members that
 /// every message of its kind has; each frame, scope and variable that it lists has the members that
 /// are shown of it. The laws in [`crate::laws`] say that it is typed again as itself, also with
-/// other small numbers at its ids.
+/// other numbers at its ids.
 #[derive(Drop)]
 pub struct Message {
     side: Side,
@@ -58,25 +40,12 @@ pub struct Message {
 
 impl Message {
     ghost use Rattle.std.specs.Prelude.{map};
-    ghost use Rattle.dap_message.specs.Message.{
-      side_of,
-      doc_of,
-      list_of_ids,
-      IsTypedBack,
-      IsRenumberedBack,
-    };
+    ghost use Rattle.dap_message.specs.Message.{side_of, doc_of, list_of_ids, IsTypedBack};
+    ghost use Rattle.dap_message.specs.Message.{IsRenumberedBack};
     ghost use Rattle.dap_message.specs.ViewItems.{frames_left, scopes_left, variables_left};
-    ghost use Rattle.dap_message.specs.Views.{
-      frame_of,
-      frames_of,
-      listed_frames,
-      scope_of,
-      scopes_of,
-      listed_scopes,
-      variable_of,
-      variables_of,
-      listed_variables,
-    };
+    ghost use Rattle.dap_message.specs.Views.{frame_of, frames_of, listed_frames, scope_of};
+    ghost use Rattle.dap_message.specs.Views.{scopes_of, listed_scopes, variable_of, variables_of};
+    ghost use Rattle.dap_message.specs.Views.{listed_variables};
 
     pub(crate) fn new(side: Side, tree: Tree) -> Message
         requires sound { is_sound (view tree) ≡ true }
@@ -177,7 +146,7 @@ impl Message {
             (λ s. IsRead (string_bytes s) (without_ids (doc_of self.now))) }
 
         // The text, read and typed again, is this very message: as it was typed, or with other
-        // small numbers at its ids.
+        // numbers at its ids.
         ensures typed_again { IfOk result
             (λ s. IsTypedBack (side_of self.now) (doc_of self.now) (string_bytes s)) }
         ensures renumbered_again { IfOk result
@@ -242,6 +211,9 @@ impl Message {
     /// The ids in the order of the canonical content.
     pub fn ids(&self, alloc: Global) -> Result<IdList, MessageFault>
         ensures ok { IfOk result (λ l. list_of_ids l ≡ ids (doc_of self.now)) }
+
+        // So their order is that of their paths.
+        ensures ordered { OnOk result (is_ordered (doc_of self.now) ≡ true) }
         ensures memory { IfErr result (λ f. f ≡ MessageFault.Memory) }
     {
         let mut found = Vec::new(alloc);

@@ -2,14 +2,8 @@
 ghost use Rattle.std.specs.Prelude.{◌≡◌, map, option_map};
 ghost use Rattle.dap_tree.specs.Doc.{get};
 ghost use Rattle.dap_tree.specs.View.{view};
-ghost use Rattle.dap_message.specs.Views.{
-  frame_of,
-  scope_of,
-  variable_of,
-  listed,
-  number_value,
-  reference_value,
-};
+ghost use Rattle.dap_message.specs.Views.{frame_of, scope_of, variable_of, listed, number_value};
+ghost use Rattle.dap_message.specs.Views.{reference_value};
 ghost use Rattle.dap_message.specs.ViewItems.{frame_shown, scope_shown, variable_shown};
 
 use crate::asked_rows::{has_succeeded, has_text, is_of_kind};

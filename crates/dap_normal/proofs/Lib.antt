@@ -3,7 +3,6 @@ pub mod HeldMessages
 pub mod JudgedRecords
 pub mod NormalRecordSteps
 pub mod NormalTexts
-pub mod RecordLoop
 pub mod NormalFormLaws
 pub mod StreamAnswers
 pub mod StreamLoop

@@ -2,12 +2,11 @@
 use Rattle.std.proofs.Common.{◌≡◌, ℕ, ℤ, ◌+◌, ◌-◌, ◌<◌, ◌≤◌, ◌^◌, true, false, Ok, Bool, List, []}
 use Rattle.std.proofs.Common.{◌∷◌, ◌++◌, length, Option, Some, None, refl, ◌∙◌, ap, arith}
 use Rattle.std.proofs.Common.{append_assoc, length-append}
-use Rattle.std.proofs.KnownBytes.{Consumes-nil, Consumes-trans}
 use Rattle.std.proofs.lemmas.List.{length_push}
-use Rattle.dap_device.specs.Pieces.{HasComeSoFar, HasPaused}
+use Rattle.dap_device.specs.Pieces.{HasComeSoFar}
 use Rattle.dap_device.specs.Reading.{HasCome}
 use Rattle.dap_device.specs.declared.reading.Stop.{Stop}
-use Rattle.dap_device.specs.declared.reading.Stop.TheVariants.{End, Full, Failed}
+use Rattle.dap_device.specs.declared.reading.Stop.TheVariants.{End}
 use Rattle.dap_message.specs.Message.{Sent}
 use Rattle.dap_input.specs.declared.limits.Limits.{Limits}
 use Rattle.dap_normal.specs.declared.normal_records.NormalRecords.{NormalRecords}
@@ -19,32 +18,9 @@ use Rattle.dap_normal.specs.NormalSteps.{HasEnded, HasGone, HasNext, HasStoppedA
 use Rattle.dap_input.specs.ReadTo.{IsReadTo, so_far}
 use Rattle.dap_normal.specs.Streaming.{HasComeTo, RefusesNext}
 use Rattle.dap_input.specs.Refusals.{RefusesAt}
+use Rattle.dap_input.proofs.Coming.{came_on, nothing_came}
 
 module _ {R : Type 0} (left : R → Option (List ℕ)) (given failures : R → ℕ) where
-  -- Nothing has come.
-  pub nothing_came : (reader : R) → HasComeSoFar left given failures reader reader [] None
-  nothing_came reader =
-      record { came = Consumes-nil (left reader); counted = omega arith; paused = refl }
-
-  -- More came.
-  pub came_on : (start mid end : R) (bytes more : List ℕ) (stop : Option Stop)
-      → HasComeSoFar left given failures start mid bytes None
-      → HasComeSoFar left given failures mid end more stop
-      → HasComeSoFar left given failures start end (bytes ++ more) stop
-  came_on start mid end bytes more stop was next = record {
-    came = Consumes-trans _ _ _ _ _ was.came next.came;
-    counted = (let before = was.counted in let behind = next.counted in omega
-        (arith, before, behind, length-append bytes more));
-    paused = paused_on stop next.paused;
-  }
-    where
-      paused_on : (s : Option Stop) → HasPaused left given failures mid end s
-          → HasPaused left given failures start end s
-      paused_on None same = same ∙ was.paused
-      paused_on (Some End) same = (same.0, same.1 ∙ was.paused)
-      paused_on (Some Full) same = same ∙ was.paused
-      paused_on (Some Failed) same = same ∙ ap (λ n. n + 1) was.paused
-
   -- A reader that came to its end gave a whole input.
   pub whole_came : (start end : R) (limit : ℕ) (bytes : List ℕ)
       → HasComeSoFar left given failures start end bytes (Some End) → length bytes ≤ limit

@@ -28,7 +28,8 @@ use Rattle.dap_normal.proofs.JudgedRecords.{text_push}
 use Rattle.dap_normal.proofs.NormalTexts.{normal}
 use Rattle.dap_input.proofs.Runs.{run_none}
 use Rattle.dap_normal.proofs.NormalFormLaws.{canonical}
-use Rattle.dap_normal.proofs.StreamLoop.{Going, all_came, come_to, nothing_came, refused_to}
+use Rattle.dap_input.proofs.Coming.{nothing_came}
+use Rattle.dap_normal.proofs.StreamLoop.{Going, all_came, come_to, refused_to}
 use Rattle.dap_normal.proofs.StreamLoop.{refuses_next}
 
 -- What a text that was sent out made of the writer.

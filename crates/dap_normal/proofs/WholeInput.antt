@@ -23,7 +23,8 @@ use Rattle.dap_normal.proofs.AcceptingFacts.{accepted_facts, value_laws}
 use Rattle.dap_input.proofs.Refusals.{refused_as, refused_in}
 use Rattle.dap_recording.proofs.Records.{readable}
 use Rattle.dap_normal.proofs.NormalFormLaws.{canonical}
-use Rattle.dap_normal.proofs.StreamLoop.{Going, came_on}
+use Rattle.dap_input.proofs.Coming.{came_on}
+use Rattle.dap_normal.proofs.StreamLoop.{Going}
 
 are_typed : (records : List Held) (messages : List Sent) → AreMessages records messages
     → AreTyped messages

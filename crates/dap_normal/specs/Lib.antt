@@ -6,5 +6,4 @@ pub mod NameTables
 pub mod NormalSteps
 pub mod Normalised
 pub mod Normalising
-pub mod RecordSteps
 pub mod Streaming

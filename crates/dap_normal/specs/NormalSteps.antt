@@ -9,12 +9,13 @@ use Rattle.dap_recording.specs.declared.record_fault.RecordCause.TheVariants.{Cu
 use Rattle.dap_input.specs.declared.limits.Limits.{Limits}
 use Rattle.dap_normal.specs.declared.normal_records.NormalRecords.{NormalRecords}
 use Rattle.dap_input.specs.declared.refused.Refused.{Refused}
-use Rattle.dap_input.specs.declared.refused.Refused.TheVariants.{Record, Memory}
+use Rattle.dap_input.specs.declared.refused.Refused.TheVariants.{Record}
 use Rattle.dap_normal.specs.Accepting.{IsAccepted, accepting}
 use Rattle.dap_normal.specs.JudgingSteps.{StandsFor, judge_limits, record_of}
-use Rattle.dap_normal.specs.RecordSteps.{StandsBetween}
-use Rattle.dap_input.specs.ReadTo.{IsReadTo, so_far}
-use Rattle.dap_input.specs.Refusals.{RefusesAt}
+use Rattle.dap_input.specs.InputSteps.{Says}
+use Rattle.dap_input.specs.ItemReading.{StandsForRecord}
+use Rattle.dap_input.specs.ReadTo.{IsReadTo}
+use Rattle.dap_input.specs.RecordSteps.{StandsBetween}
 
 -- Of these bytes, which have come, what is unread begins behind records that are accepted as these
 -- messages, for which the judge stands, with this normal form.
@@ -26,7 +27,7 @@ pub record StandsBefore {T : Type 0} (numbers : T → List ℤ) (table_limit : T
   pub came : bytes ≡ front ++ records.records.pieces.unread
   pub taken : records.records.pieces.taken ≡ length bytes
   pub limit_is : records.records.pieces.limit ≡ limits.input
-  pub between : StandsBetween limits.frame records.records
+  pub between : StandsBetween (StandsForRecord limits.frame) records.records
   pub number_is : records.records.number ≡ length messages + 1
   -- no more records than bytes, so that a number that counts bytes can count records
   pub few : records.records.number ≤ length front + 1
@@ -66,12 +67,6 @@ module _ {T R : Type 0} (numbers : T → List ℤ) (table_limit : T → ℕ) (le
     pub number_is : new.records.number ≡ old.records.number
     pub kept : longer ≡ text
 
-  -- what a refusal says of the bytes that have come; that memory was refused says nothing of them
-  abbrev pub SaysOf : List ℕ → Option Stop → Refused → Type 0
-  SaysOf came stop Memory = Unit {0}
-  SaysOf came stop refused =
-      RefusesAt (accepting limits) (so_far came stop) old.records.number refused
-
   -- This record is refused, or cannot be read.
   pub record HasStoppedAt (refused : Refused) : Type 0 where
     pub more : List ℕ
@@ -79,7 +74,7 @@ module _ {T R : Type 0} (numbers : T → List ℤ) (table_limit : T → ℕ) (le
     pub came : HasComeSoFar left given failures before after more stop
     pub within : length (bytes ++ more) ≤ limits.input + 1
     pub read_to : IsReadTo (accepting limits) (bytes ++ more) old.records.number
-    pub says : SaysOf (bytes ++ more) stop refused
+    pub says : Says (accepting limits) (bytes ++ more) stop old.records.number refused
     pub cut : (n : ℕ) → refused ≡ Record n Cut → stop ≡ Some End
 
   abbrev pub HasNext : List ℕ → List ℕ → Result Bool Refused → Type 0

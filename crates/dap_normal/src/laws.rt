@@ -1,18 +1,10 @@
 //! Theorems on recordings and their normal forms, which hold of all bytes. Each function does
 //! nothing: a call of it gives its clauses to a proof.
-ghost use Rattle.dap_normal.specs.Accepting.{
-  ReadingIsBounded,
-  RecordingHasOneOutcome,
-  RecordingRefusalStays,
-};
-ghost use Rattle.dap_normal.specs.Normalising.{
-  HasOneNormalForm,
-  NormalIsAccepted,
-  AcceptedIsNormalised,
-  OneNormalText,
-  NormalStandsStill,
-  EqualTextsTell,
-};
+ghost use Rattle.dap_normal.specs.Accepting.{ReadingIsBounded, RecordingHasOneOutcome};
+ghost use Rattle.dap_normal.specs.Accepting.{RecordingRefusalStays};
+ghost use Rattle.dap_normal.specs.Normalising.{HasOneNormalForm, NormalIsAccepted};
+ghost use Rattle.dap_normal.specs.Normalising.{AcceptedIsNormalised, OneNormalText};
+ghost use Rattle.dap_normal.specs.Normalising.{NormalStandsStill, EqualTextsTell};
 
 /// A recording is accepted as one list of messages, or has one first refusal, and not both. A
 /// refusal stays when more bytes come, unless the input only ended too early. `check` and

@@ -10,7 +10,6 @@ mod messages;
 mod normal_records;
 mod normalised;
 mod normalising;
-mod records;
 mod same_recordings;
 
 pub use checked::Checked;

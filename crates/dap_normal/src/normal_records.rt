@@ -10,10 +10,10 @@ ghost use Rattle.dap_input.specs.Limits.{AreSound};
 ghost use Rattle.dap_normal.specs.NameTables.{AreReady};
 
 use crate::judging::Judge;
-use crate::records::Records;
 use dap_device::Source;
-use dap_input::{Limits, Refused};
+use dap_input::{Limits, Records, Refused};
 use dap_message::Side;
+use dap_recording::RecordReader;
 use dap_rename::{NameFault, NameTable, Renaming, Tables};
 use std::alloc::{AllocError, Global};
 
@@ -21,7 +21,7 @@ use std::alloc::{AllocError, Global};
 /// a time.
 #[derive(Drop)]
 pub struct NormalRecords<T> {
-    records: Records,
+    records: Records<RecordReader>,
     judge: Judge<T>,
 }
 
@@ -40,8 +40,9 @@ impl<T: NameTable + Drop> NormalRecords<T> {
         ensures stands { IfOk result
             (λ records. StandsBefore T.numbers T.limit limits [] records [] []) }
     {
+        let reader = RecordReader::new(alloc, limits.frame);
         Ok(NormalRecords {
-            records: Records::new(alloc, limits)?,
+            records: Records::new(alloc, reader, limits.input)?,
             judge: Judge::new(alloc, limits, tables),
         })
     }

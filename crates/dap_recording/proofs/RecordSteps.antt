@@ -7,7 +7,7 @@ use Rattle.dap_items.specs.Then.{in_first, in_second, first_open, second_open}
 use Rattle.dap_frame.specs.declared.limits.FrameLimits.{FrameLimits}
 use Rattle.dap_frame.specs.declared.fault.FrameFault.{FrameFault}
 use Rattle.dap_frame.specs.declared.fault.FrameFault.TheVariants as frame_fault
-use Rattle.dap_frame.specs.Frame.{IsFrame, Shows}
+use Rattle.dap_frame.specs.Frame.{IsFrame, HasContentByte, Shows}
 use Rattle.dap_frame.specs.Reading.{Reading, GivesFault, limits_of}
 use Rattle.dap_tree.specs.declared.side.Side.{Side}
 use Rattle.dap_recording.specs.declared.record_fault.RecordCause.{RecordCause}
@@ -110,6 +110,7 @@ module _ (limits : FrameLimits) (number : ℕ) (bytes piece rest : List ℕ) (si
     (fault : FrameFault) (told : RecordFault) (old new : RecordReading) (framer : Reading)
     (front : bytes ++ take from piece
     ≡ marker side ∷ rest) (gives : GivesFault limits rest (drop from piece) fault framer)
+    (content : fault ≡ frame_fault.Memory → HasContentByte limits (rest ++ drop from piece))
     (number_is : told.number ≡ number)
     (memory : fault ≡ frame_fault.Memory
     → (told.cause ≡ Memory) × (new ≡ old)) (stands : fault ≡ frame_fault.Memory
@@ -134,12 +135,20 @@ module _ (limits : FrameLimits) (number : ℕ) (bytes piece rest : List ℕ) (si
       (λ (e : fault ≡ frame_fault.Memory). record {
         number_is = number_is;
         memory = λ _. subst (λ reader. StandsFor reader number bytes) (sym (memory e).1) (stands e);
+        for_content = λ _. (
+          side,
+          rest
+              ++ drop from piece,
+          split_at bytes piece (marker side ∷ rest) from front,
+          content e,
+        );
         shown = λ apart. absurd (apart (memory e).0);
         failed = λ apart. absurd (apart (memory e).0);
       })
       (λ (d : fault ≢ frame_fault.Memory). record {
         number_is = number_is;
         memory = λ e. absurd (frame_no_memory told.cause fault (other d).0 e);
+        for_content = λ e. absurd (frame_no_memory told.cause fault (other d).0 e);
         shown = λ _. (
           (gives.shown d).0 + 1,
           subst (λ cause. ShowsFault limits (bytes ++ piece) cause ((gives.shown d).0 + 1))

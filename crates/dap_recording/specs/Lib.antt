@@ -1,3 +1,4 @@
+pub mod FaultNames
 pub mod Marker
 pub mod Recording
 pub mod RecordReading

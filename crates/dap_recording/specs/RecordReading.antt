@@ -3,8 +3,9 @@
 use Rattle.std.specs.Prelude.{◌≡◌, ◌≢◌, ℕ, ◌+◌, ◌-◌, ◌^◌, ◌≤◌, List, [], ◌∷◌, ◌++◌, length, take}
 use Rattle.std.specs.Prelude.{min, Result, Ok, Err, MatchOption}
 use Rattle.dap_frame.specs.declared.limits.FrameLimits.{FrameLimits}
-use Rattle.dap_frame.specs.Frame.{IsFrame}
+use Rattle.dap_frame.specs.Frame.{IsFrame, HasContentByte}
 use Rattle.dap_frame.specs.Reading.{Reading, Stands, limits_of}
+use Rattle.dap_tree.specs.declared.side.Side.{Side}
 use Rattle.dap_recording.specs.declared.record_fault.RecordCause.TheVariants.{Memory}
 use Rattle.dap_recording.specs.declared.record_fault.RecordFault.{RecordFault}
 use Rattle.dap_recording.specs.declared.fed_record.FedRecord.{FedRecord}
@@ -54,6 +55,12 @@ next_number number = min (number + 1) (2 ^ 64 - 1)
 abbrev pub number_behind : {A : Type 0} → List A → ℕ
 number_behind before = min (length before + 1) (2 ^ 64 - 1)
 
+-- The bytes begin with the marker of a side, and a byte of the content of the frame behind it has
+-- come.
+abbrev pub HasMarkedContent : FrameLimits → List ℕ → Type 0
+HasMarkedContent limits bytes = (side : Side) × (rest : List ℕ) × (bytes ≡ marker side ∷ rest)
+    × HasContentByte limits rest
+
 -- What was taken of a piece by a reader that stood for these bytes: the whole piece, for which it
 -- then stands too; or up to the end of a record, and it then stands for no bytes of the next.
 abbrev pub GivesFedRecord : FrameLimits → ℕ → List ℕ → List ℕ → FedRecord → RecordReading → Type 0
@@ -62,12 +69,13 @@ GivesFedRecord limits number bytes piece fed new = (fed.used ≤ length piece) �
     (λ whole. IsRecord limits (bytes ++ take fed.used piece) whole.side whole.content
     × StandsFor new (next_number number) [])
 
--- The fault that was told: that of memory, and the reader still stands for the bytes; or one that
--- the bytes and the piece show.
+-- The fault that was told: that of memory, wanted for a content of which some has come, and the
+-- reader still stands for the bytes; or one that the bytes and the piece show.
 pub record GivesRecordFault (limits : FrameLimits) (number : ℕ) (bytes piece : List ℕ)
     (fault : RecordFault) (new : RecordReading) : Type 0 where
   pub number_is : fault.number ≡ number
   pub memory : fault.cause ≡ Memory → StandsFor new number bytes
+  pub for_content : fault.cause ≡ Memory → HasMarkedContent limits (bytes ++ piece)
   pub shown : fault.cause ≢ Memory → (i : ℕ) × ShowsFault limits (bytes ++ piece) fault.cause i
   pub failed : fault.cause ≢ Memory → HasFailedAt new fault
 

@@ -1,48 +1,19 @@
 //! Theorems on recordings and traces, which hold of all bytes, and on the readers and the recorder,
 //! which hold of all pieces. Each function does nothing: a call of it gives its clauses to a proof.
 
-ghost use Rattle.dap_recording.specs.Laws.{
-  OneRecord,
-  NoEmptyRecord,
-  OneCause,
-  ShownWithin,
-  ShownOfFormat,
-  ShownMore,
-  ShownFront,
-  ShownLater,
-  RecordNotFaulty,
-  RecordNotOpen,
-  OpenNotFaulty,
-  SomeOutcome,
-  OpenNone,
-  WrittenIsRecord,
-  WrittenIsRecording,
-  EmptyRecording,
-  OneRecording,
-  SomeRecordStream,
-  OneRecordStream,
-  StandsOpen,
-  AnyRecordPieces,
-  FaultInAnyRecordPieces,
-  OnePiece,
-  NoEmptyPiece,
-  OneTraceCause,
-  TraceShownWithin,
-  TraceShownMore,
-  TraceShownFront,
-  TraceShownLater,
-  PieceNotFaulty,
-  PieceNotOpen,
-  OpenPieceNotFaulty,
-  SomeTraceOutcome,
-  StandsOpenPiece,
-  OneRecorded,
-  AnyTracePieces,
-  AnyTraceInputs,
-  FaultInAnyTraceInputs,
-  SomePieceStream,
-  OnePieceStream,
-};
+ghost use Rattle.dap_recording.specs.Laws.{OneRecord, NoEmptyRecord, OneCause, ShownWithin};
+ghost use Rattle.dap_recording.specs.Laws.{ShownOfFormat, ShownMore, ShownFront, ShownLater};
+ghost use Rattle.dap_recording.specs.Laws.{RecordNotFaulty, RecordNotOpen, OpenNotFaulty};
+ghost use Rattle.dap_recording.specs.Laws.{SomeOutcome, OpenNone, WrittenIsRecord};
+ghost use Rattle.dap_recording.specs.Laws.{WrittenIsRecording, EmptyRecording, OneRecording};
+ghost use Rattle.dap_recording.specs.Laws.{SomeRecordStream, OneRecordStream, StandsOpen};
+ghost use Rattle.dap_recording.specs.Laws.{AnyRecordPieces, FaultInAnyRecordPieces, OnePiece};
+ghost use Rattle.dap_recording.specs.Laws.{NoEmptyPiece, OneTraceCause, TraceShownWithin};
+ghost use Rattle.dap_recording.specs.Laws.{TraceShownMore, TraceShownFront, TraceShownLater};
+ghost use Rattle.dap_recording.specs.Laws.{PieceNotFaulty, PieceNotOpen, OpenPieceNotFaulty};
+ghost use Rattle.dap_recording.specs.Laws.{SomeTraceOutcome, StandsOpenPiece, OneRecorded};
+ghost use Rattle.dap_recording.specs.Laws.{AnyTracePieces, AnyTraceInputs, FaultInAnyTraceInputs};
+ghost use Rattle.dap_recording.specs.Laws.{SomePieceStream, OnePieceStream};
 
 /// Bytes begin with at most one record, and no record is empty.
 pub fn one_record()

@@ -1,32 +1,12 @@
 //! Records read from the pieces of a recording.
-ghost use Rattle.std.specs.Prelude.{
-  ◌≡◌,
-  ◌≢◌,
-  ℕ,
-  ◌<◌,
-  ◌≤◌,
-  ◌↔◌,
-  List,
-  [],
-  ◌∷◌,
-  ◌++◌,
-  length,
-  take,
-  Err,
-  IfErr,
-  IfOk,
-  IsOk,
-};
+ghost use Rattle.std.specs.Prelude.{◌≡◌, ◌≢◌, ℕ, ◌<◌, ◌≤◌, ◌↔◌, List, [], ◌∷◌, ◌++◌, length, take};
+ghost use Rattle.std.specs.Prelude.{Err, IfErr, IfOk, IsOk};
 ghost use Rattle.dap_frame.specs.Limits.{IsSound};
 ghost use Rattle.dap_frame.specs.Frame.{IsFrame};
 ghost use Rattle.dap_frame.specs.Reading.{Stands};
 ghost use Rattle.dap_recording.specs.Marker.{marker};
-ghost use Rattle.dap_recording.specs.RecordReading.{
-  StandsFor,
-  HasFailedAt,
-  GivesRecord,
-  record_limits,
-};
+ghost use Rattle.dap_recording.specs.RecordReading.{StandsFor, HasFailedAt, GivesRecord};
+ghost use Rattle.dap_recording.specs.RecordReading.{record_limits};
 
 use crate::fed_record::FedRecord;
 use crate::marker::side_of;
@@ -82,7 +62,7 @@ impl RecordReader {
     /// Answers every fault but `Cut`, with the number of the record that shows it. After `Memory`
     /// the reader is unchanged and has used nothing, so the call may be made again with the same
     /// piece. After another fault `feed` and [`finish`](RecordReader::finish) answer that fault
-    /// from then on.
+    /// from then on. Only bytes of a content take memory, which the answered record then owns.
     pub fn feed(&mut self, piece: &[u8]) -> Result<FedRecord, RecordFault>
         ensures gives { (number : ℕ) (bytes : List ℕ) → StandsFor self.old number bytes
             → GivesRecord (record_limits self.old) number bytes piece.now result self.new }

@@ -1,28 +1,9 @@
 //! A recording made of the pieces of a trace.
-ghost use Rattle.std.specs.Prelude.{
-  ◌≡◌,
-  ◌≢◌,
-  ℕ,
-  ◌<◌,
-  ◌≤◌,
-  ◌↔◌,
-  List,
-  [],
-  length,
-  Err,
-  IfOk,
-  IsOk,
-  IsErrOf,
-  OnErr,
-};
+ghost use Rattle.std.specs.Prelude.{◌≡◌, ◌≢◌, ℕ, ◌<◌, ◌≤◌, ◌↔◌, List, [], length, Err, IfOk, IsOk};
+ghost use Rattle.std.specs.Prelude.{IsErrOf, OnErr};
 ghost use Rattle.dap_frame.specs.Limits.{IsSound};
-ghost use Rattle.dap_recording.specs.RecorderReading.{
-  StandsForRests,
-  HasFailedWith,
-  GivesPiece,
-  text_of,
-  recorder_limits,
-};
+ghost use Rattle.dap_recording.specs.RecorderReading.{StandsForRests, HasFailedWith, GivesPiece};
+ghost use Rattle.dap_recording.specs.RecorderReading.{text_of, recorder_limits};
 
 use crate::one_side::record_frame;
 use crate::recorder_fault::RecorderFault;

@@ -1,33 +1,12 @@
 //! Pieces read from a trace.
-ghost use Rattle.std.specs.Prelude.{
-  ◌≡◌,
-  ◌≢◌,
-  ℕ,
-  ◌+◌,
-  ◌<◌,
-  ◌≤◌,
-  ◌↔◌,
-  List,
-  [],
-  ◌∷◌,
-  ◌++◌,
-  length,
-  take,
-  Err,
-  IfErr,
-  IfOk,
-  IsOk,
-};
+ghost use Rattle.std.specs.Prelude.{◌≡◌, ◌≢◌, ℕ, ◌+◌, ◌<◌, ◌≤◌, ◌↔◌, List, [], ◌∷◌, ◌++◌, length};
+ghost use Rattle.std.specs.Prelude.{take, Err, IfErr, IfOk, IsOk};
 ghost use Rattle.dap_frame.specs.Lines.{number_of};
 ghost use Rattle.dap_recording.specs.Marker.{marker};
 ghost use Rattle.dap_recording.specs.Trace.{IsCount};
 ghost use Rattle.dap_recording.specs.Count.{IsCountOf};
-ghost use Rattle.dap_recording.specs.TraceReading.{
-  StandsForPiece,
-  HasFailedAtPiece,
-  GivesTrace,
-  GivesFedTrace,
-};
+ghost use Rattle.dap_recording.specs.TraceReading.{StandsForPiece, HasFailedAtPiece, GivesTrace};
+ghost use Rattle.dap_recording.specs.TraceReading.{GivesFedTrace};
 
 use crate::count::{Count, CountEnd, count_end};
 use crate::fed_trace::{FedTrace, TracePart};

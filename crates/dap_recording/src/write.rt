@@ -1,21 +1,6 @@
 //! Records written.
-ghost use Rattle.std.specs.Prelude.{
-  ◌≡◌,
-  ◌+◌,
-  ◌<◌,
-  ◌≤◌,
-  ◌⊎◌,
-  ◌↔◌,
-  ◌++◌,
-  length,
-  vec_len,
-  vec_capacity,
-  Err,
-  IsOk,
-  OnOk,
-  OnErr,
-  IfErr,
-};
+ghost use Rattle.std.specs.Prelude.{◌≡◌, ◌+◌, ◌<◌, ◌≤◌, ◌⊎◌, ◌↔◌, ◌++◌, length, vec_len};
+ghost use Rattle.std.specs.Prelude.{vec_capacity, Err, IsOk, OnOk, OnErr, IfErr};
 ghost use Rattle.std.specs.Io.{StartsWith};
 ghost use Rattle.dap_frame.specs.Limits.{IsSound};
 ghost use Rattle.dap_recording.specs.Recording.{record_text};

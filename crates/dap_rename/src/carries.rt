@@ -4,14 +4,8 @@ ghost use Rattle.std.specs.Ordering.{int_eq};
 ghost use Rattle.dap_tree.specs.View.{view, items_view, members_view};
 ghost use Rattle.dap_message.specs.Message.{sent};
 ghost use Rattle.dap_rename.specs.Pairs.{same_sort};
-ghost use Rattle.dap_rename.specs.Carrying.{
-  has_pair,
-  carries_doc,
-  carries_items,
-  carries_members,
-  carries_sent,
-  carries_list,
-};
+ghost use Rattle.dap_rename.specs.Carrying.{has_pair, carries_doc, carries_items, carries_members};
+ghost use Rattle.dap_rename.specs.Carrying.{carries_sent, carries_list};
 
 use crate::pair::Pair;
 use dap_message::Message;

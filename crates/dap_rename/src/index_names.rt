@@ -1,17 +1,6 @@
 //! A table of names with an index by hash.
-ghost use Rattle.std.specs.Prelude.{
-  ◌≡◌,
-  suc,
-  ◌<◌,
-  ◌≤◌,
-  ◌^◌,
-  pos,
-  true,
-  false,
-  [],
-  length,
-  MatchOption,
-};
+ghost use Rattle.std.specs.Prelude.{◌≡◌, suc, ◌<◌, ◌≤◌, ◌^◌, pos, true, false, [], length};
+ghost use Rattle.std.specs.Prelude.{MatchOption};
 ghost use Rattle.dap_rename.specs.Table.{has, place, AllDiffer};
 
 use crate::name_table::{NameFault, NameTable};

@@ -1,29 +1,11 @@
 //! Theorems on renamings and on the normal form, which hold of all lists of messages. Each function
 //! does nothing: a call of it gives its clauses to a proof.
-ghost use Rattle.dap_rename.specs.Laws.{
-  WholeIsTold,
-  SameAsItself,
-  SameBothWays,
-  SameAlong,
-  SameIsProper,
-  SameFronts,
-  SameCounts,
-  FrontHasFewIds,
-};
-ghost use Rattle.dap_rename.specs.Laws.{
-  FreshIsUnique,
-  NormalIsUnique,
-  NormalIsComplete,
-  NamedIsNormal,
-  SomeNormal,
-  NormalIsItsOwn,
-  NormalOfFront,
-  NormalOfNext,
-  NamesAreCounted,
-  NamesAreSmall,
-  EqualPlacesRename,
-  EqualPlacesCarry,
-};
+ghost use Rattle.dap_rename.specs.Laws.{WholeIsTold, SameAsItself, SameBothWays, SameAlong};
+ghost use Rattle.dap_rename.specs.Laws.{SameIsProper, SameFronts, SameCounts, FrontHasFewIds};
+ghost use Rattle.dap_rename.specs.Laws.{FreshIsUnique, NormalIsUnique, NormalIsComplete};
+ghost use Rattle.dap_rename.specs.Laws.{NamedIsNormal, SomeNormal, NormalIsItsOwn, NormalOfFront};
+ghost use Rattle.dap_rename.specs.Laws.{NormalOfNext, NamesAreCounted, NamesAreSmall};
+ghost use Rattle.dap_rename.specs.Laws.{EqualPlacesRename, EqualPlacesCarry};
 
 /// Being the same is an equivalence on the lists without a variables reference of 0.
 pub fn same_is_equivalence()

@@ -1,27 +1,7 @@
 //! What a table of names is.
-ghost use Rattle.std.specs.Prelude.{
-  ◌≡◌,
-  ℕ,
-  suc,
-  ◌<◌,
-  ◌≤◌,
-  ◌^◌,
-  ℤ,
-  pos,
-  ◌≤ℤ◌,
-  ◌↔◌,
-  true,
-  false,
-  List,
-  length,
-  take,
-  slice_index_or,
-  MatchOption,
-  IfOk,
-  OnErr,
-  OnOk,
-  IsOk,
-};
+ghost use Rattle.std.specs.Prelude.{◌≡◌, ℕ, suc, ◌<◌, ◌≤◌, ◌^◌, ℤ, pos, ◌≤ℤ◌, ◌↔◌, true, false};
+ghost use Rattle.std.specs.Prelude.{List, length, take, slice_index_or, MatchOption, IfOk, OnErr};
+ghost use Rattle.std.specs.Prelude.{OnOk, IsOk};
 ghost use Rattle.dap_rename.specs.Numbering.{add};
 ghost use Rattle.dap_rename.specs.Table.{has, place, AllDiffer};
 

@@ -17,13 +17,8 @@ pub struct Names<T> {
 }
 
 impl<T: NameTable> Names<T> {
-    ghost use Rattle.dap_rename.specs.Names.{
-      AreEmpty,
-      StandFor,
-      AreUnchanged,
-      numbers_in,
-      limit_in,
-    };
+    ghost use Rattle.dap_rename.specs.Names.{AreEmpty, StandFor, AreUnchanged, numbers_in};
+    ghost use Rattle.dap_rename.specs.Names.{limit_in};
     ghost use Rattle.dap_rename.specs.Tables.{table_of};
 
     /// Names of no message yet. Takes no memory.

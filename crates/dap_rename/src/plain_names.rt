@@ -1,17 +1,6 @@
 //! A table of names as a list.
-ghost use Rattle.std.specs.Prelude.{
-  ◌≡◌,
-  suc,
-  ◌<◌,
-  ◌≤◌,
-  ◌^◌,
-  pos,
-  true,
-  false,
-  [],
-  length,
-  MatchOption,
-};
+ghost use Rattle.std.specs.Prelude.{◌≡◌, suc, ◌<◌, ◌≤◌, ◌^◌, pos, true, false, [], length};
+ghost use Rattle.std.specs.Prelude.{MatchOption};
 ghost use Rattle.std.specs.List.{position};
 ghost use Rattle.std.specs.Ordering.{int_eq};
 ghost use Rattle.dap_rename.specs.Table.{has, place, AllDiffer};

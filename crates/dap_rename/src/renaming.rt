@@ -1,31 +1,11 @@
 //! Renamings: made of pairs or between two tables, and asked whether they carry messages.
-ghost use Rattle.std.specs.Prelude.{
-  ◌≡◌,
-  ◌++◌,
-  ◌↔◌,
-  List,
-  length,
-  map,
-  IsTrue,
-  MatchOption,
-  IfOk,
-  IfErr,
-  OnOk,
-};
+ghost use Rattle.std.specs.Prelude.{◌≡◌, ◌++◌, ◌↔◌, List, length, map, IsTrue, MatchOption, IfOk};
+ghost use Rattle.std.specs.Prelude.{IfErr, OnOk};
 ghost use Rattle.dap_message.specs.Message.{Sent, sent};
 ghost use Rattle.dap_rename.specs.Messages.{IsProperId, Carries, equal_places, in_whole};
 ghost use Rattle.dap_rename.specs.Names.{StandFor, HaveEqualCounts, numbers_in};
-ghost use Rattle.dap_rename.specs.Pairs.{
-  entries,
-  is_proper_pair,
-  is_taken,
-  is_given,
-  MayFollow,
-  PairFails,
-  FailsFirst,
-  RefusesPairs,
-  equal_names,
-};
+ghost use Rattle.dap_rename.specs.Pairs.{entries, is_proper_pair, is_taken, is_given, MayFollow};
+ghost use Rattle.dap_rename.specs.Pairs.{PairFails, FailsFirst, RefusesPairs, equal_names};
 ghost use Rattle.dap_rename.specs.Renamings.{IsRenaming, pairs_of_class};
 
 use crate::carries::carries_list;

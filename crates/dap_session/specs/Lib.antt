@@ -9,3 +9,4 @@ pub mod Standing
 pub mod View
 pub mod RequestSteps
 pub mod SessionView
+pub mod RuleName

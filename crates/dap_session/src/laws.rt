@@ -1,18 +1,9 @@
 //! Theorems on the rules, which hold of all lists of messages. Each function does nothing: a call
 //! of it gives its clauses to a proof.
-ghost use Rattle.dap_session.specs.Laws.{
-  RulesByPosition,
-  FirstByPosition,
-  NoneKeepRules,
-  KeepsOneMore,
-  FrontKeepsRules,
-  KeepsOrBreaks,
-  TypedIsNumbered,
-  RenamedIsNumbered,
-  RenamingKeepsRules,
-  RenamingKeepsOpen,
-  RenamingKeepsKept,
-};
+ghost use Rattle.dap_session.specs.Laws.{RulesByPosition, FirstByPosition, NoneKeepRules};
+ghost use Rattle.dap_session.specs.Laws.{KeepsOneMore, FrontKeepsRules, KeepsOrBreaks};
+ghost use Rattle.dap_session.specs.Laws.{TypedIsNumbered, RenamedIsNumbered, RenamingKeepsRules};
+ghost use Rattle.dap_session.specs.Laws.{RenamingKeepsOpen, RenamingKeepsKept};
 
 /// The tests of the rules, over the messages before one, say what the rules say over positions.
 pub fn rules_by_position()

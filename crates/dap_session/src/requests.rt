@@ -1,27 +1,9 @@
 //! The requests of one side.
-ghost use Rattle.std.specs.Prelude.{
-  ◌≡◌,
-  ℤ,
-  [],
-  OnOk,
-  OnErr,
-  option_map,
-  false,
-  true,
-  None,
-  Some,
-  IfOk,
-  IsOk,
-  ◌&&◌,
-};
+ghost use Rattle.std.specs.Prelude.{◌≡◌, ℤ, [], OnOk, OnErr, option_map, false, true, None, Some};
+ghost use Rattle.std.specs.Prelude.{IfOk, IsOk, ◌&&◌};
 ghost use Rattle.dap_message.specs.Message.{sent};
-ghost use Rattle.dap_session.specs.Kept.{
-  request_numbered,
-  unanswered,
-  with_request,
-  with_answer,
-  requests_after,
-};
+ghost use Rattle.dap_session.specs.Kept.{request_numbered, unanswered, with_request, with_answer};
+ghost use Rattle.dap_session.specs.Kept.{requests_after};
 ghost use Rattle.dap_session.specs.RequestSteps.{FitsRequests, adds_to};
 
 use crate::message::{is_from, is_request, is_response, name_of, request_seq_of, seq_of};

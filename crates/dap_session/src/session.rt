@@ -1,21 +1,9 @@
 //! A session as its messages come: each is taken or breaks a rule.
-ghost use Rattle.std.specs.Prelude.{
-  ◌≡◌,
-  ℕ,
-  [],
-  List,
-  Some,
-  None,
-  option_map,
-  OnOk,
-  OnErr,
-  true,
-  false,
-  IsErrOf,
-};
+ghost use Rattle.std.specs.Prelude.{◌≡◌, ℕ, [], List, Some, None, option_map, OnOk, OnErr, true};
+ghost use Rattle.std.specs.Prelude.{false, IsErrOf};
 ghost use Rattle.dap_message.specs.Message.{Sent, sent};
 ghost use Rattle.dap_session.specs.Messages.{is_request};
-ghost use Rattle.dap_session.specs.Rules.{open_requests};
+ghost use Rattle.dap_session.specs.Rules.{first_broken, open_requests};
 ghost use Rattle.dap_session.specs.Kept.{requests_of, kept_after};
 ghost use Rattle.dap_session.specs.KeptRules.{first_told, tells, asked_for};
 ghost use Rattle.dap_session.specs.Standing.{Stands, Says};
@@ -72,14 +60,16 @@ impl Session {
 
     /// Takes the message as the next one, or names the first rule that it breaks.
     ///
-    /// After a refusal the session is as it was. `Memory` comes for requests alone, where a growth
-    /// was refused.
+    /// After a refusal the session is as it was. `Memory` comes only for a request that breaks no
+    /// rule, where a growth was refused.
     pub fn accept(&mut self, message: &Message) -> Result<(), SessionFault>
         ensures says { (ms : List Sent) → Stands self.old ms
             → Says ms (sent message.now) result self.old self.new }
         ensures unchanged { OnErr result (self.new ≡ self.old) }
         ensures memory { IsErrOf result SessionFault.Memory
             → is_request (sent message.now) ≡ true }
+        ensures in_rules { IsErrOf result SessionFault.Memory → (ms : List Sent)
+            → Stands self.old ms → first_broken ms (sent message.now) ≡ None }
     {
         if let Some(rule) = self.broken_by(message) {
             return Err(SessionFault::Broken(rule));

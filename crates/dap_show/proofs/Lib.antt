@@ -1,3 +1,4 @@
 pub mod AppendedLines
 pub mod ShowingFacts
 pub mod ShowingLoop
+pub mod ShownInputs

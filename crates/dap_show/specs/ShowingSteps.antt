@@ -1,16 +1,19 @@
 -- What the steps of `show` do.
-use Rattle.std.specs.Prelude.{◌≡◌, ℕ, ◌+◌, List, ◌++◌, Option, Some, None, Result, Ok, Err, String}
-use Rattle.std.specs.Prelude.{string_bytes}
+use Rattle.std.specs.Prelude.{◌≡◌, ℕ, List, ◌++◌, Option, Result, Ok, Err, String, string_bytes}
 use Rattle.std.specs.declared.alloc.Global.{Global}
 use Rattle.dap_message.specs.Message.{Sent}
+use Rattle.dap_recording.specs.RecordReading.{RecordReading}
 use Rattle.dap_recording.specs.declared.record.Record.{Record as WholeRecord}
 use Rattle.dap_input.specs.declared.limits.Limits.{Limits}
-use Rattle.dap_device.specs.declared.reading.Stop.{Stop}
+use Rattle.dap_input.specs.declared.records.Records.{Records}
 use Rattle.dap_input.specs.declared.refused.Refused.{Refused}
-use Rattle.dap_input.specs.Engine.{Judges}
-use Rattle.dap_input.specs.Refusals.{IsRefused, RefusesHeld}
+use Rattle.dap_input.specs.InputSteps.{JudgesAll}
+use Rattle.dap_input.specs.ItemReading.{StandsForRecord}
+use Rattle.dap_input.specs.Limits.{AreSound}
+use Rattle.dap_input.specs.RecordSteps.{IsAtStart}
+use Rattle.dap_input.specs.Refusals.{RefusesHeld}
 use Rattle.dap_normal.specs.Accepting.{Held, HoldsNoMessage, IsMessage}
-use Rattle.dap_show.specs.Showing.{IsShownBy, message_lines, showing}
+use Rattle.dap_show.specs.Showing.{lines_from, message_lines, showing}
 
 -- what a record holds
 abbrev pub held_of : WholeRecord → Held
@@ -21,17 +24,19 @@ abbrev pub IsAppended : Held → ℕ → List ℕ → List ℕ → Type 0
 IsAppended held n old new = (message : Sent) × IsMessage held message
     × (new ≡ old ++ message_lines n message)
 
--- Where a record has come, the lines of its message are appended and record n has ended, or it is
--- refused.
-abbrev pub HasGoneOn : ℕ → Option WholeRecord → List ℕ → List ℕ → Result ℕ Refused → Type 0
-HasGoneOn n None old new (Ok next) = (next ≡ n) × (new ≡ old)
-HasGoneOn n None old new (Err because) = ⊥
-HasGoneOn n (Some whole) old new (Ok next) = (next ≡ n + 1) × IsAppended (held_of whole) n old new
-HasGoneOn n (Some whole) old new (Err because) =
-    RefusesHeld (HoldsNoMessage (held_of whole)) n because
+-- The lines of record n, which holds this, are appended, or it is refused.
+abbrev pub Appended : {U : Type 0} → ℕ → Held → List ℕ → List ℕ → Result U Refused → Type 0
+Appended n held old new (Ok done) = IsAppended held n old new
+Appended n held old new (Err because) = RefusesHeld (HoldsNoMessage held) n because
 
--- The bytes that were read are shown, or refused.
-abbrev pub JudgesInput : Limits → List ℕ → Stop → Result (String Global) Refused → Type 0
-JudgesInput limits =
-    Judges (IsShownBy limits) (IsRefused (showing limits))
-    (λ (out : String Global). string_bytes out)
+-- Nothing has been read of the records, under some limits.
+abbrev pub AreReady : Records RecordReading → Type 0
+AreReady records = (limits : Limits) × AreSound limits
+    × IsAtStart (StandsForRecord limits.frame) limits.input records
+
+-- The lines of all records are made, or one is refused.
+module _ {R : Type 0} (limits : Limits) (left : R → Option (List ℕ)) (given failures : R → ℕ) where
+  abbrev pub JudgesInput : R → R → Records RecordReading → Result (String Global) Refused → Type 0
+  JudgesInput =
+      JudgesAll (showing limits) left given failures (lines_from 1)
+      (λ (out : String Global). string_bytes out)

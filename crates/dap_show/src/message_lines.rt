@@ -2,30 +2,12 @@
 ghost use Rattle.std.specs.Prelude.{◌≡◌, ◌++◌, OnOk, string_bytes};
 ghost use Rattle.std.specs.List.{flat_map};
 ghost use Rattle.dap_message.specs.Message.{doc_of, sent};
-ghost use Rattle.dap_message.specs.ViewItems.{
-  frame_shown,
-  frames_left,
-  scope_shown,
-  scopes_left,
-  variable_shown,
-  variables_left,
-};
-ghost use Rattle.dap_show.specs.Showing.{
-  answered_words,
-  frame_line,
-  in_quotes,
-  kind_word,
-  message_line,
-  message_lines,
-  outcome_words,
-  place_words,
-  scope_line,
-  side_words,
-  start_words,
-  success_words,
-  title_words,
-  variable_line,
-};
+ghost use Rattle.dap_message.specs.ViewItems.{frame_shown, frames_left, scope_shown, scopes_left};
+ghost use Rattle.dap_message.specs.ViewItems.{variable_shown, variables_left};
+ghost use Rattle.dap_show.specs.Showing.{answered_words, frame_line, in_quotes, kind_word};
+ghost use Rattle.dap_show.specs.Showing.{message_line, message_lines, outcome_words, place_words};
+ghost use Rattle.dap_show.specs.Showing.{scope_line, side_words, start_words, success_words};
+ghost use Rattle.dap_show.specs.Showing.{title_words, variable_line};
 
 use dap_message::{
     FrameView, Frames, Kind, Message, ScopeView, Scopes, Side, VariableView, Variables,

@@ -1,68 +1,53 @@
 //! Shows recordings in lines.
 ghost use Rattle.std.specs.Prelude.{◌≡◌, ◌+◌, ◌<◌, ◌≤◌, ◌^◌, string_bytes};
 ghost use Rattle.dap_input.specs.Engine.{Answers};
+ghost use Rattle.dap_input.specs.ItemReading.{StandsForRecord};
 ghost use Rattle.dap_input.specs.Limits.{AreSound};
+ghost use Rattle.dap_input.specs.RecordSteps.{IsAtStart};
 ghost use Rattle.dap_input.specs.Refusals.{IsRefused};
-ghost use Rattle.dap_device.specs.Reading.{HasLength};
+ghost use Rattle.dap_input.specs.declared.limits.Limits.{Limits};
 ghost use Rattle.dap_show.specs.Showing.{IsShownBy, showing};
-ghost use Rattle.dap_show.specs.ShowingSteps.{HasGoneOn, JudgesInput};
+ghost use Rattle.dap_show.specs.ShowingSteps.{Appended, AreReady, JudgesInput, held_of};
 
 use crate::message_lines::push_lines;
-use dap_device::{Input, Sink, Source, Stop, read_all, write_and_flush};
-use dap_input::{Limits, Refused};
+use dap_device::{Sink, Source, write_and_flush};
+use dap_input::{Limits, Records, Refused};
 use dap_normal::read_message;
-use dap_recording::{Record, RecordCause, RecordReader};
+use dap_recording::{Record, RecordReader};
 use std::alloc::Global;
 
-/// Appends the lines of a record that has come, and answers the number of the next one.
-fn append_next(
-    alloc: Global,
-    out: &mut String,
-    number: u64,
-    whole: &Option<Record>,
-) -> Result<u64, Refused>
-    requires { number < 2 ^ 63 }
-    ensures { HasGoneOn number whole.now (string_bytes out.old) (string_bytes out.new) result }
+/// Appends the lines of a record to those of the records before it.
+fn append_lines(alloc: Global, out: &mut String, number: u64, whole: &Record) -> Result<(), Refused>
+    ensures { Appended number (held_of whole.now) (string_bytes out.old) (string_bytes out.new)
+        result }
 {
-    let Some(record) = whole else {
-        return Ok(number);
-    };
-    let message = read_message(alloc, number, record.side, record.content.as_slice())?;
+    let message = read_message(alloc, number, whole.side, whole.content.as_slice())?;
     match push_lines(alloc, out, number, &message) {
-        Ok(()) => Ok(number + 1),
+        Ok(()) => Ok(()),
         Err(_) => Err(Refused::Memory),
     }
 }
 
-/// The lines of what was read, or why there are none.
-fn show_input(alloc: Global, input: &Input, limits: Limits) -> Result<String, Refused>
-    requires sound { AreSound limits }
-    requires has_length { HasLength limits.input input.now.bytes.items input.now.stop }
-    ensures { JudgesInput limits input.now.bytes.items input.now.stop result }
+/// The lines of all records, or why there are none.
+fn show_records<R: Source>(
+    alloc: Global,
+    records: &mut Records<RecordReader>,
+    reader: &mut R,
+) -> Result<String, Refused>
+    requires start { AreReady records.old }
+    requires given { R.given reader.old < 2 ^ 62 }
+    requires failures { R.failures reader.old < 2 ^ 62 }
+    ensures { (limits : Limits)
+        → IsAtStart (StandsForRecord limits.frame) limits.input records.old
+        → JudgesInput limits R.left R.given R.failures reader.old reader.new records.new result }
 {
-    let bytes = input.bytes.as_slice();
-    let mut reader = RecordReader::new(alloc, limits.frame);
     let mut out = String::new(alloc);
-    let mut number: u64 = 1;
-    let mut rest = &bytes[..bytes.len().min(limits.input as usize)];
-    while !rest.is_empty() {
-        let fed = match reader.feed(rest) {
-            Ok(fed) => fed,
-            Err(fault) => match fault.cause {
-                RecordCause::Memory => return Err(Refused::Memory),
-                cause => return Err(Refused::Record(number, cause)),
-            },
+    loop {
+        let number = records.number();
+        let Some(whole) = records.next(reader)? else {
+            return Ok(out);
         };
-        rest = &rest[fed.used..];
-        number = append_next(alloc, &mut out, number, &fed.whole)?;
-    }
-    match input.stop {
-        Stop::Full => Err(Refused::InputTooLong(number)),
-        Stop::Failed => Err(Refused::ReadFault),
-        Stop::End => match reader.finish() {
-            Ok(()) => Ok(out),
-            Err(_) => Err(Refused::Record(number, RecordCause::Cut)),
-        },
+        append_lines(alloc, &mut out, number, &whole)?;
     }
 }
 
@@ -75,7 +60,8 @@ fn show_input(alloc: Global, input: &Input, limits: Limits) -> Result<String, Re
 /// ids are shown as they came. The rules of a session are not asked.
 ///
 /// It reads its whole input, at most one byte past `limits.input`, judges it, and writes last:
-/// nothing is written where it is refused. Records are counted from 1 in the order of the input.
+/// nothing is written where it is refused. One record is held at a time, and the lines that are
+/// made. Records are counted from 1 in the order of the input.
 ///
 /// # Errors
 ///
@@ -101,13 +87,19 @@ pub fn show<R: Source, W: Sink>(
     // It takes at most one byte past the limit.
     ensures taken { R.given reader.new ≤ R.given reader.old + limits.input + 1 }
 {
-    let input = match read_all(alloc, reader, limits.input) {
-        Ok(input) => input,
+    let record_reader = RecordReader::new(alloc, limits.frame);
+    let mut records = match Records::new(alloc, record_reader, limits.input) {
+        Ok(records) => records,
         Err(_) => return Err(Refused::Memory),
     };
-    let lines = show_input(alloc, &input, limits)?;
-    match write_and_flush(writer, lines.as_bytes()) {
-        Ok(()) => Ok(()),
-        Err(_) => Err(Refused::WriteFault),
+    match show_records(alloc, &mut records, reader) {
+        Ok(lines) => match write_and_flush(writer, lines.as_bytes()) {
+            Ok(()) => Ok(()),
+            Err(_) => Err(Refused::WriteFault),
+        },
+        Err(refused) => {
+            records.drain(reader);
+            Err(refused)
+        }
     }
 }

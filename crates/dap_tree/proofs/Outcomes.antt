@@ -1,7 +1,8 @@
 -- Each content has one outcome, and what is read is sound.
-use Rattle.std.proofs.Common.{◌≡◌, ℕ, ◌≤◌, inl, inr, ℤ, pos, negsuc, List, Bool, true, false, not}
-use Rattle.std.proofs.Common.{◌&&◌, Option, Some, None, Result, Ok, Err, IfOk, IfErr, MatchResult}
-use Rattle.std.proofs.Common.{refl, sym, ap, ap₂, ◌∙◌, subst, leb, le-leb}
+use Rattle.std.proofs.Common.{◌≡◌, ℕ, ◌≤◌, ◌<◌, inl, inr, ℤ, pos, negsuc, List, [], ◌∷◌, length}
+use Rattle.std.proofs.Common.{Bool, true, false, not, ◌&&◌, Option, Some, None, Result, Ok, Err}
+use Rattle.std.proofs.Common.{IfOk, IfErr, MatchResult, refl, sym, ap, ap₂, ◌∙◌, subst, leb, le-leb}
+use Rattle.std.proofs.Common.{arith}
 use Rattle.std.proofs.lemmas.Bool.{cases_Bool}
 use Rattle.std.proofs.lemmas.Str.{IsUtf8-from_is_utf8, is_utf8-from_IsUtf8}
 use Rattle.std.specs.Str.{is_utf8}
@@ -11,6 +12,7 @@ use Rattle.serde_json.specs.Find.{of_integer, is_float}
 use Rattle.serde_json.specs.Read.{read}
 use Rattle.serde_json.specs.Written.{has_float, items_have_float, members_have_float}
 use Rattle.serde_json.proofs.Nesting.{depth-read}
+use Rattle.serde_json.proofs.OnLiterals.{serde_json_on_literals}
 use Rattle.dap_tree.specs.Doc.{Doc, null, boolean, whole, text, list, object, id, Items, no_items}
 use Rattle.dap_tree.specs.Doc.{item, Members, no_members, member, in_range, all_in_range}
 use Rattle.dap_tree.specs.Doc.{items_in_range, members_in_range, has_id, items_have_id}
@@ -253,3 +255,11 @@ answers bytes v (Ok t) o reads ok err has =
     document_answers bytes t o ((reads.0, reads.1 ∙ ap Some ok.0), ok.1) has
 answers bytes v (Err f) o reads ok err has =
     fault_answers bytes f o (explains_text bytes v f reads err) has
+
+-- ---- the empty content
+
+-- no value is read of it
+pub some_byte : (bytes : List ℕ) (v : json.Data) → read bytes ≡ Some v → 0 < length bytes
+unfolding serde_json_on_literals
+some_byte [] v h = let nothing : read [] ≡ None = refl in cc
+some_byte (b ∷ bytes) v h = omega arith

@@ -7,11 +7,12 @@ use thiserror::Error;
 /// Why there is no tree, or no text.
 #[derive(Clone, Copy, Debug, PartialEq, Eq, Error)]
 pub enum TreeFault {
-    /// The content is no UTF-8 or no JSON, or nests more than 127 lists and objects.
+    /// The content is no UTF-8 or no JSON, nests more than 127 lists and objects, or has a number
+    /// past the largest 64-bit float, as `1e999` or an integer of 400 digits.
     #[error("Json")]
     Json,
-    /// Some number is not kept whole: it has a fraction or an exponent, is `-0`, or does not fit 64
-    /// bits.
+    /// Some number is not kept whole: it has a fraction or an exponent, is `-0`, or is an integer
+    /// that does not fit 64 bits. None is past the largest 64-bit float.
     #[error("Fraction")]
     Fraction,
     /// Memory was refused.

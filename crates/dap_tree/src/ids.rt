@@ -1,28 +1,10 @@
 //! The ids of a tree: listed, and replaced by other numbers.
 ghost use Rattle.std.specs.Prelude.{◌≡◌, ◌++◌, ◌≤◌, true, length, drop, OnOk, OnErr};
-ghost use Rattle.dap_tree.specs.Doc.{
-  depth,
-  items_depth,
-  members_depth,
-  is_sound,
-  is_ordered,
-  items_ordered,
-  members_ordered,
-};
-ghost use Rattle.dap_tree.specs.Ids.{
-  ids,
-  items_ids,
-  members_ids,
-  id_count,
-  items_id_count,
-  members_id_count,
-  with_ids,
-  items_with_ids,
-  members_with_ids,
-  numbers_of,
-  skeleton,
-  Extends,
-};
+ghost use Rattle.dap_tree.specs.Doc.{depth, items_depth, members_depth, is_sound, is_ordered};
+ghost use Rattle.dap_tree.specs.Doc.{items_ordered, members_ordered};
+ghost use Rattle.dap_tree.specs.Ids.{ids, items_ids, members_ids, id_count, items_id_count};
+ghost use Rattle.dap_tree.specs.Ids.{members_id_count, with_ids, items_with_ids, members_with_ids};
+ghost use Rattle.dap_tree.specs.Ids.{numbers_of, skeleton, Extends};
 ghost use Rattle.dap_tree.specs.View.{view, items_view, members_view};
 
 use crate::sound::MAX_DEPTH;

@@ -1,39 +1,13 @@
 //! Laws of the definitions that the contracts of this crate speak in. Each function does nothing.
-ghost use Rattle.dap_tree.specs.Laws.{
-  SomeOutcome,
-  OneOutcome,
-  ReadIsPlain,
-  ReadIsOrdered,
-  ReadIsUtf8,
-  ChangesMember,
-  KeepsMembers,
-  ChangesPaths,
-  KeepsPaths,
-  ChangesItems,
-  LeavesMembers,
-};
-ghost use Rattle.dap_tree.specs.Laws.{
-  FindsNoIds,
-  CountsIds,
-  NumbersIds,
-  TakesIds,
-  KeepsOwnIds,
-  KeepsSound,
-  KeepsSkeleton,
-  DiffersInNumbers,
-  SkeletonTells,
-  SkeletonHasSorts,
-  SkeletonHasCount,
-  SkeletonHasDepth,
-  SkeletonIsAsSound,
-  SkeletonIsAsOrdered,
-  SkeletonIsAsUtf8,
-  WithoutIdsIsPlain,
-  WithoutIdsIsSame,
-  HasSameText,
-  TextIsRead,
-  IdsStandByPath,
-};
+ghost use Rattle.dap_tree.specs.Laws.{SomeOutcome, OneOutcome, ReadIsPlain, ReadIsOrdered};
+ghost use Rattle.dap_tree.specs.Laws.{ReadIsUtf8, ChangesMember, KeepsMembers, ChangesPaths};
+ghost use Rattle.dap_tree.specs.Laws.{KeepsPaths, ChangesItems, LeavesMembers};
+ghost use Rattle.dap_tree.specs.Laws.{FindsNoIds, CountsIds, NumbersIds, TakesIds, KeepsOwnIds};
+ghost use Rattle.dap_tree.specs.Laws.{KeepsSound, KeepsSkeleton, DiffersInNumbers, SkeletonTells};
+ghost use Rattle.dap_tree.specs.Laws.{SkeletonHasSorts, SkeletonHasCount, SkeletonHasDepth};
+ghost use Rattle.dap_tree.specs.Laws.{SkeletonIsAsSound, SkeletonIsAsOrdered, SkeletonIsAsUtf8};
+ghost use Rattle.dap_tree.specs.Laws.{WithoutIdsIsPlain, WithoutIdsIsSame, HasSameText, TextIsRead};
+ghost use Rattle.dap_tree.specs.Laws.{IdsStandByPath};
 
 /// Every content is one of three, and one alone: the text of one tree, no JSON, or JSON with a
 /// fraction.

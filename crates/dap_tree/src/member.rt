@@ -6,13 +6,8 @@ ghost use Rattle.std.specs.Fn.{FnOnceReturnsAtMut};
 ghost use Rattle.std.specs.declared.alloc.Global.{Global};
 ghost use Rattle.std.proofs.Common.{rules};
 ghost use Rattle.dap_tree.specs.Doc.{Doc, object, get, change_child, as_object};
-ghost use Rattle.dap_tree.specs.LentChildren.{
-  ChangesBy,
-  LendsChild,
-  LendsChildOf,
-  LendsMembers,
-  LendsMembersOf,
-};
+ghost use Rattle.dap_tree.specs.LentChildren.{ChangesBy, LendsChild, LendsChildOf, LendsMembers};
+ghost use Rattle.dap_tree.specs.LentChildren.{LendsMembersOf};
 ghost use Rattle.dap_tree.specs.View.{view, members_view};
 ghost use Rattle.dap_tree.specs.declared.tree.Tree as tree;
 ghost use Rattle.dap_tree.specs.declared.tree.Tree.{Tree, the_lemmas};

@@ -1,11 +1,7 @@
 //! Whether a tree is one that a content may be read as.
 ghost use Rattle.std.specs.Prelude.{◌≡◌};
-ghost use Rattle.dap_tree.specs.Doc.{
-  is_plain,
-  has_id as holds_id,
-  items_have_id as items_hold_id,
-  members_have_id as members_hold_id,
-};
+ghost use Rattle.dap_tree.specs.Doc.{is_plain, has_id as holds_id, items_have_id as items_hold_id};
+ghost use Rattle.dap_tree.specs.Doc.{members_have_id as members_hold_id};
 ghost use Rattle.dap_tree.specs.View.{view, items_view, members_view};
 
 use crate::Tree;

@@ -1,28 +1,14 @@
 //! A tree read from the JSON of a content.
-ghost use Rattle.std.specs.Prelude.{◌≡◌, true, IfOk, IfErr, MatchResult};
+ghost use Rattle.std.specs.Prelude.{◌≡◌, ◌<◌, true, length, IfOk, IfErr, IsErrOf, MatchResult};
 ghost use Rattle.serde_json.specs.Data.{number as json_number};
-ghost use Rattle.serde_json.specs.View.{
-  number_view,
-  view as value_view,
-  items_view as values_view,
-  members_view as pairs_view,
-};
+ghost use Rattle.serde_json.specs.View.{number_view, view as value_view, items_view as values_view};
+ghost use Rattle.serde_json.specs.View.{members_view as pairs_view};
 ghost use Rattle.dap_tree.specs.Doc.{is_plain};
-ghost use Rattle.dap_tree.specs.Json.{
-  IsRead,
-  Outcome,
-  document,
-  HasOutcome,
-  ExplainsText,
-  Tells,
-  ExplainsData,
-  ExplainsItems,
-  ExplainsMembers,
-  Stands,
-  ItemsStand,
-  MembersStand,
-};
+ghost use Rattle.dap_tree.specs.Json.{IsRead, Outcome, document, HasOutcome, ExplainsText, Tells};
+ghost use Rattle.dap_tree.specs.Json.{ExplainsData, ExplainsItems, ExplainsMembers, Stands};
+ghost use Rattle.dap_tree.specs.Json.{ItemsStand, MembersStand};
 ghost use Rattle.dap_tree.specs.View.{view, items_view, members_view};
+ghost use Rattle.dap_tree.specs.declared.fault.TreeFault.{TreeFault};
 
 use crate::{Tree, TreeFault};
 use serde_json::{Map, Number, Value};
@@ -37,6 +23,7 @@ pub fn read_tree(alloc: Global, content: &[u8]) -> Result<Tree, TreeFault>
     ensures ok { IfOk result (λ t. IsRead content.now (view t)) }
     ensures plain { IfOk result (λ t. is_plain (view t) ≡ true) }
     ensures err { IfErr result (ExplainsText content.now) }
+    ensures memory { IsErrOf result TreeFault.Memory → 0 < length content.now }
 
     // And the other way round: the outcome of the content is what the answer says.
     ensures exactly { (o : Outcome) → HasOutcome content.now o

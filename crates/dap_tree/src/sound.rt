@@ -1,12 +1,7 @@
 //! Whether a tree can be written and read back.
 ghost use Rattle.std.specs.Prelude.{◌≡◌};
-ghost use Rattle.dap_tree.specs.Doc.{
-  in_range,
-  is_sound,
-  fits as fits_in,
-  items_fit as items_fit_in,
-  members_fit as members_fit_in,
-};
+ghost use Rattle.dap_tree.specs.Doc.{in_range, is_sound, fits as fits_in};
+ghost use Rattle.dap_tree.specs.Doc.{items_fit as items_fit_in, members_fit as members_fit_in};
 ghost use Rattle.dap_tree.specs.View.{view, items_view, members_view};
 
 use crate::Tree;

@@ -1,13 +1,7 @@
 //! A tree written as compact JSON.
 ghost use Rattle.std.specs.Prelude.{◌≡◌, true, IfOk, IfErr, OnOk, string_bytes};
-ghost use Rattle.dap_tree.specs.Doc.{
-  whole,
-  in_range,
-  all_in_range,
-  items_in_range,
-  members_in_range,
-  is_sound,
-};
+ghost use Rattle.dap_tree.specs.Doc.{whole, in_range, all_in_range, items_in_range};
+ghost use Rattle.dap_tree.specs.Doc.{members_in_range, is_sound};
 ghost use Rattle.dap_tree.specs.Ids.{without_ids};
 ghost use Rattle.dap_tree.specs.Json.{text_of, IsRead};
 ghost use Rattle.dap_tree.specs.WrittenTokens.{WritesDoc, WritesItems, WritesMembers};

@@ -1,2 +1,3 @@
 pub mod CommandFiles
 pub mod CommandWalk
+pub mod ToldWords

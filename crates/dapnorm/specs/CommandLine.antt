@@ -1,13 +1,18 @@
 -- The program's command line, as `clap` reads it, and the job that it names. Source: own.
-use Rattle.std.specs.Prelude.{◌≡◌, ◌||◌, Bool, false, List, Option, Some, None, codes}
+use Rattle.std.specs.Prelude.{◌≡◌, ◌≢◌, ◌⊎◌, ◌||◌, Bool, false, List, [], Option, Some, None}
+use Rattle.std.specs.Prelude.{codes}
 use Rattle.std.specs.Prelude.{if◌then◌else◌, option_map, option_and_then, true}
 use Rattle.std.specs.Borrow.{Bor}
 use Rattle.std.specs.Str.{bytes_eq}
 use Rattle.clap.specs.Words.{App, Row, Rule, Text, app_of, first_of, new_app, new_rule, with_rule}
-use Rattle.clap.specs.Words.{with_subcommand}
+use Rattle.clap.specs.Words.{with_subcommand, IsAmong, Kinds}
 use Rattle.clap.specs.declared.Command.{Command}
 use Rattle.clap.specs.declared.Command.TheViews.{out-Command as fields_of}
 use Rattle.clap.specs.declared.builder.ArgAction.TheVariants.{Set, SetTrue}
+use Rattle.clap.specs.declared.error.kind.ErrorKind.{ErrorKind}
+use Rattle.clap.specs.declared.error.kind.ErrorKind.TheVariants as kind
+use Rattle.dapnorm.specs.declared.jobs.UsageFault.{UsageFault}
+use Rattle.dapnorm.specs.declared.jobs.UsageFault.TheVariants as usage
 use Rattle.dapnorm.specs.declared.jobs.Job.{Job}
 use Rattle.dapnorm.specs.declared.jobs.Job.TheVariants as job
 
@@ -110,3 +115,18 @@ names_job (Some p) =
 
 abbrev pub job_named : Option (Text × List Row) → Option Told
 job_named = option_and_then (λ p. job_of p.0 p.1)
+
+-- What is told of an error of this kind: help that was asked for, or else a mistake; or that memory
+-- was wanting.
+abbrev pub IsToldOf : ErrorKind → UsageFault → Type 0
+IsToldOf found (usage.Help text) = found ≡ kind.DisplayHelp
+IsToldOf found (usage.Usage text) = found ≢ kind.DisplayHelp
+IsToldOf found usage.Memory = Unit {0}
+
+-- What is told of words with which a parse finds these kinds of errors: help where they ask for it,
+-- a mistake where they make another one or name no job, or that memory was wanting.
+abbrev pub IsToldFor : Kinds → UsageFault → Type 0
+IsToldFor kinds (usage.Help text) = IsAmong kind.DisplayHelp kinds
+IsToldFor kinds (usage.Usage text) =
+    (kinds ≡ []) ⊎ ((found : ErrorKind) × IsAmong found kinds × (found ≢ kind.DisplayHelp))
+IsToldFor kinds usage.Memory = Unit {0}

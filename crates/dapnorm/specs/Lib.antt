@@ -1,5 +1,6 @@
 pub mod CommandLine
 pub mod ComparingRun
+pub mod FaultLine
 pub mod Run
 pub use Rattle.dap_compact.specs.Compacting
 pub use Rattle.dap_compare.specs.Comparing

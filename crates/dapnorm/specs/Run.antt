@@ -2,6 +2,7 @@
 use Rattle.std.specs.Prelude.{◌≡◌, ◌⊎◌, ℕ, ◌++◌, Bool, List, Option, Result, Ok, Err, codes}
 use Rattle.std.specs.Prelude.{decimal, string_bytes}
 use Rattle.dap_normal.specs.declared.checked.Checked.{Checked}
+use Rattle.dapnorm.specs.FaultLine.{fault_line, refused_text}
 use Rattle.dapnorm.specs.declared.jobs.UsageFault.{UsageFault}
 use Rattle.dapnorm.specs.declared.jobs.UsageFault.TheVariants as usage
 use Rattle.dap_input.specs.declared.limits.Limits.{Limits}
@@ -23,10 +24,23 @@ abbrev pub status_of : {U : Type 0} → Result U Refused → ℕ
 status_of (Ok done) = 0
 status_of (Err refused) = refused_status refused
 
--- The devices are as an engine leaves them with its answer, and the status is that of this answer.
-pub record Answered (Leaves : Result (Unit {0}) Refused → Type 0) (status : ℕ) : Type 0 where
+module _ {S : Type 0} (out : S → Option (List ℕ)) (failures : S → ℕ) where
+  -- The text went out, or a front of it and the device failed.
+  abbrev pub HasSent : S → S → List ℕ → Type 0
+  HasSent old new text = AllWritten out failures old new text
+      ⊎ FrontWritten out failures old new text
+
+  -- Of an answer its refusal is told, in one line, and of what was done nothing.
+  abbrev pub IsTold : S → S → Result (Unit {0}) Refused → Type 0
+  IsTold old new (Ok done) = new ≡ old
+  IsTold old new (Err refused) = HasSent old new (fault_line (refused_text refused))
+
+-- The devices are as an engine leaves them with its answer, this is told, and the status is that of
+-- it.
+pub record Answered (Leaves Tells : Result (Unit {0}) Refused → Type 0) (status : ℕ) : Type 0 where
   pub answer : Result (Unit {0}) Refused
   pub leaves : Leaves answer
+  pub tells : Tells answer
   pub status_is : status ≡ status_of answer
 
 -- the line that tells the numbers of an accepted recording
@@ -43,37 +57,38 @@ module _ {W : Type 0} (out : W → Option (List ℕ)) (failures : W → ℕ) whe
       (AllWritten out failures before after text × (status ≡ done))
       ⊎ (FrontWritten out failures before after text × (status ≡ 4))
 
-  -- An answer is printed: the text of what it gives is sent, and of a refusal nothing goes out.
-  module _ {T E : Type 0} (text : T → List ℕ) (done : T → ℕ) (refused : E → ℕ) where
-    abbrev pub IsPrinted : Result T E → W → W → ℕ → Type 0
-    IsPrinted (Ok given) before after status = IsSent before after (text given) (done given) status
-    IsPrinted (Err because) before after status = (after ≡ before) × (status ≡ refused because)
+  -- The line of what `check` accepts goes out, or a front of it and the writer fails. Of a refusal
+  -- nothing goes out.
+  abbrev pub CheckIsPrinted : Result Checked Refused → W → W → Result (Unit {0}) Refused → Type 0
+  CheckIsPrinted (Ok checked) before after (Ok done) =
+      AllWritten out failures before after (accepted_line checked)
+  CheckIsPrinted (Ok checked) before after (Err WriteFault) =
+      FrontWritten out failures before after (accepted_line checked)
+  CheckIsPrinted (Ok checked) before after (Err refused) = ⊥
+  CheckIsPrinted (Err refused) before after ended = (after ≡ before) × (ended ≡ Err refused)
 
--- the answer of `check` is printed
-abbrev pub CheckIsPrinted : {W : Type 0} → (W → Option (List ℕ)) → (W → ℕ) → Result Checked Refused
-    → W → W → ℕ → Type 0
-CheckIsPrinted out failures = IsPrinted out failures accepted_line (λ checked. 0) refused_status
-
--- What `check` answers of the reader is printed.
-pub record CheckIsTold {R W : Type 0} (left : R → Option (List ℕ)) (given read_failures : R
-    → ℕ) (out : W → Option (List ℕ)) (write_failures : W → ℕ)
-    (limits : Limits) (complete : Bool) (old new : R) (before after : W) (status : ℕ) : Type 0 where
+-- What `check` answers of the reader is printed. Where it is refused, or cannot be printed, that is
+-- told.
+pub record CheckIsTold {R W E : Type 0} (left : R → Option (List ℕ)) (given read_failures : R
+    → ℕ) (out : W → Option (List ℕ)) (write_failures : W → ℕ) (told : E
+    → Option (List ℕ)) (error_failures : E → ℕ)
+    (limits : Limits) (complete : Bool) (old new : R) (before after : W) (silent spoken : E)
+    (status : ℕ) : Type 0 where
   pub answer : Result Checked Refused
   pub checks : Checks left given read_failures limits complete old new answer
-  pub printed : CheckIsPrinted out write_failures answer before after status
-
-module _ {S : Type 0} (out : S → Option (List ℕ)) (failures : S → ℕ) where
-  -- The text went out, or a front of it and the device failed.
-  abbrev pub HasSent : S → S → List ℕ → Type 0
-  HasSent old new text = AllWritten out failures old new text
-      ⊎ FrontWritten out failures old new text
+  pub ended : Result (Unit {0}) Refused
+  pub printed : CheckIsPrinted out write_failures answer before after ended
+  pub tells : IsTold told error_failures silent spoken ended
+  pub status_is : status ≡ status_of ended
 
 module _ {W E : Type 0} (out : W → Option (List ℕ)) (write_failures : W → ℕ) (told : E
     → Option (List ℕ)) (error_failures : E → ℕ) where
-  -- Help goes to the output, and the mistake of a user to the errors.
+  -- Help goes to the output, and the mistake of a user to the errors; and so does the line that
+  -- memory was wanting.
   abbrev pub TellsUsage : UsageFault → W → W → E → E → ℕ → Type 0
   TellsUsage (usage.Help text) before after old new status =
       IsSent out write_failures before after (string_bytes text) 0 status × (new ≡ old)
   TellsUsage (usage.Usage text) before after old new status = (status ≡ 3)
       × HasSent told error_failures old new (string_bytes text) × (after ≡ before)
-  TellsUsage usage.Memory before after old new status = (status ≡ 5) × (after ≡ before)
+  TellsUsage usage.Memory before after old new status = (status ≡ 5)
+      × HasSent told error_failures old new (fault_line (refused_text Memory)) × (after ≡ before)

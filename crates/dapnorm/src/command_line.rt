@@ -1,43 +1,13 @@
 //! Reads the words of a command line with `clap`.
-ghost use Rattle.std.specs.Prelude.{
-  [],
-  ◌≡◌,
-  IfOk,
-  IfErr,
-  Some,
-  true,
-  false,
-  is_some,
-  map,
-  option_map,
-};
-ghost use Rattle.clap.specs.Words.{
-  fault_of as faults_of,
-  app_of,
-  found_of,
-  rows_of,
-  subcommand_of,
-  subcommand_rows_of,
-  takes,
-  kind_of,
-  with_subcommand,
-};
+ghost use Rattle.std.specs.Prelude.{[], ◌≡◌, IfOk, IfErr, Some, true, false, is_some, map};
+ghost use Rattle.std.specs.Prelude.{option_map};
+ghost use Rattle.clap.specs.Words.{fault_of as faults_of, app_of, found_of, rows_of, subcommand_of};
+ghost use Rattle.clap.specs.Words.{subcommand_rows_of, takes, kind_of, with_subcommand};
 ghost use Rattle.clap.specs.declared.Command.TheViews.{out-Command as fields_of};
-ghost use Rattle.dapnorm.specs.CommandLine.{
-  IsCommand,
-  bare,
-  checker,
-  comparer,
-  is_set,
-  plain,
-  job_named,
-  job_of,
-  names_job,
-  program,
-  text_in,
-  told,
-  two_files,
-};
+ghost use Rattle.dapnorm.specs.CommandLine.{IsCommand, IsToldFor, IsToldOf, bare, checker};
+ghost use Rattle.dapnorm.specs.CommandLine.{comparer, is_set, plain};
+ghost use Rattle.dapnorm.specs.CommandLine.{job_named, job_of, names_job, program, text_in, told};
+ghost use Rattle.dapnorm.specs.CommandLine.{two_files};
 ghost use Rattle.dapnorm.specs.declared.jobs.UsageFault.TheVariants.{Memory};
 
 use crate::jobs::{Job, UsageFault};
@@ -191,7 +161,8 @@ fn told_by<'a>(matches: &ArgMatches<'a>) -> Option<Job<'a>>
 
 /// The text for the user: help that was asked for, or a mistake.
 fn fault_of(alloc: Global, error: &Error) -> UsageFault
-    ensures { kind_of error.now ≡ ErrorKind.OutOfMemory → result ≡ Memory }
+    ensures memory { kind_of error.now ≡ ErrorKind.OutOfMemory → result ≡ Memory }
+    ensures told { IsToldOf (kind_of error.now) result }
 {
     if error.kind() == ErrorKind::OutOfMemory {
         return UsageFault::Memory;
@@ -204,7 +175,9 @@ fn fault_of(alloc: Global, error: &Error) -> UsageFault
 }
 
 /// The fault of words that a parse takes and that name no job. No words are known that do.
-fn no_job(alloc: Global) -> UsageFault {
+fn no_job(alloc: Global) -> UsageFault
+    ensures { IsToldFor [] result }
+{
     match String::from_str(alloc, "error: no subcommand was given\n") {
         Ok(text) => UsageFault::Usage(text),
         Err(_) => UsageFault::Memory,
@@ -228,6 +201,11 @@ pub fn job<'a>(alloc: Global, words: &'a [&'a str]) -> Result<Job<'a>, UsageFaul
     ensures err { IfErr result (λ fault. takes program (map (λ w. w.now) words.entry.now) ≡ true
         → names_job (subcommand_of program (map (λ w. w.now) words.entry.now)) ≡ true
         → fault ≡ Memory) }
+
+    // Help is told where that definition finds that the words ask for it, and a mistake where it
+    // finds another error, or no job.
+    ensures told { IfErr result
+        (IsToldFor (faults_of program (map (λ w. w.now) words.entry.now))) }
 {
     let Ok(command) = command(alloc) else {
         return Err(UsageFault::Memory);

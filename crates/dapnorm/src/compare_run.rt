@@ -1,34 +1,24 @@
 //! Compares two inputs, and tells of it what the program tells: lines and a status.
 ghost use Rattle.std.specs.Prelude.{◌≡◌, ◌+◌, ◌<◌, ◌≤◌, ◌^◌};
 ghost use Rattle.std.specs.List.{flat_map};
-ghost use Rattle.dapnorm.specs.ComparingRun.{
-  CompareIsTold,
-  first_line,
-  pair_line,
-  pairs_in,
-  refusal_status,
-  sort_word,
-  verdict_status,
-  verdict_text,
-};
+ghost use Rattle.dapnorm.specs.ComparingRun.{CompareIsTold, first_line, pair_line, pairs_in};
+ghost use Rattle.dapnorm.specs.ComparingRun.{refusal_status, sort_word, verdict_status};
+ghost use Rattle.dapnorm.specs.ComparingRun.{verdict_text};
 ghost use Rattle.dap_device.specs.Device.{HasWrittenAll};
 ghost use Rattle.dap_input.specs.Limits.{AreSound};
 ghost use Rattle.dap_normal.specs.NameTables.{AreReady};
 
+use crate::fault_line::{LINE, tell, tell_of_input};
 use crate::status::{DIFFERENT, DONE, FAULT, MEMORY, refused_status};
 use arrayvec::ArrayString;
 use dap_compare::{CompareRefused, Verdict, compare_with};
-use dap_device::{DeviceFault, Sink, Source, write_all, write_and_flush};
-use dap_input::Limits;
+use dap_device::{DeviceFault, Sink, Source, write_all};
+use dap_input::{Limits, Refused};
 use dap_normal::index_tables;
 use dap_rename::{NameTable, Pair, Tables};
 use dap_tree::Sort;
 use itoa::Buffer;
 use std::alloc::Global;
-use std::fmt::Write;
-
-/// How long a line may be. The longest, of a fault, has 63 bytes.
-const LINE: usize = 128;
 
 /// How a sort is written.
 fn word(sort: Sort) -> &'static str
@@ -106,15 +96,6 @@ fn print<W: Sink>(writer: &mut W, verdict: &Verdict) -> Result<(), DeviceFault>
     writer.flush()
 }
 
-/// Tells a fault in one line, without memory. A failure to write the line is not told.
-fn tell<E: Sink>(errors: &mut E, refused: CompareRefused)
-    requires { E.failures errors.old < 2 ^ 63 }
-{
-    let mut line = ArrayString::<LINE>::new();
-    let _ = writeln!(line, "dapnorm: {refused}");
-    let _ = write_and_flush(errors, line.as_bytes());
-}
-
 /// The status of the program for a verdict.
 fn status(verdict: &Verdict) -> u8
     ensures { result ≡ verdict_status verdict.now }
@@ -160,11 +141,11 @@ pub fn run_compare<A: Source, B: Source, W: Sink, E: Sink>(
     requires write_failures { W.failures writer.old < 2 ^ 62 }
     requires error_failures { E.failures errors.old < 2 ^ 62 }
 
-    // The output is the lines of the verdict, and the status is that of `compare`'s answer or of a
-    // writer that failed.
+    // The output is the lines of the verdict, a refusal is told, and so is a writer that failed;
+    // and the status is that of what was answered or told.
     ensures told { CompareIsTold A.left A.given A.failures B.left B.given B.failures W.out
-        W.failures limits reader_a.old reader_a.new reader_b.old reader_b.new writer.old writer.new
-        result }
+        W.failures E.out E.failures limits reader_a.old reader_a.new reader_b.old reader_b.new
+        writer.old writer.new errors.old errors.new result }
 
     // It takes at most one byte past the limit of each.
     ensures taken_a { A.given reader_a.new ≤ A.given reader_a.old + limits.input + 1 }
@@ -206,22 +187,22 @@ pub fn run_compare_with<A: Source, B: Source, W: Sink, E: Sink, T: NameTable + D
 
     // What `run_compare` promises, whatever the tables are.
     ensures told { CompareIsTold A.left A.given A.failures B.left B.given B.failures W.out
-        W.failures limits reader_a.old reader_a.new reader_b.old reader_b.new writer.old writer.new
-        result }
+        W.failures E.out E.failures limits reader_a.old reader_a.new reader_b.old reader_b.new
+        writer.old writer.new errors.old errors.new result }
     ensures taken_a { A.given reader_a.new ≤ A.given reader_a.old + limits.input + 1 }
     ensures taken_b { B.given reader_b.new ≤ B.given reader_b.old + limits.input + 1 }
 {
     let verdict = match compare_with(alloc, reader_a, reader_b, limits, tables_a, tables_b) {
         Ok(verdict) => verdict,
         Err(refused) => {
-            tell(errors, refused);
+            tell_of_input(errors, refused);
             return refusal_status(refused);
         }
     };
     match print(writer, &verdict) {
         Ok(()) => status(&verdict),
         Err(_) => {
-            let _ = write_and_flush(errors, b"dapnorm: write fault\n");
+            tell(errors, Refused::WriteFault);
             FAULT
         }
     }

@@ -3,6 +3,7 @@
 
 mod command_line;
 mod compare_run;
+mod fault_line;
 mod jobs;
 pub mod laws;
 mod run_job;

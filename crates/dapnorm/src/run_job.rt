@@ -6,17 +6,12 @@ ghost use Rattle.dap_input.specs.Limits.{AreSound};
 ghost use Rattle.dap_input.specs.Refusals.{IsRefused};
 ghost use Rattle.dap_normal.specs.NameTables.{AreReady};
 ghost use Rattle.dap_normal.specs.Streaming.{Streams};
-ghost use Rattle.dapnorm.specs.Run.{
-  Answered,
-  CheckIsPrinted,
-  CheckIsTold,
-  accepted_line,
-  TellsUsage,
-  status_of,
-};
+ghost use Rattle.dapnorm.specs.Run.{Answered, CheckIsPrinted, CheckIsTold, IsTold};
+ghost use Rattle.dapnorm.specs.Run.{TellsUsage, accepted_line, status_of};
 ghost use Rattle.dap_show.specs.Showing.{IsShownBy, showing};
 ghost use Rattle.dap_trace.specs.TracingRun.{RecordsTrace};
 
+use crate::fault_line::{LINE, tell};
 use crate::jobs::{Job, UsageFault};
 use crate::status::{DONE, FAULT, MEMORY, USAGE, refused_status};
 use arrayvec::ArrayString;
@@ -29,11 +24,6 @@ use dap_show::show;
 use dap_trace::record;
 use itoa::Buffer;
 use std::alloc::Global;
-use std::fmt::Write;
-
-/// How long a line may be. The longest of a fault has 79 bytes, and that of an accepted recording
-/// 85.
-const LINE: usize = 128;
 
 /// The status of the program for an engine's answer.
 fn status(answer: Result<(), Refused>) -> u8
@@ -45,13 +35,16 @@ fn status(answer: Result<(), Refused>) -> u8
     }
 }
 
-/// Tells a fault in one line, without memory. A failure to write the line is not told.
-fn tell<E: Sink>(errors: &mut E, refused: Refused)
+/// Tells a refusal in one line, and answers the program's status.
+fn tell_answer<E: Sink>(errors: &mut E, answer: Result<(), Refused>) -> u8
     requires { E.failures errors.old < 2 ^ 63 }
+    ensures told { IsTold E.out E.failures errors.old errors.new answer }
+    ensures status { result ≡ status_of answer }
 {
-    let mut line = ArrayString::<LINE>::new();
-    let _ = writeln!(line, "dapnorm: {refused}");
-    let _ = write_and_flush(errors, line.as_bytes());
+    if let Err(refused) = answer {
+        tell(errors, refused);
+    }
+    status(answer)
 }
 
 /// The line of an accepted recording, with its LF. It takes no memory.
@@ -73,7 +66,7 @@ fn accepted_line(checked: &Checked) -> ArrayString<LINE>
 /// Prints the line of an accepted recording.
 fn print<W: Sink>(writer: &mut W, answer: Result<Checked, Refused>) -> Result<(), Refused>
     requires { W.failures writer.old < 2 ^ 62 }
-    ensures { CheckIsPrinted W.out W.failures answer writer.old writer.new (status_of result) }
+    ensures { CheckIsPrinted W.out W.failures answer writer.old writer.new result }
 {
     let line = accepted_line(&answer?);
     match write_and_flush(writer, line.as_bytes()) {
@@ -105,31 +98,36 @@ pub fn run_stream<R: Source, W: Sink, E: Sink>(
     requires write_failures { W.failures writer.old < 2 ^ 62 }
     requires error_failures { E.failures errors.old < 2 ^ 62 }
 
-    // The output is what the engine writes, and the status that of its answer.
+    // The output is what the engine writes, a refusal is told, and the status is that of the
+    // answer.
     ensures compact { job.now ≡ Job.Compact
         → Answered (Answers R.left R.failures W.out W.failures limits.input (Compacts limits)
-        (IsRefused (compacting limits)) reader.old reader.new writer.old writer.new) result }
+        (IsRefused (compacting limits)) reader.old reader.new writer.old writer.new)
+        (IsTold E.out E.failures errors.old errors.new) result }
 
     // The output is the records that `record` writes, and the status that of its answer.
     ensures record_trace { job.now ≡ Job.Record
         → Answered (RecordsTrace R.left R.failures W.out W.failures limits reader.old reader.new
-        writer.old writer.new) result }
+        writer.old writer.new)
+        (IsTold E.out E.failures errors.old errors.new) result }
 
     // The output is the normal text that `normalise` writes, and the status that of its answer.
     ensures normalise { job.now ≡ Job.Normalise
         → Answered (Streams R.left R.given R.failures W.out W.failures limits reader.old reader.new
-        writer.old writer.new) result }
+        writer.old writer.new)
+        (IsTold E.out E.failures errors.old errors.new) result }
 
     // The output is the line of what `check` accepts, and the status that of its answer or of a
     // writer that failed.
     ensures check { (complete : Bool) → job.now ≡ Job.Check complete
-        → CheckIsTold R.left R.given R.failures W.out W.failures limits complete reader.old
-        reader.new writer.old writer.new result }
+        → CheckIsTold R.left R.given R.failures W.out W.failures E.out E.failures limits complete
+        reader.old reader.new writer.old writer.new errors.old errors.new result }
 
     // The output is the lines that `show` writes, and the status that of its answer.
     ensures show { job.now ≡ Job.Show
         → Answered (Answers R.left R.failures W.out W.failures limits.input (IsShownBy limits)
-        (IsRefused (showing limits)) reader.old reader.new writer.old writer.new) result }
+        (IsRefused (showing limits)) reader.old reader.new writer.old writer.new)
+        (IsTold E.out E.failures errors.old errors.new) result }
 
     // It takes at most one byte past the limit.
     ensures taken { R.given reader.new ≤ R.given reader.old + limits.input + 1 }
@@ -167,19 +165,23 @@ pub fn run_stream_with<R: Source, W: Sink, E: Sink, T: NameTable + Drop>(
     // What `run_stream` promises, whatever the tables are.
     ensures compact { job.now ≡ Job.Compact
         → Answered (Answers R.left R.failures W.out W.failures limits.input (Compacts limits)
-        (IsRefused (compacting limits)) reader.old reader.new writer.old writer.new) result }
+        (IsRefused (compacting limits)) reader.old reader.new writer.old writer.new)
+        (IsTold E.out E.failures errors.old errors.new) result }
     ensures record_trace { job.now ≡ Job.Record
         → Answered (RecordsTrace R.left R.failures W.out W.failures limits reader.old reader.new
-        writer.old writer.new) result }
+        writer.old writer.new)
+        (IsTold E.out E.failures errors.old errors.new) result }
     ensures normalise { job.now ≡ Job.Normalise
         → Answered (Streams R.left R.given R.failures W.out W.failures limits reader.old reader.new
-        writer.old writer.new) result }
+        writer.old writer.new)
+        (IsTold E.out E.failures errors.old errors.new) result }
     ensures check { (complete : Bool) → job.now ≡ Job.Check complete
-        → CheckIsTold R.left R.given R.failures W.out W.failures limits complete reader.old
-        reader.new writer.old writer.new result }
+        → CheckIsTold R.left R.given R.failures W.out W.failures E.out E.failures limits complete
+        reader.old reader.new writer.old writer.new errors.old errors.new result }
     ensures show { job.now ≡ Job.Show
         → Answered (Answers R.left R.failures W.out W.failures limits.input (IsShownBy limits)
-        (IsRefused (showing limits)) reader.old reader.new writer.old writer.new) result }
+        (IsRefused (showing limits)) reader.old reader.new writer.old writer.new)
+        (IsTold E.out E.failures errors.old errors.new) result }
     ensures taken { R.given reader.new ≤ R.given reader.old + limits.input + 1 }
 {
     let answer = match *job {
@@ -193,10 +195,7 @@ pub fn run_stream_with<R: Source, W: Sink, E: Sink, T: NameTable + Drop>(
         Job::Show => show(alloc, reader, writer, limits),
         Job::Compare { .. } => unreachable!(),
     };
-    if let Err(refused) = answer {
-        tell(errors, refused);
-    }
-    status(answer)
+    tell_answer(errors, answer)
 }
 
 /// Tells the user why the words were no job, and answers the program's status.

@@ -37,6 +37,15 @@ fn whole_numbers(rt: HostRuntime) {
     }
 }
 
+static NINES: [u8; 400] = [b'9'; 400];
+
+#[test]
+fn integers_of_many_digits(rt: HostRuntime) {
+    let alloc = rt.alloc();
+    assert!(rt; read_tree(alloc, &NINES[..300]).err() == Some(TreeFault::Fraction));
+    assert!(rt; read_tree(alloc, &NINES).err() == Some(TreeFault::Json));
+}
+
 const CONTENTS: [Reading; 5] = [
     (b" [ 0 ]\n", Ok("[0]")),
     (b"", Err(TreeFault::Json)),

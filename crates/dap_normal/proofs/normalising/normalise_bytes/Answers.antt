@@ -6,7 +6,8 @@ use Rattle.dap_normal.specs.JudgingSteps.{record_of}
 use Rattle.dap_normal.specs.Normalised.{HoldsSome}
 use Rattle.dap_normal.proofs.JudgedRecords.{text_push}
 use Rattle.dap_normal.proofs.StreamAnswers.{ended, gone}
-use Rattle.dap_normal.proofs.StreamLoop.{nothing_came, on}
+use Rattle.dap_input.proofs.Coming.{nothing_came}
+use Rattle.dap_normal.proofs.StreamLoop.{on}
 use Rattle.dap_normal.proofs.WholeInput.{canonical_whole, given_by, holds_of, left_in, no_failures}
 use Rattle.dap_normal.proofs.WholeInput.{normalised_whole, refuses_bytes, start}
 use Rattle.dap_normal.proofs.normalising.normalise_bytes.Goals as goal

@@ -4,7 +4,7 @@ use Rattle.serde_json.specs.View.{view as value_view}
 use Rattle.dap_tree.specs.Doc.{is_plain}
 use Rattle.dap_tree.specs.Json.{IsRead, Stands}
 use Rattle.dap_tree.specs.View.{view}
-use Rattle.dap_tree.proofs.Outcomes.{read_is_plain, answers}
+use Rattle.dap_tree.proofs.Outcomes.{read_is_plain, answers, some_byte}
 use Rattle.dap_tree.proofs.read.read_tree.Goals as goal
 
 pub returns-in-Ok-clause-ok : goal.returns-in-Ok-clause-ok
@@ -26,3 +26,7 @@ pub returns-in-Ok-clause-exactly : goal.returns-in-Ok-clause-exactly
 returns-in-Ok-clause-exactly c =
     λ o has. answers c.args.content.now (value_view c.in-Ok.value) c.tree_of.result o
     c.in-Ok.ensures.ok c.tree_of.ensures.ok c.tree_of.ensures.err has
+
+pub returns-in-Ok-clause-memory : goal.returns-in-Ok-clause-memory
+returns-in-Ok-clause-memory c =
+    λ _. some_byte c.args.content.now (value_view c.in-Ok.value) c.in-Ok.ensures.ok.1

@@ -1,14 +1,16 @@
-use Rattle.std.proofs.Common.{ap, map, is_some, option_map, sym, true≢false, ◌∙◌}
+use Rattle.std.proofs.Common.{ap, map, is_some, option_map, refl, subst, sym, true≢false, ◌∙◌}
 use Rattle.clap.specs.Simple.{is_simple}
-use Rattle.clap.specs.Words.{subcommand_of, takes}
+use Rattle.clap.specs.Words.{HasKind, fault_of as faults_of, is_simple_and_free, subcommand_of}
+use Rattle.clap.specs.Words.{takes}
 use Rattle.clap.proofs.WalkLemmas.{both}
-use Rattle.dapnorm.specs.CommandLine.{job_named, program, told}
+use Rattle.dapnorm.specs.CommandLine.{IsToldFor, job_named, program, told}
 use Rattle.dapnorm.proofs.CommandFiles.{takes_job}
+use Rattle.dapnorm.proofs.ToldWords.{told_for}
 use Rattle.dapnorm.proofs.command_line.job.Goals as goal
 
 pub returns-clause-err : goal.returns-clause-err
 returns-clause-err c = λ taken named.
-    c.fault_of.ensures (c.in-Err.ensures.passes
+    c.fault_of.ensures.memory (c.in-Err.ensures.passes
     (ap (λ a. takes a (map (λ w. w.now) c.args.words.now)) c.in-Ok.ensures ∙ taken))
 
 -- words that a parse takes with a subcommand name a job
@@ -22,3 +24,20 @@ returns-in-Ok-try_get_matches_from-clause-err c = λ taken named.
     ∙ ap (option_map told) c.in-None.is in
     absurd (true≢false (sym (takes_job (map (λ w. w.now) c.args.words.now) taken named)
     ∙ ap is_some none))
+
+pub returns-clause-told : goal.returns-clause-told
+returns-clause-told c =
+    let words = map (λ w. w.now) c.args.words.now in
+    let kinds = c.in-Err.ensures.kinds (ap is_simple_and_free c.in-Ok.ensures ∙ refl) in
+    told_for (faults_of program words) c.in-Err.error c.fault_of.result
+    (subst (λ a. HasKind (faults_of a words) c.in-Err.error) c.in-Ok.ensures kinds)
+    c.fault_of.ensures.memory c.fault_of.ensures.told
+
+pub returns-in-Ok-try_get_matches_from-clause-told :
+    goal.returns-in-Ok-try_get_matches_from-clause-told
+returns-in-Ok-try_get_matches_from-clause-told c =
+    let words = map (λ w. w.now) c.args.words.now in
+    let none = c.in-Ok-try_get_matches_from.ensures.kinds
+    (ap is_simple_and_free c.in-Ok.ensures ∙ refl) in
+    subst (λ kinds. IsToldFor kinds c.no_job.result)
+    (sym (ap (λ a. faults_of a words) (sym c.in-Ok.ensures) ∙ none)) c.no_job.ensures

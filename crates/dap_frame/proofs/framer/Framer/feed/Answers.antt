@@ -44,7 +44,7 @@ returns-in_default-clause-memory_for_content c = λ memory rest stands.
     subst (λ l. HasContentByte l (rest ++ c.args.piece.now)) limits
     (content_byte c.self.inside.limits c.self.inside.bytes.items rest c.args.piece.now
     c.in-Ok-Ended.header_len c.in-Ok-Ended.content_len c.in-Ok-Ended.used
-    (begun c.self.inside.bytes.items rest kept) some)
+    (begun c.self.inside.bytes.items rest kept) (omega (arith, c.in_default.ensures.wanted)) some)
 
 pub returns-clause-gives : goal.returns-clause-gives
 returns-clause-gives c = λ rest stands.

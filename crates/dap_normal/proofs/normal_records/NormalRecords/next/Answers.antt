@@ -1,6 +1,7 @@
 use Rattle.std.proofs.Common.{Ok, subst}
 use Rattle.std.proofs.lemmas.Result.{err_from_is_err_and}
-use Rattle.dap_normal.specs.RecordSteps.{ReadsNext}
+use Rattle.dap_input.specs.ItemReading.{StandsForRecord, record_items}
+use Rattle.dap_input.specs.RecordSteps.{ReadsNext}
 use Rattle.dap_normal.proofs.NormalRecordSteps.{refused_read, none_left, refused_judge, gone_on}
 use Rattle.dap_normal.proofs.normal_records.NormalRecords.next.Goals as goal
 
@@ -17,9 +18,9 @@ returns-in_default g c = λ limits bytes messages normal was.
     none_left g.R.Source.left g.R.Source.given g.R.Source.failures limits bytes c.args.self.now
     messages normal was c.next.new.self c.args.reader.now c.next.new.reader
     c.args.text.now.items
-    (subst (λ o. ReadsNext g.R.Source.left g.R.Source.given g.R.Source.failures limits.frame
-    c.args.self.now.records c.next.new.self c.args.reader.now c.next.new.reader (Ok o))
-    c.in_default.is
+    (subst (λ o. ReadsNext (record_items limits.frame) (StandsForRecord limits.frame)
+    g.R.Source.left g.R.Source.given g.R.Source.failures c.args.self.now.records c.next.new.self
+    c.args.reader.now c.next.new.reader (Ok o)) c.in_default.is
     (c.in_ok-whole.ensures limits.frame was.between))
 
 pub returns-in_err-judge : goal.returns-in_err-judge
@@ -28,9 +29,9 @@ returns-in_err-judge g c = λ limits bytes messages normal was.
     err_from_is_err_and c.from_residual-in_err-judge.result
     c.from_residual-in_err-judge.ensures.1 in
     let read = subst
-    (λ o. ReadsNext g.R.Source.left g.R.Source.given g.R.Source.failures limits.frame
-    c.args.self.now.records c.next.new.self c.args.reader.now c.next.new.reader (Ok o))
-    c.in-Some.is
+    (λ o. ReadsNext (record_items limits.frame) (StandsForRecord limits.frame) g.R.Source.left
+    g.R.Source.given g.R.Source.failures c.args.self.now.records c.next.new.self
+    c.args.reader.now c.next.new.reader (Ok o)) c.in-Some.is
     (c.in_ok-whole.ensures limits.frame was.between) in
     rw (because.1, because.2)
     (refused_judge g.R.Source.left g.R.Source.given g.R.Source.failures limits bytes c.args.self.now
@@ -41,9 +42,9 @@ returns-in_err-judge g c = λ limits bytes messages normal was.
 pub returns : goal.returns
 returns g c = λ limits bytes messages normal was.
     let read = subst
-    (λ o. ReadsNext g.R.Source.left g.R.Source.given g.R.Source.failures limits.frame
-    c.args.self.now.records c.next.new.self c.args.reader.now c.next.new.reader (Ok o))
-    c.in-Some.is
+    (λ o. ReadsNext (record_items limits.frame) (StandsForRecord limits.frame) g.R.Source.left
+    g.R.Source.given g.R.Source.failures c.args.self.now.records c.next.new.self
+    c.args.reader.now c.next.new.reader (Ok o)) c.in-Some.is
     (c.in_ok-whole.ensures limits.frame was.between) in
     gone_on g.R.Source.left g.R.Source.given g.R.Source.failures limits bytes c.args.self.now
     messages normal was c.next.new.self c.args.reader.now c.next.new.reader c.in-Some.whole read

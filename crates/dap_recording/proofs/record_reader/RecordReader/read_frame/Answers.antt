@@ -1,6 +1,7 @@
 use Rattle.std.proofs.Common.{◌≡◌, ◌∷◌, ◌++◌, Err, take, drop, refl, sym, ap, ◌∙◌, subst, arith}
 use Rattle.std.proofs.lemmas.List.{take_rest}
-use Rattle.dap_frame.specs.Frame.{IsFrame}
+use Rattle.dap_frame.specs.Frame.{IsFrame, HasContentByte}
+use Rattle.dap_frame.specs.declared.fault.FrameFault.TheVariants.{Memory}
 use Rattle.dap_frame.specs.Reading.{Stands, GivesFault, limits_of}
 use Rattle.dap_recording.specs.Marker.{marker}
 use Rattle.dap_recording.specs.RecordReading.{RecordReading}
@@ -22,11 +23,17 @@ returns-in-Err-clause-gives c = λ number bytes rest num stands front was.
     let its = subst
     (λ framer. GivesFault (limits_of framer) rest (drop c.args.from c.args.piece.now)
     c.in-Err.fault c.feed.new.self) same gives in
+    let content : c.in-Err.fault ≡ Memory
+    → HasContentByte (record_limits c.args.self.now) (rest ++ drop c.args.from c.args.piece.now) =
+    λ e. subst
+    (λ framer. HasContentByte (limits_of framer) (rest ++ drop c.args.from c.args.piece.now)) same
+    (rw (take_rest c.args.piece.now c.args.from) at (c.in-Err.ensures.memory_for_content (ap Err e)
+    rest (subst (λ framer. Stands framer rest) (sym same) stands))) in
     frame_faults (record_limits c.args.self.now) number bytes c.args.piece.now rest c.args.side
     c.args.from c.in-Err.fault c.frame_fault.result
     (reader_at c.feed.new.self c.self.inside.state c.self.inside.number) c.frame_fault.new.self
     c.feed.new.self
-    front its (c.frame_fault.ensures.number ∙ count) c.frame_fault.ensures.memory
+    front its content (c.frame_fault.ensures.number ∙ count) c.frame_fault.ensures.memory
     (λ e. subst (λ reader. StandsFor reader number bytes)
     (sym (ap (λ framer. reader_at framer c.self.inside.state c.self.inside.number)
     (c.in-Err.ensures.memory (ap Err e)) ∙ c.self.view_is)) was)

@@ -19,3 +19,7 @@ returns-in-Ok-clause-says c = λ ms s. (
   subst (λ (k : Kept). Stands k (ms ++ (sent c.args.message.now) ∷ [])) (sym c.in-Ok.ensures.ok)
       (stands_push c.args.self.now ms (sent c.args.message.now) s (sym c.in_default.ensures)),
 )
+
+pub returns-in-Err-clause-in_rules : goal.returns-in-Err-clause-in_rules
+returns-in-Err-clause-in_rules c = λ _ ms s.
+    sym (judged_is c.args.self.now ms (sent c.args.message.now) s) ∙ sym c.in_default.ensures

@@ -1,0 +1,43 @@
+-- What the steps of `compare` do.
+use Rattle.std.specs.Prelude.{◌≡◌, ◌⊎◌, ℕ, ℤ, Bool, true, false, List, [], Option, Result, Ok, Err}
+use Rattle.dap_message.specs.Message.{Sent}
+use Rattle.dap_input.specs.declared.limits.Limits.{Limits}
+use Rattle.dap_input.specs.declared.refused.Refused.{Refused}
+use Rattle.dap_input.specs.declared.refused.Refused.TheVariants as why
+use Rattle.dap_normal.specs.declared.normal_records.NormalRecords.{NormalRecords}
+use Rattle.dap_normal.specs.NormalSteps.{HasNext, HasStoppedAt}
+use Rattle.dap_compare.specs.declared.comparing.NextRecords.{NextRecords}
+use Rattle.dap_compare.specs.declared.comparing.NextRecords.TheVariants.{Alike, Apart, NoneLeft}
+use Rattle.dap_compare.specs.declared.verdict.CompareRefused.{CompareRefused}
+use Rattle.dap_compare.specs.declared.verdict.CompareRefused.TheVariants as because
+use Rattle.dap_compare.specs.declared.verdict.Which.{Which}
+
+-- It is the refusal of this input. That memory was refused is nobody's.
+abbrev pub IsRefusalOf : Which → Refused → CompareRefused → Type 0
+IsRefusalOf which refused refusal = (refused ≡ why.Memory → refusal ≡ because.Memory)
+    × ((refused ≡ why.Memory → ⊥) → refusal ≡ because.Input which refused)
+
+module _ {T R : Type 0} (numbers : T → List ℤ) (table_limit : T → ℕ) (left : R → Option (List ℕ))
+    (given failures : R → ℕ) (limits : Limits) (bytes : List ℕ) (messages normal : List Sent)
+    (old new : NormalRecords T) (before after : R) where
+  -- The next record has come, of which the text is this, or none is left; or it is told as a
+  -- refusal of this input that it is refused or cannot be read.
+  abbrev pub TellsNext : Which → List ℕ → Result Bool CompareRefused → Type 0
+  TellsNext which text (Ok some) =
+      HasNext numbers table_limit left given failures limits bytes messages normal old new before
+      after [] text (Ok some)
+  TellsNext which text (Err refusal) =
+      (refused : Refused)
+      × HasStoppedAt numbers table_limit left given failures limits bytes messages normal old new
+      before after refused
+      × IsRefusalOf which refused refusal
+
+-- What the next records are to each other: whether each input has one, and their texts.
+abbrev pub AreNext : Bool → Bool → List ℕ → List ℕ → NextRecords → Type 0
+AreNext some_a some_b text_a text_b Alike =
+    (some_a ≡ true) × (some_b ≡ true) × (text_a ≡ text_b)
+AreNext some_a some_b text_a text_b Apart =
+    ((some_a ≡ true) × (some_b ≡ false))
+    ⊎ (((some_a ≡ false) × (some_b ≡ true))
+    ⊎ ((some_a ≡ true) × (some_b ≡ true) × (text_a ≡ text_b → ⊥)))
+AreNext some_a some_b text_a text_b NoneLeft = (some_a ≡ false) × (some_b ≡ false)

@@ -1,0 +1,121 @@
+-- Framers and readers of records, as readers of items.
+use Rattle.std.proofs.Common.{◌≡◌, ◌≢◌, inl, inr, ℕ, ◌≤◌, List, [], ◌++◌, length, take, Option}
+use Rattle.std.proofs.Common.{Some, None, Err, sym, ◌∙◌, subst}
+use Rattle.std.specs.Prelude.{MatchOption}
+use Rattle.dap_items.specs.Items.{IsItem}
+use Rattle.dap_items.specs.Items as items
+use Rattle.dap_items.proofs.Then.{shows_as}
+use Rattle.dap_frame.specs.Frame.{IsFrame, frames}
+use Rattle.dap_frame.specs.Reading.{GivesFault, Reading, Stands, limits_of}
+use Rattle.dap_frame.specs.declared.fault.FrameFault.{FrameFault}
+use Rattle.dap_frame.specs.declared.fault.FrameFault.TheVariants.{Memory as NoRoom}
+use Rattle.dap_frame.specs.declared.limits.FrameLimits.{FrameLimits}
+use Rattle.dap_recording.proofs.Records.{fault_of}
+use Rattle.dap_recording.specs.RecordReading.{GivesRecordFault, RecordReading, StandsFor}
+use Rattle.dap_recording.specs.RecordReading.{next_number, record_limits}
+use Rattle.dap_recording.specs.Recording.{IsRecord, ShowsFault}
+use Rattle.dap_recording.specs.declared.record.Record.{Record as WholeRecord}
+use Rattle.dap_recording.specs.declared.record_fault.RecordCause.{RecordCause}
+use Rattle.dap_recording.specs.declared.record_fault.RecordCause.TheVariants.{Cut, Frame, Memory}
+use Rattle.dap_recording.specs.declared.record_fault.RecordFault.{RecordFault}
+use Rattle.dap_input.proofs.Refusals.{IsShownCause}
+use Rattle.dap_input.specs.ItemReading.{GivesItem, StandsForFrame, StandsForRecord, frame_items}
+use Rattle.dap_input.specs.ItemReading.{record_items}
+
+-- Bytes show neither that a recording ends too early nor want of memory.
+pub shown_cause : (limits : FrameLimits) (bytes : List ℕ) (why : RecordCause) (place : ℕ)
+    → ShowsFault limits bytes why place → IsShownCause why
+shown_cause limits bytes why place shows =
+    elim (fault_of limits shows.front why shows.ends) [
+      | inl is ↦ subst IsShownCause (sym is) tt
+      | inr other ↦ elim other [
+        | inl is ↦ subst IsShownCause (sym is) tt
+        | inr is ↦ subst IsShownCause (sym is.2) tt
+      ]
+    ]
+
+-- ---- framers
+
+module _ (limits : FrameLimits) (bytes piece : List ℕ) (old new : Reading)
+    (was : StandsForFrame limits old bytes) where
+  -- What a framer took is an item, or its front.
+  pub frame_fed : (used : ℕ) (ended : Option (List ℕ))
+      → ((rest : List ℕ) → Stands old rest → (used ≤ length piece) × MatchOption ended
+      ((used ≡ length piece) × Stands new (rest ++ piece))
+      (λ content. IsFrame (limits_of old) (rest ++ take used piece) content × Stands new []))
+      → limits_of new ≡ limits_of old
+      → MatchOption ended
+      ((used ≡ length piece) × StandsForFrame limits new (bytes ++ piece))
+      (λ content. IsItem (frame_items limits) (bytes ++ take used piece) content
+      × StandsForFrame limits new [])
+  frame_fed used None gives same =
+      let fed = (gives bytes was.1).1 in (fed.0, (same ∙ was.0, fed.1))
+  frame_fed used (Some content) gives same =
+      let fed = (gives bytes was.1).1 in (
+        subst (λ l. IsFrame l (bytes ++ take used piece) content) was.0 fed.0,
+        (same ∙ was.0, fed.1),
+      )
+
+  -- A fault that it told is one that the bytes show.
+  pub frame_fault : (fault : FrameFault) → fault ≢ NoRoom
+      → ((rest : List ℕ) → Stands old rest → GivesFault (limits_of old) rest piece fault new)
+      → (place : ℕ) × items.Shows (frame_items limits) (bytes ++ piece) (Frame fault) place
+  frame_fault fault other gives =
+      let told = (gives bytes was.1).shown other in (
+        told.0,
+        subst (λ l. items.Shows (frame_items l) (bytes ++ piece) (Frame fault) told.0) was.0
+            (shows_as Frame (frames (limits_of old)) (bytes ++ piece) fault told.0 told.1),
+      )
+
+-- ---- readers of records
+
+module _ (limits : FrameLimits) (bytes piece : List ℕ) (old new : RecordReading)
+    (was : StandsForRecord limits old bytes) where
+  -- What a reader took is an item, or its front.
+  pub record_fed : (used : ℕ) (ended : Option WholeRecord)
+      → ((number : ℕ) (held : List ℕ) → StandsFor old number held → (used ≤ length piece)
+      × MatchOption ended
+      ((used ≡ length piece) × StandsFor new number (held ++ piece))
+      (λ whole. IsRecord (record_limits old) (held ++ take used piece) whole.side whole.content
+      × StandsFor new (next_number number) []))
+      → record_limits new ≡ record_limits old
+      → MatchOption ended
+      ((used ≡ length piece) × StandsForRecord limits new (bytes ++ piece))
+      (λ whole. IsItem (record_items limits) (bytes ++ take used piece) whole
+      × StandsForRecord limits new [])
+  record_fed used None gives same =
+      let fed = (gives was.1.0 bytes was.1.1).1 in (fed.0, (same ∙ was.0, (was.1.0, fed.1)))
+  record_fed used (Some whole) gives same =
+      let fed = (gives was.1.0 bytes was.1.1).1 in (
+        subst (λ l. IsRecord l (bytes ++ take used piece) whole.side whole.content) was.0 fed.0,
+        (same ∙ was.0, (next_number was.1.0, fed.1)),
+      )
+
+  -- A fault that it told is one that the bytes show.
+  pub record_fault : (fault : RecordFault)
+      → ((number : ℕ) (held : List ℕ) → StandsFor old number held
+      → GivesRecordFault (record_limits old) number held piece fault new)
+      → GivesItem (record_items limits) (StandsForRecord limits) bytes piece (Err fault.cause) new
+  record_fault fault gives =
+      by_cause fault.cause (λ other. subst (λ l. (place : ℕ)
+      × ShowsFault l (bytes ++ piece) fault.cause place) was.0
+      ((gives was.1.0 bytes was.1.1).shown other))
+    where
+      by_cause : (why : RecordCause)
+          → (why ≢ Memory → (place : ℕ) × ShowsFault limits (bytes ++ piece) why place)
+          → GivesItem (record_items limits) (StandsForRecord limits) bytes piece (Err why) new
+      by_cause Memory shown = tt
+      by_cause Cut shown =
+          let told = shown (λ same. absurd (let e = same in cc)) in
+          shown_cause limits (bytes ++ piece) Cut told.0 told.1
+      by_cause why shown =
+          let told = shown (λ same. absurd (let e = same in cc)) in (
+            told.0,
+            record {
+              front = told.1.front;
+              more = told.1.more;
+              bytes_are = told.1.bytes_are;
+              ends = told.1.ends;
+              place = told.1.place;
+            },
+          )

@@ -1,0 +1,49 @@
+-- What an engine has read and found that judges an input record by record. Source: own.
+use Rattle.std.specs.Prelude.{◌≡◌, ℕ, List, length, Option, Some, None, is_some, Result, Ok, Err}
+use Rattle.dap_device.specs.Pieces.{HasComeSoFar}
+use Rattle.dap_device.specs.declared.reading.Stop.{Stop}
+use Rattle.dap_device.specs.declared.reading.Stop.TheVariants.{End}
+use Rattle.dap_recording.specs.declared.record_fault.RecordCause.TheVariants.{Cut}
+use Rattle.dap_input.specs.Judging.{Judging}
+use Rattle.dap_input.specs.ReadTo.{so_far}
+use Rattle.dap_input.specs.RecordSteps.{IsWithin}
+use Rattle.dap_input.specs.Refusals.{RefusesAt}
+use Rattle.dap_input.specs.declared.records.Records.{Records}
+use Rattle.dap_input.specs.declared.refused.Refused.{Refused}
+use Rattle.dap_input.specs.declared.refused.Refused.TheVariants.{Record, Memory}
+
+-- what a refusal at this record says of the bytes that have come; that memory was refused says
+-- nothing of them
+abbrev pub Says : Judging → List ℕ → Option Stop → ℕ → Refused → Type 0
+Says j bytes stop number Memory = Unit {0}
+Says j bytes stop number refused = RefusesAt j (so_far bytes stop) number refused
+
+module _ {R : Type 0} (j : Judging) (left : R → Option (List ℕ)) (given failures : R → ℕ) where
+  -- The source came to its end, and what it gave is accepted as these values.
+  pub record AcceptsAll (old new : R) (values : List j.Value) : Type 0 where
+    pub whole : List ℕ
+    pub came : HasComeSoFar left given failures old new whole (Some End)
+    pub within : IsWithin (length whole) j.input (Some End)
+    pub accepted : j.IsAccepted whole values
+
+  -- So much has come of the input, and a record of it is refused or cannot be read. That it is cut
+  -- is told only where the source came to its end.
+  pub record RefusesOne {I : Type 0} (old new : R) (records : Records I)
+      (refused : Refused) : Type 0 where
+    pub bytes : List ℕ
+    pub stop : Option Stop
+    pub came : HasComeSoFar left given failures old new bytes stop
+    pub within : IsWithin (length bytes) j.input stop
+    pub over : records.is_over ≡ is_some stop
+    pub taken : stop ≡ None → records.pieces.taken ≡ length bytes
+    pub limit_is : records.pieces.limit ≡ j.input
+    pub number : ℕ
+    pub says : Says j bytes stop number refused
+    pub cut : (n : ℕ) → refused ≡ Record n Cut → stop ≡ Some End
+
+  -- The text of the values of all records is made, or one record is refused.
+  abbrev pub JudgesAll : {I T : Type 0} → (List j.Value → List ℕ) → (T → List ℕ) → R → R
+      → Records I → Result T Refused → Type 0
+  JudgesAll text bytes_of old new records (Ok out) =
+      (values : List j.Value) × AcceptsAll old new values × (bytes_of out ≡ text values)
+  JudgesAll text bytes_of old new records (Err refused) = RefusesOne old new records refused

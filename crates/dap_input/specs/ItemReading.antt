@@ -1,0 +1,50 @@
+-- What a reader of items gives, whatever an item is, and what the items of the readers are.
+use Rattle.std.specs.Prelude.{◌≡◌, ℕ, List, [], ◌++◌, length, take, Result, Ok, Err, MatchOption}
+use Rattle.dap_items.specs.Items.{Items, IsItem, Shows}
+use Rattle.dap_items.specs.Then.{faults_as}
+use Rattle.dap_frame.specs.declared.limits.FrameLimits.{FrameLimits}
+use Rattle.dap_frame.specs.Frame.{frames}
+use Rattle.dap_frame.specs.Reading.{Reading, Stands, limits_of}
+use Rattle.dap_recording.specs.Recording.{IsRecord, IsOpenRecord, records}
+use Rattle.dap_recording.specs.RecordReading.{RecordReading, StandsFor, record_limits}
+use Rattle.dap_recording.specs.declared.record.Record.{Record as WholeRecord}
+use Rattle.dap_recording.specs.declared.record_fault.RecordCause.{RecordCause}
+use Rattle.dap_recording.specs.declared.record_fault.RecordCause.TheVariants.{Cut, Frame, Memory}
+use Rattle.dap_input.specs.declared.item_reader.FedItem.{FedItem}
+
+module _ {S A : Type 0} (g : Items A RecordCause) (stands : S → List ℕ → Type 0) where
+  -- What was taken of a piece by a reader that stood for these bytes: the whole piece, for which it
+  -- then stands too; or up to the end of an item, and it then stands for no bytes of the next.
+  abbrev pub GivesFedItem : List ℕ → List ℕ → FedItem A → S → Type 0
+  GivesFedItem bytes piece fed new = MatchOption fed.item
+      ((fed.used ≡ length piece) × stands new (bytes ++ piece))
+      (λ item. IsItem g (bytes ++ take fed.used piece) item × stands new [])
+
+  -- The same, or a fault that the bytes and the piece show: no piece shows that an input ends too
+  -- early. That memory was refused tells nothing.
+  abbrev pub GivesItem : List ℕ → List ℕ → Result (FedItem A) RecordCause → S → Type 0
+  GivesItem bytes piece (Ok fed) new = GivesFedItem bytes piece fed new
+  GivesItem bytes piece (Err Memory) new = Unit {0}
+  GivesItem bytes piece (Err Cut) new = ⊥
+  GivesItem bytes piece (Err cause) new = (place : ℕ) × Shows g (bytes ++ piece) cause place
+
+-- frames as items, with their faults told as those of records
+abbrev pub frame_items : FrameLimits → Items (List ℕ) RecordCause
+frame_items limits = faults_as Frame (frames limits)
+
+-- The framer, made with these limits, stands for these bytes of a frame.
+abbrev pub StandsForFrame : FrameLimits → Reading → List ℕ → Type 0
+StandsForFrame limits framer bytes = (limits_of framer ≡ limits) × Stands framer bytes
+
+-- records as items, each as what a reader answers
+abbrev pub EndsRecord : FrameLimits → List ℕ → Result WholeRecord RecordCause → Type 0
+EndsRecord limits bytes (Ok whole) = IsRecord limits bytes whole.side whole.content
+EndsRecord limits bytes (Err cause) = (records limits).Ends bytes (Err cause)
+
+abbrev pub record_items : FrameLimits → Items WholeRecord RecordCause
+record_items limits = record { Ends = EndsRecord limits; IsOpen = IsOpenRecord limits }
+
+-- The reader, made with these limits, stands for these bytes of a record of some number.
+abbrev pub StandsForRecord : FrameLimits → RecordReading → List ℕ → Type 0
+StandsForRecord limits reader bytes = (record_limits reader ≡ limits)
+    × ((number : ℕ) × StandsFor reader number bytes)

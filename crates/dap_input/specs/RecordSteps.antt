@@ -1,0 +1,109 @@
+-- What reading the next record of an input gives, whatever a record is.
+use Rattle.std.specs.Prelude.{◌≡◌, ◌≢◌, ◌⊎◌, ℕ, ◌+◌, ◌<◌, ◌≤◌, false, List, [], ◌∷◌, ◌++◌, length}
+use Rattle.std.specs.Prelude.{Option, Some, None, is_some, Result, Ok, Err}
+use Rattle.dap_device.specs.Pieces.{HasComeSoFar}
+use Rattle.dap_device.specs.declared.reading.Stop.{Stop}
+use Rattle.dap_device.specs.declared.reading.Stop.TheVariants.{End, Full, Failed}
+use Rattle.dap_items.specs.Items.{Items, IsItem, Shows}
+use Rattle.dap_recording.specs.declared.record_fault.RecordCause.{RecordCause}
+use Rattle.dap_recording.specs.declared.record_fault.RecordCause.TheVariants.{Cut}
+use Rattle.dap_recording.specs.declared.record_fault.RecordCause.TheVariants.{Memory as NoMemory}
+use Rattle.dap_input.specs.declared.records.Records.{Records}
+use Rattle.dap_input.specs.declared.refused.Refused.{Refused}
+use Rattle.dap_input.specs.declared.refused.Refused.TheVariants.{InputTooLong, Record, ReadFault}
+use Rattle.dap_input.specs.declared.refused.Refused.TheVariants.{Memory}
+
+-- The reader stands between two records, no more has been taken than may be, and the source has
+-- not stopped.
+pub record StandsBetween {I : Type 0} (stands : I → List ℕ → Type 0) (records : Records I) : Type 0
+  where
+    pub reads : stands records.reader []
+    pub within : records.pieces.taken ≤ records.pieces.limit
+    pub goes_on : records.is_over ≡ false
+
+-- Nothing of the input has been read, and at most so many bytes may be.
+pub record IsAtStart {I : Type 0} (stands : I → List ℕ → Type 0) (limit : ℕ)
+    (records : Records I) : Type 0 where
+  pub between : StandsBetween stands records
+  pub pieces : records.pieces ≡ record { unread = []; taken = 0; limit = limit }
+  pub number : records.number ≡ 1
+
+-- so many bytes are taken where it stops so: at most the limit, or one past it
+abbrev pub IsWithin : ℕ → ℕ → Option Stop → Type 0
+IsWithin taken limit (Some Full) = taken ≡ limit + 1
+IsWithin taken limit stop = taken ≤ limit
+
+module _ {A : Type 0} (g : Items A RecordCause) where
+  -- Of what came behind the bytes held, all but the last piece makes no whole record and shows no
+  -- fault.
+  abbrev pub IsNeeded : List ℕ → List ℕ → Type 0
+  IsNeeded held more =
+      (more ≡ [])
+      ⊎ ((before : List ℕ) × (last : List ℕ) × (more ≡ before ++ last) × (0 < length last)
+      × (length last ≤ 65536) × g.IsOpen (held ++ before))
+
+  -- A byte past the limit has come, and the record is not whole before it.
+  pub record IsTooLong (held more : List ℕ) : Type 0 where
+    pub earlier : List ℕ
+    pub byte : ℕ
+    pub more_is : more ≡ earlier ++ byte ∷ []
+    pub is_open : g.IsOpen (held ++ earlier)
+
+module _ {I A : Type 0} (g : Items A RecordCause) (stands : I → List ℕ → Type 0) where
+  -- A whole record has come, and what is unread stands behind it.
+  pub record HasWhole (old new : Records I) (bytes : List ℕ) (whole : A) : Type 0 where
+    pub front : List ℕ
+    pub split : bytes ≡ front ++ new.pieces.unread
+    pub is_record : IsItem g front whole
+    pub between : StandsBetween stands new
+    pub number_is : new.number ≡ old.number + 1
+
+  -- What the bytes, of which the last came now, make of the next record.
+  abbrev pub Finds : Records I → Records I → List ℕ → List ℕ → Option Stop
+      → Result (Option A) Refused → Type 0
+  Finds old new bytes more stop (Ok (Some whole)) = (stop ≡ None) × HasWhole old new bytes whole
+  Finds old new bytes more stop (Ok None) = (stop ≡ Some End) × (bytes ≡ [])
+      × (new.number ≡ old.number)
+  Finds old new bytes more stop (Err (Record n Cut)) = (n ≡ old.number) × (stop ≡ Some End)
+      × (bytes ≢ []) × g.IsOpen bytes
+  Finds old new bytes more stop (Err (Record n NoMemory)) = ⊥
+  Finds old new bytes more stop (Err (Record n why)) = (n ≡ old.number) × (stop ≡ None)
+      × ((place : ℕ) × Shows g bytes why place)
+  Finds old new bytes more stop (Err (InputTooLong n)) = (n ≡ old.number) × (stop ≡ Some Full)
+      × IsTooLong g old.pieces.unread more
+  Finds old new bytes more stop (Err ReadFault) = (stop ≡ Some Failed) × g.IsOpen bytes
+  Finds old new bytes more stop (Err Memory) = stop ≡ None
+  Finds old new bytes more stop (Err refused) = ⊥
+
+  module _ {R : Type 0} (left : R → Option (List ℕ)) (given failures : R → ℕ) where
+    -- The next record was looked for behind those before: so much has come, no more than was
+    -- needed, and this is found.
+    pub record ReadsNext (old new : Records I) (before after : R)
+        (answer : Result (Option A) Refused) : Type 0 where
+      pub more : List ℕ
+      pub stop : Option Stop
+      pub came : HasComeSoFar left given failures before after more stop
+      pub needed : IsNeeded g old.pieces.unread more
+      pub within : IsWithin (old.pieces.taken + length more) old.pieces.limit stop
+      pub taken : stop ≡ None → new.pieces.taken ≡ old.pieces.taken + length more
+      pub limit_is : new.pieces.limit ≡ old.pieces.limit
+      pub over : new.is_over ≡ is_some stop
+      pub finds : Finds old new (old.pieces.unread ++ more) more stop answer
+
+-- What it means that no more comes, where the reader stands for these bytes of the next record.
+abbrev pub Stops : {I A : Type 0} → (I → List ℕ → Type 0) → Records I → Stop
+    → Result (Option A) Refused → Type 0
+Stops stands records Full answer = answer ≡ Err (InputTooLong records.number)
+Stops stands records Failed answer = answer ≡ Err ReadFault
+Stops stands records End answer =
+    (held : List ℕ) → stands records.reader held
+    → ((held ≡ []) × (answer ≡ Ok None))
+    ⊎ ((held ≢ []) × (answer ≡ Err (Record records.number Cut)))
+
+-- All that is left of the input has come, up to a byte past the limit.
+pub record ReadsRest {I R : Type 0} (left : R → Option (List ℕ)) (given failures : R
+    → ℕ) (old : Records I) (before after : R) : Type 0 where
+  pub more : List ℕ
+  pub stop : Stop
+  pub came : HasComeSoFar left given failures before after more (Some stop)
+  pub within : IsWithin (old.pieces.taken + length more) old.pieces.limit (Some stop)

@@ -1,0 +1,122 @@
+//! What reads the items of an input, as its bytes come.
+ghost use Rattle.std.specs.Prelude.{◌≡◌, ◌<◌, ◌≤◌, ◌↔◌, ℕ, List, [], length, IfErr, IfOk, IsOk};
+ghost use Rattle.dap_items.specs.Items.{Items};
+ghost use Rattle.dap_frame.specs.declared.limits.FrameLimits.{FrameLimits};
+ghost use Rattle.dap_recording.specs.declared.record_fault.RecordCause.{RecordCause};
+
+use dap_frame::{Content, FrameFault, Framer};
+use dap_recording::{Record, RecordCause, RecordReader};
+
+/// What a call of [`feed`](ItemReader::feed) took of its piece.
+#[derive(Debug, Drop)]
+pub struct FedItem<T> {
+    /// How many bytes of the piece were taken, from its front. The next call gets the rest.
+    pub used: usize,
+    /// The item that ended at the last byte taken. `None`: the whole piece was taken, and no item
+    /// ended.
+    pub item: Option<T>,
+}
+
+/// Reads the items of an input from the pieces of its bytes, which may be cut anywhere.
+///
+/// A reader stands for the bytes that came behind the last whole item. Each piece is passed to
+/// [`feed`](ItemReader::feed), and then again what is left of it behind `used`, until nothing is
+/// left.
+pub trait ItemReader: Drop {
+    /// What is read of an item.
+    type Item: Drop;
+
+    /// The grammar of the items under limits.
+    ghost items: { FrameLimits → Items Self.Item RecordCause };
+
+    /// The reader, made with these limits, stands for these bytes of an item that has not ended.
+    ghost stands: { FrameLimits → Self → List ℕ → Type 0 };
+
+    ghost use Rattle.dap_input.specs.ItemReading.{GivesItem};
+
+    /// Reads to the end of one item or of the piece, whichever is first.
+    ///
+    /// Answers every fault but `Cut`.
+    fn feed(&mut self, piece: &[u8]) -> Result<FedItem<Self::Item>, RecordCause>
+        ensures gives { (limits : FrameLimits) (bytes : List ℕ) → stands limits self.old bytes
+            → GivesItem (items limits) (stands limits) bytes piece.now result self.new }
+        ensures used { IfOk result (λ fed. fed.used ≤ length piece.now) }
+        ensures progress { IfOk result (λ fed. 0 < length piece.now → 0 < fed.used) };
+
+    /// Whether the input may end here: `Cut` inside an item. Changes nothing and takes no memory.
+    fn finish(&self) -> Result<(), RecordCause>
+        ensures ok { (limits : FrameLimits) (bytes : List ℕ) → stands limits self.now bytes
+            → (IsOk result ↔ (bytes ≡ [])) }
+        ensures cut { (limits : FrameLimits) (bytes : List ℕ) → stands limits self.now bytes
+            → IfErr result (λ cause. cause ≡ RecordCause.Cut) };
+
+    ghost is_open: { (limits : FrameLimits) (reader : Self) (bytes : List ℕ)
+        → stands limits reader bytes → (items limits).IsOpen bytes };
+}
+
+impl ItemReader for Framer {
+    type Item = Content;
+
+    ghost use Rattle.std.proofs.Common.{subst};
+    ghost use Rattle.dap_input.specs.ItemReading.{StandsForFrame, frame_items};
+
+    ghost items = { frame_items };
+
+    ghost stands = { StandsForFrame };
+
+    ghost is_open = { λ limits framer bytes stands.
+        subst (λ l. (frame_items l).IsOpen bytes) stands.0 stands.1.is_open };
+
+    fn feed(&mut self, piece: &[u8]) -> Result<FedItem<Content>, RecordCause> {
+        match Framer::feed(self, piece) {
+            Ok(fed) => Ok(FedItem {
+                used: fed.used,
+                item: fed.content,
+            }),
+            Err(fault) => match fault {
+                FrameFault::Memory => Err(RecordCause::Memory),
+                _ => Err(RecordCause::Frame(fault)),
+            },
+        }
+    }
+
+    fn finish(&self) -> Result<(), RecordCause> {
+        match Framer::finish(self) {
+            Ok(()) => Ok(()),
+            Err(_) => Err(RecordCause::Cut),
+        }
+    }
+}
+
+impl ItemReader for RecordReader {
+    type Item = Record;
+
+    ghost use Rattle.std.proofs.Common.{subst};
+    ghost use Rattle.dap_recording.proofs.RecordSteps.{stands_open};
+    ghost use Rattle.dap_input.specs.ItemReading.{StandsForRecord, record_items};
+
+    ghost items = { record_items };
+
+    ghost stands = { StandsForRecord };
+
+    ghost is_open = { λ limits reader bytes stands.
+        subst (λ l. (record_items l).IsOpen bytes) stands.0
+        (stands_open reader stands.1.0 bytes stands.1.1) };
+
+    fn feed(&mut self, piece: &[u8]) -> Result<FedItem<Record>, RecordCause> {
+        match RecordReader::feed(self, piece) {
+            Ok(fed) => Ok(FedItem {
+                used: fed.used,
+                item: fed.whole,
+            }),
+            Err(fault) => Err(fault.cause),
+        }
+    }
+
+    fn finish(&self) -> Result<(), RecordCause> {
+        match RecordReader::finish(self) {
+            Ok(()) => Ok(()),
+            Err(fault) => Err(fault.cause),
+        }
+    }
+}

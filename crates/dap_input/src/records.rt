@@ -1,0 +1,112 @@
+//! The records of an input one by one, as its bytes come.
+ghost use Rattle.std.specs.Prelude.{◌≡◌, ◌+◌, ◌-◌, ◌<◌, ◌≤◌, ◌^◌, [], IfOk, true, false};
+ghost use Rattle.dap_frame.specs.declared.limits.FrameLimits.{FrameLimits};
+
+use crate::item_reader::ItemReader;
+use crate::refused::Refused;
+use dap_device::{Pieces, Source, Stop};
+use dap_recording::RecordCause;
+use std::alloc::{AllocError, Global};
+
+/// Reads the records of an input, no further than the next one asks for: at most a piece past its
+/// end. What a record is, its reader says.
+#[derive(Drop)]
+pub struct Records<I> {
+    pieces: Pieces,
+    reader: I,
+    /// The number of the next record.
+    number: u64,
+    /// Whether the source has ended, failed, or given a byte past the limit.
+    is_over: bool,
+}
+
+impl<I: ItemReader> Records<I> {
+    ghost use Rattle.dap_input.specs.RecordSteps.{IsAtStart, ReadsNext, ReadsRest};
+    ghost use Rattle.dap_input.specs.RecordSteps.{StandsBetween, Stops};
+
+    /// The records of an input of which nothing has been read, for a reader that has read nothing.
+    /// At most `limit` bytes are taken.
+    pub fn new(alloc: Global, reader: I, limit: u64) -> Result<Records<I>, AllocError>
+        requires { limit ≤ 2 ^ 62 }
+        ensures { (limits : FrameLimits) → I.stands limits reader []
+            → IfOk result (λ records. IsAtStart (I.stands limits) limit records) }
+    {
+        Ok(Records {
+            pieces: Pieces::new(alloc, limit)?,
+            reader,
+            number: 1,
+            is_over: false,
+        })
+    }
+
+    /// The number of the next record, counted from 1.
+    pub fn number(&self) -> u64
+        ensures { result ≡ self.now.number }
+    {
+        self.number
+    }
+
+    /// Reads the next record. None is left where the input has ended behind the last one.
+    pub fn next<R: Source>(&mut self, reader: &mut R) -> Result<Option<I::Item>, Refused>
+        requires number { self.old.number < 2 ^ 63 }
+        requires given { R.given reader.old + (self.old.pieces.limit - self.old.pieces.taken)
+            < 2 ^ 63 }
+        requires failures { R.failures reader.old < 2 ^ 63 }
+        ensures { (limits : FrameLimits) → StandsBetween (I.stands limits) self.old
+            → ReadsNext (I.items limits) (I.stands limits) R.left R.given R.failures self.old
+            self.new reader.old reader.new result }
+    {
+        loop {
+            if let Err(stop) = self.pieces.fill(reader) {
+                self.is_over = true;
+                return self.stopped(stop);
+            }
+            let fed = match self.reader.feed(self.pieces.unread()) {
+                Ok(fed) => fed,
+                Err(cause) => match cause {
+                    RecordCause::Memory => return Err(Refused::Memory),
+                    _ => return Err(Refused::Record(self.number, cause)),
+                },
+            };
+            self.pieces.skip(fed.used);
+            if fed.item.is_some() {
+                self.number += 1;
+                return Ok(fed.item);
+            }
+        }
+    }
+
+    /// What it means that no more comes.
+    fn stopped(&self, stop: Stop) -> Result<Option<I::Item>, Refused>
+        ensures { (limits : FrameLimits) → Stops (I.stands limits) self.now stop result }
+    {
+        match stop {
+            Stop::Full => Err(Refused::InputTooLong(self.number)),
+            Stop::Failed => Err(Refused::ReadFault),
+            Stop::End => match self.reader.finish() {
+                Ok(()) => Ok(None),
+                Err(_) => Err(Refused::Record(self.number, RecordCause::Cut)),
+            },
+        }
+    }
+
+    /// Reads what is left of the input, up to a byte past the limit, and drops it. Where the source
+    /// has ended, failed or given that byte, it is asked for nothing more.
+    pub fn drain<R: Source>(&mut self, reader: &mut R)
+        requires given { self.old.is_over ≡ false
+            → R.given reader.old + (self.old.pieces.limit - self.old.pieces.taken) < 2 ^ 63 }
+        requires failures { self.old.is_over ≡ false → R.failures reader.old < 2 ^ 63 }
+        ensures over { self.old.is_over ≡ true → reader.new ≡ reader.old }
+        ensures rest { self.old.is_over ≡ false → self.old.pieces.taken ≤ self.old.pieces.limit
+            → ReadsRest R.left R.given R.failures self.old reader.old reader.new }
+    {
+        if self.is_over {
+            return;
+        }
+        while self.pieces.fill(reader).is_ok() {
+            let count = self.pieces.unread().len();
+            self.pieces.skip(count);
+        }
+        self.is_over = true;
+    }
+}

@@ -1,0 +1,96 @@
+use Rattle.std.proofs.Common.{◌∙◌}
+use Rattle.dap_input.proofs.WholeInputs.{drained, refused_answer}
+use Rattle.dap_input.specs.ItemReading.{record_items}
+use Rattle.dap_show.specs.Showing.{lines_from, showing}
+use Rattle.dap_show.specs.ShowingSteps.{held_of}
+use Rattle.dap_show.proofs.ShowingLoop.{reads_records}
+use Rattle.dap_show.proofs.ShownInputs.{accepted_taken, finished, not_written, refused_taken}
+use Rattle.dap_show.proofs.ShownInputs.{rest_counts, rest_failures}
+use Rattle.dap_show.proofs.showing.show.Goals as goal
+
+pub show_records-requires-clause-start : goal.show_records-requires-clause-start
+show_records-requires-clause-start g c = (
+  c.args.limits,
+  c.requires.limits,
+  c.in-Ok.ensures c.args.limits.frame
+      (c.new-record_reader.ensures.limits, (1, c.new-record_reader.ensures.stands)),
+)
+
+pub returns-in-Ok-write_and_flush-clause-answer : goal.returns-in-Ok-write_and_flush-clause-answer
+returns-in-Ok-write_and_flush-clause-answer g c =
+    let shown = c.in-Ok-show_records.ensures c.args.limits
+    (c.in-Ok.ensures c.args.limits.frame
+    (c.new-record_reader.ensures.limits, (1, c.new-record_reader.ensures.stands))) in
+    finished c.args.limits g.R.Source.left g.R.Source.given g.R.Source.failures c.args.reader.now
+    c.show_records.new.reader shown.0 shown.1 g.W.Sink.out g.W.Sink.failures c.args.writer.now
+    c.write_and_flush.new.writer _ (c.as_bytes.ensures.value ∙ shown.2)
+    c.in-Ok-write_and_flush.ensures
+
+pub returns-in-Ok-write_and_flush-clause-taken : goal.returns-in-Ok-write_and_flush-clause-taken
+returns-in-Ok-write_and_flush-clause-taken g c =
+    let shown = c.in-Ok-show_records.ensures c.args.limits
+    (c.in-Ok.ensures c.args.limits.frame
+    (c.new-record_reader.ensures.limits, (1, c.new-record_reader.ensures.stands))) in
+    accepted_taken c.args.limits g.R.Source.left g.R.Source.given g.R.Source.failures
+    c.args.reader.now c.show_records.new.reader shown.0 shown.1
+
+pub returns-in-Ok-show_records-clause-answer : goal.returns-in-Ok-show_records-clause-answer
+returns-in-Ok-show_records-clause-answer g c =
+    let shown = c.in-Ok-show_records.ensures c.args.limits
+    (c.in-Ok.ensures c.args.limits.frame
+    (c.new-record_reader.ensures.limits, (1, c.new-record_reader.ensures.stands))) in
+    not_written c.args.limits g.R.Source.left g.R.Source.given g.R.Source.failures
+    c.args.reader.now c.show_records.new.reader shown.0 shown.1 g.W.Sink.out g.W.Sink.failures
+    c.args.writer.now c.write_and_flush.new.writer _ (c.as_bytes.ensures.value ∙ shown.2)
+    c.in-Err-write_and_flush.ensures
+
+pub returns-in-Ok-show_records-clause-taken : goal.returns-in-Ok-show_records-clause-taken
+returns-in-Ok-show_records-clause-taken g c =
+    let shown = c.in-Ok-show_records.ensures c.args.limits
+    (c.in-Ok.ensures c.args.limits.frame
+    (c.new-record_reader.ensures.limits, (1, c.new-record_reader.ensures.stands))) in
+    accepted_taken c.args.limits g.R.Source.left g.R.Source.given g.R.Source.failures
+    c.args.reader.now c.show_records.new.reader shown.0 shown.1
+
+pub drain-requires-clause-given : goal.drain-requires-clause-given
+drain-requires-clause-given g c = λ goes_on.
+    let refused = c.in-Err-show_records.ensures c.args.limits
+    (c.in-Ok.ensures c.args.limits.frame
+    (c.new-record_reader.ensures.limits, (1, c.new-record_reader.ensures.stands))) in
+    rest_counts c.args.limits g.R.Source.left g.R.Source.given g.R.Source.failures
+    c.args.reader.now c.show_records.new.reader c.show_records.new.records
+    c.in-Err-show_records.refused refused goes_on c.requires.limits.input c.requires.given
+
+pub drain-requires-clause-failures : goal.drain-requires-clause-failures
+drain-requires-clause-failures g c = λ goes_on.
+    let refused = c.in-Err-show_records.ensures c.args.limits
+    (c.in-Ok.ensures c.args.limits.frame
+    (c.new-record_reader.ensures.limits, (1, c.new-record_reader.ensures.stands))) in
+    rest_failures c.args.limits g.R.Source.left g.R.Source.given g.R.Source.failures
+    c.args.reader.now c.show_records.new.reader c.show_records.new.records
+    c.in-Err-show_records.refused refused goes_on c.requires.read_failures
+
+pub returns-clause-answer : goal.returns-clause-answer
+returns-clause-answer g c =
+    let refused = c.in-Err-show_records.ensures c.args.limits
+    (c.in-Ok.ensures c.args.limits.frame
+    (c.new-record_reader.ensures.limits, (1, c.new-record_reader.ensures.stands))) in
+    refused_answer (showing c.args.limits) g.R.Source.left g.R.Source.given g.R.Source.failures
+    (lines_from 1) c.args.reader.now c.drain.new.reader g.W.Sink.out g.W.Sink.failures
+    c.args.writer.now c.in-Err-show_records.refused
+    (drained (showing c.args.limits) (record_items c.args.limits.frame) held_of
+    (reads_records c.args.limits) g.R.Source.left g.R.Source.given g.R.Source.failures
+    c.args.reader.now c.show_records.new.reader c.drain.new.reader c.show_records.new.records
+    c.in-Err-show_records.refused refused c.drain.ensures.over c.drain.ensures.rest)
+
+pub returns-clause-taken : goal.returns-clause-taken
+returns-clause-taken g c =
+    let refused = c.in-Err-show_records.ensures c.args.limits
+    (c.in-Ok.ensures c.args.limits.frame
+    (c.new-record_reader.ensures.limits, (1, c.new-record_reader.ensures.stands))) in
+    refused_taken c.args.limits g.R.Source.left g.R.Source.given g.R.Source.failures
+    c.args.reader.now c.drain.new.reader c.in-Err-show_records.refused
+    (drained (showing c.args.limits) (record_items c.args.limits.frame) held_of
+    (reads_records c.args.limits) g.R.Source.left g.R.Source.given g.R.Source.failures
+    c.args.reader.now c.show_records.new.reader c.drain.new.reader c.show_records.new.records
+    c.in-Err-show_records.refused refused c.drain.ensures.over c.drain.ensures.rest)

@@ -1,0 +1,16 @@
+use Rattle.std.proofs.Common.{◌+◌, ◌-◌, length, string_bytes}
+use Rattle.dap_input.specs.ItemReading.{StandsForRecord}
+use Rattle.dap_input.specs.RecordSteps.{IsAtStart}
+use Rattle.dap_input.specs.declared.limits.Limits.{Limits}
+use Rattle.dap_show.proofs.ShowingLoop.{Showing}
+use Rattle.dap_show.proofs.showing.show_records.Given as goal
+
+abbrev pub invariant-loop-out : goal.invariant-loop-out
+invariant-loop-out g l =
+    (limits : Limits) → IsAtStart (StandsForRecord limits.frame) limits.input l.fn.records
+    → Showing limits g.R.Source.left g.R.Source.given g.R.Source.failures l.fn.reader l.reader
+    l.records (string_bytes l.out)
+
+abbrev pub decreases-loop-out : goal.decreases-loop-out
+decreases-loop-out g l =
+    (l.records.pieces.limit - l.records.pieces.taken) + length l.records.pieces.unread

@@ -1,0 +1,22 @@
+-- What is told of words is told for what a parse finds in them.
+use Rattle.std.proofs.Common.{◌≡◌, ◌≢◌, ◌⊎◌, inl, inr, refl, sym, subst}
+use Rattle.clap.specs.Values.{kind_of}
+use Rattle.clap.specs.Words.{HasKind, IsAmong, Kinds}
+use Rattle.clap.specs.declared.error.Error.{Error}
+use Rattle.clap.specs.declared.error.kind.ErrorKind.{ErrorKind}
+use Rattle.clap.specs.declared.error.kind.ErrorKind.TheVariants as kind
+use Rattle.dapnorm.specs.CommandLine.{IsToldFor, IsToldOf}
+use Rattle.dapnorm.specs.declared.jobs.UsageFault.{UsageFault}
+use Rattle.dapnorm.specs.declared.jobs.UsageFault.TheVariants as usage
+
+pub told_for : (kinds : Kinds) (error : Error) (fault : UsageFault) → HasKind kinds error
+    → (kind_of error ≡ kind.OutOfMemory → fault ≡ usage.Memory) → IsToldOf (kind_of error) fault
+    → IsToldFor kinds fault
+told_for kinds error (usage.Help text) (inl memory) is told =
+    absurd (let wrong = is memory in cc)
+told_for kinds error (usage.Help text) (inr among) is told =
+    subst (λ k. IsAmong k kinds) told among
+told_for kinds error (usage.Usage text) (inl memory) is told =
+    absurd (let wrong = is memory in cc)
+told_for kinds error (usage.Usage text) (inr among) is told = inr (kind_of error, among, told)
+told_for kinds error usage.Memory has is told = told
