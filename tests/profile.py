@@ -5,7 +5,7 @@ import sys
 
 from report import TOP, Report
 
-ROWS = os.path.join(TOP, "crates", "dap_message", "src", "profile.rt")
+ROWS = os.path.join(TOP, "crates", "dap_profile", "src", "profile.rt")
 DOCUMENT = os.path.join(TOP, "docs", "PROFILE.md")
 BEGIN = "<!-- rows: begin -->"
 END = "<!-- rows: end -->"

@@ -4,36 +4,31 @@ use Rattle.dap_tree.specs.declared.side.Side.{Side}
 use Rattle.dap_tree.specs.declared.sort.Sort.{Sort}
 use Rattle.std.proofs.Common.{◌≡◌, ℕ, Bool, true, false, cond, ◌&&◌, ◌||◌, List, [], ◌∷◌, ◌++◌}
 use Rattle.std.proofs.Common.{Option, Some, None, option_and_then, refl, sym, ◌∙◌, ap, ap₂}
-use Rattle.std.proofs.Common.{bytes_eq, codes, not, is_some, true≢false, subst, take, drop, length}
-use Rattle.std.proofs.Common.{map, ◌<◌, ◌-◌, get_or, ◌+◌, arith}
-use Rattle.std.proofs.lemmas.List.{take_all, length-drop, drop_more, at_drop_more}
-use Rattle.std.proofs.lemmas.List.Elements.{filter-append}
-use Rattle.std.proofs.lemmas.Slice.Eq.{bytes_eq-Decides}
-use Rattle.std.specs.List.{filter, list_all, flat_map}
+use Rattle.std.proofs.Common.{bytes_eq, codes, is_some, true≢false, drop, length, ◌<◌, ◌-◌, get_or}
+use Rattle.std.proofs.Common.{◌+◌}
+use Rattle.std.proofs.lemmas.List.{at_drop_more}
+use Rattle.std.specs.List.{filter, flat_map}
 use Rattle.std.specs.Option.{option_or, option_map_or}
-use Rattle.dap_tree.proofs.Booleans.{and_left, and_right}
-use Rattle.dap_message.specs.AskedRows.{asked_rows, kind_typed, kind_told, name_told, same_kind}
-use Rattle.dap_message.specs.AskedRows.{may_ask, has_name, asks, rows_asked, rows_named, leading}
-use Rattle.dap_message.specs.AskedRows.{none_of, only_front, one_name, together, fault_by, first_by}
-use Rattle.dap_message.specs.AskedRows.{mark_by, marks_by}
+use Rattle.dap_profile.specs.Stretches.{same_kind, asks, rows_asked}
+use Rattle.dap_profile.specs.Profile.{profile}
+use Rattle.dap_profile.specs.ProfileRows.{ProfileRow}
+use Rattle.dap_profile.specs.declared.profile.Kind.{Kind}
+use Rattle.dap_profile.specs.declared.profile.Kind.TheVariants.{Request, Response, Event}
+use Rattle.dap_message.specs.AskedRows.{asked_rows, kind_typed, kind_told, name_told, fault_by}
+use Rattle.dap_message.specs.AskedRows.{first_by, mark_by, marks_by}
 use Rattle.dap_message.specs.Capabilities.{tells_capabilities, filled}
 use Rattle.dap_message.specs.Envelope.{text_value}
 use Rattle.dap_message.specs.Faults.{fault, row_broken, has_kind}
 use Rattle.dap_message.specs.Marks.{sort_of, marked, edit, mark_row, mark_rows, mark}
 use Rattle.dap_message.specs.Message.{Refuses}
 use Rattle.dap_message.specs.Places.{is_object}
-use Rattle.dap_message.specs.Profile.{profile}
-use Rattle.dap_message.specs.Rows.{ProfileRow, row_of, first_fault, is_asked, is_of_kind, is_text}
-use Rattle.dap_message.specs.Rows.{type_name, name_key, may_have_body}
+use Rattle.dap_message.specs.Rows.{first_fault, is_asked, is_of_kind, is_text, type_name, name_key}
+use Rattle.dap_message.specs.Rows.{may_have_body}
 use Rattle.dap_message.specs.declared.fault.MessageFault.{MessageFault}
 use Rattle.dap_message.specs.declared.fault.MessageFault.TheVariants.{NotObject, UnknownType}
 use Rattle.dap_message.specs.declared.fault.MessageFault.TheVariants.{Missing, WrongType, Memory}
-use Rattle.dap_message.specs.declared.profile.Kind.{Kind}
-use Rattle.dap_message.specs.declared.profile.Kind.TheVariants.{Request, Response, Event}
-use Rattle.dap_message.specs.declared.profile.Row.{Row}
 use Rattle.dap_message.proofs.SortsApart.{AskedAlike}
 use Rattle.dap_message.proofs.BodyRows.{other_word, asked-outside}
-use Rattle.dap_message.proofs.Edits.{by_bool}
 use Rattle.dap_message.proofs.Envelopes.{get-filled}
 use Rattle.dap_message.proofs.FilledFits.{object-if}
 use Rattle.dap_message.proofs.RowMarks.{asked-mark_row}
@@ -223,132 +218,6 @@ asked-rows d =
     filter-same (λ r. is_asked r.kind r.name d) (asks (kind_told d) (any_name (kind_told d) d))
     profile (λ r. asked-told r d)
 
--- ---- the stretches of a kind
-
--- the row is asked of each document of the kind
-abbrev whole_kind : Option Kind → ProfileRow → Bool
-whole_kind k r =
-    option_map_or (λ j. option_map_or (same_kind j) k false && not (is_some r.name)) r.kind true
-
--- the row is asked of each document of the kind that has its name
-abbrev with_name : Option Kind → ProfileRow → Bool
-with_name k r =
-    option_map_or (λ j. option_map_or (same_kind j) k false && is_some r.name) r.kind false
-
-narrower : (k : Option Kind) (n : Option (List ℕ)) (rs : List ProfileRow)
-    → filter (asks k n) rs ≡ filter (asks k n) (filter (may_ask k) rs)
-narrower k n [] = refl
-narrower k n (r ∷ rs) = by_bool (may_ask k r)
-    (λ h. rw h (ap (λ xs. cond (asks k n r) (r ∷ xs) xs) (narrower k n rs)))
-    (λ h. rw (h, not_asked r.kind r.name h) (narrower k n rs))
-  where
-    not_asked : (j : Option Kind) (m : Option (List ℕ))
-        → option_map_or (λ j. option_map_or (same_kind j) k false) j true ≡ false
-        → option_map_or (λ j. option_map_or (same_kind j) k false
-        && option_map_or (λ m. option_map_or (bytes_eq m) n false) m true) j true ≡ false
-    not_asked None m h = h
-    not_asked (Some j) m h = rw h refl
-
-whole-kept : (k : Option Kind) (n : Option (List ℕ)) (rs : List ProfileRow)
-    → list_all (whole_kind k) rs ≡ true → filter (asks k n) rs ≡ rs
-whole-kept k n [] h = refl
-whole-kept k n (r ∷ rs) h =
-    rw (asked r.kind r.name (and_left _ _ h))
-    (ap (λ xs. r ∷ xs) (whole-kept k n rs (and_right _ _ h)))
-  where
-    asked : (j : Option Kind) (m : Option (List ℕ))
-        → option_map_or (λ j. option_map_or (same_kind j) k false && not (is_some m)) j true ≡ true
-        → option_map_or (λ j. option_map_or (same_kind j) k false
-        && option_map_or (λ m. option_map_or (bytes_eq m) n false) m true) j true ≡ true
-    asked None m h = refl
-    asked (Some j) None h = h
-    asked (Some j) (Some m) h =
-        absurd (true≢false (sym (and_right (option_map_or (same_kind j) k false) false h)))
-
-named-kept : (k : Option Kind) (n : Option (List ℕ)) (rs : List ProfileRow)
-    → list_all (with_name k) rs ≡ true → filter (asks k n) rs ≡ filter (has_name n) rs
-named-kept k n [] h = refl
-named-kept k n (r ∷ rs) h =
-    ap₂ (λ b xs. cond b (r ∷ xs) xs) (asked r.kind r.name (and_left _ _ h))
-    (named-kept k n rs (and_right _ _ h))
-  where
-    asked : (j : Option Kind) (m : Option (List ℕ))
-        → option_map_or (λ j. option_map_or (same_kind j) k false && is_some m) j false ≡ true
-        → option_map_or (λ j. option_map_or (same_kind j) k false
-        && option_map_or (λ m. option_map_or (bytes_eq m) n false) m true) j true
-        ≡ option_map_or (λ m. option_map_or (bytes_eq m) n false) m false
-    asked None m h = absurd (true≢false (sym h))
-    asked (Some j) None h =
-        absurd (true≢false (sym (and_right (option_map_or (same_kind j) k false) false h)))
-    asked (Some j) (Some m) h = rw (and_left (option_map_or (same_kind j) k false) true h) refl
-
--- what a kind has: rows that are asked of each of its messages, and rows by name
-pub stretches : (j k : Kind) → j ≡ k → (n : Option (List ℕ)) (a b c e x y : List ProfileRow)
-    → filter (may_ask (Some k)) profile ≡ a ++ (b ++ (c ++ (e ++ [])))
-    → list_all (whole_kind (Some k)) a ≡ true → list_all (whole_kind (Some k)) b ≡ true
-    → list_all (with_name (Some k)) c ≡ true → list_all (with_name (Some k)) e ≡ true
-    → x ≡ rows_named n c → y ≡ rows_named n e
-    → a ++ (b ++ (x ++ (y ++ []))) ≡ rows_asked (Some j) n
-unfolding rows_asked rows_named
-stretches j k same n a b c e x y h ha hb hc he hx hy =
-    let f = asks (Some k) n in
-    sym
-    (ap (λ i. filter (asks (Some i) n) profile) same ∙ narrower (Some k) n profile ∙ ap (filter f) h
-    ∙ filter-append f a (b ++ (c ++ (e ++ [])))
-    ∙ ap₂ (λ x y. x ++ y) (whole-kept (Some k) n a ha)
-    (filter-append f b (c ++ (e ++ []))
-    ∙ ap₂ (λ x y. x ++ y) (whole-kept (Some k) n b hb)
-    (filter-append f c (e ++ [])
-    ∙ ap₂ (λ x y. x ++ y) (named-kept (Some k) n c hc ∙ sym hx)
-    (filter-append f e [] ∙ ap (λ x. x ++ []) (named-kept (Some k) n e he ∙ sym hy)))))
-
--- ---- the rows of a name
-
-none-kept : (p : ProfileRow → Bool) (rs : List ProfileRow) → none_of p rs ≡ true → filter p rs ≡ []
-none-kept p [] h = refl
-none-kept p (r ∷ rs) h =
-    by_bool (p r) (λ e. absurd (true≢false (sym (rw e at h))))
-    (λ e. rw e (none-kept p rs (rw e at h)))
-
-pub front-kept : (p : ProfileRow → Bool) (rs : List ProfileRow) → only_front p rs ≡ true
-    → leading p rs ≡ filter p rs
-front-kept p [] h = refl
-front-kept p (r ∷ rs) h = by_bool (p r)
-    (λ e. rw e (ap (λ xs. r ∷ xs) (front-kept p rs (rw e at h))))
-    (λ e. rw e (sym (none-kept p rs (rw e at h))))
-
-name-is : (m n : Option (List ℕ))
-    → option_map_or (λ w. option_map_or (bytes_eq w) n false) m false ≡ true → m ≡ n
-name-is None n h = absurd (true≢false (sym h))
-name-is (Some w) None h = absurd (true≢false (sym h))
-name-is (Some w) (Some v) h = ap Some ((bytes_eq-Decides w v).0 h)
-
-pub first-run : (n : Option (List ℕ)) (r : ProfileRow) (rs : List ProfileRow)
-    → together (r ∷ rs) ≡ true → has_name n r ≡ true
-    → leading (has_name n) (r ∷ rs) ≡ filter (has_name n) (r ∷ rs)
-first-run n r rs t h =
-    let e : r.name ≡ n = name-is r.name n h in
-    let only : only_front (has_name n) rs ≡ true =
-    subst (λ m. only_front (has_name m) rs
-    ≡ true) e (and_left (only_front (has_name r.name) rs) (together rs) t) in
-    rw h (ap (λ xs. r ∷ xs) (front-kept (has_name n) rs only))
-
-pub none-named : (n : Option (List ℕ)) → [] ≡ rows_named n []
-unfolding rows_named
-none-named n = refl
-
-pub first-run-at : (n : Option (List ℕ)) (rows : List Row) (i : ℕ) (row : Row) → i < length rows
-    → together (map row_of (drop i rows)) ≡ true → has_name n (row_of (get_or rows i row)) ≡ true
-    → leading (has_name n) (map row_of (take (length rows - i) (drop i rows)))
-    ≡ filter (has_name n) (map row_of (drop i rows))
-first-run-at n rows i row lt t h =
-    let all : take (length rows - i) (drop i rows) ≡ drop i rows =
-    take_all _ (drop i rows) (omega (arith, length-drop i rows)) in
-    let more : drop i rows ≡ get_or rows i row ∷ drop (i + 1) rows = drop_more rows i row lt in
-    rw (all, more)
-    (first-run n (row_of (get_or rows i row)) (map row_of (drop (i + 1) rows))
-    (subst (λ xs. together (map row_of xs) ≡ true) more t) h)
-
 -- ---- stretch by stretch
 
 first_by-append : (xs ys : List ProfileRow) (d : Doc)
@@ -456,42 +325,3 @@ asked-filled side d =
     profile
     (λ r. asked-outside r.kind r.name d (filled side d)
     (object-if (tells_capabilities side d) d, λ k h. get-filled k side d h))
-
--- ---- rows of one name
-
-all-kept : (p : ProfileRow → Bool) (rs : List ProfileRow) → list_all p rs ≡ true → filter p rs ≡ rs
-all-kept p [] h = refl
-all-kept p (r ∷ rs) h =
-    rw (and_left (p r) (list_all p rs) h)
-    (ap (λ xs. r ∷ xs) (all-kept p rs (and_right (p r) (list_all p rs) h)))
-
-none-kept-of : (n m : Option (List ℕ)) (rs : List ProfileRow)
-    → option_map_or (λ w. option_map_or (bytes_eq w) n false) m false ≡ false
-    → list_all (has_name m) rs ≡ true → filter (has_name n) rs ≡ []
-none-kept-of n m [] e h = refl
-none-kept-of n m (r ∷ rs) e h =
-    let same : r.name ≡ m =
-    name-is r.name m (and_left (has_name m r) (list_all (has_name m) rs) h) in
-    rw (same, e) (none-kept-of n m rs e (and_right (has_name m r) (list_all (has_name m) rs) h))
-
-pub first-named : (n : Option (List ℕ)) (r : ProfileRow) (rs : List ProfileRow)
-    → one_name (r ∷ rs) ≡ true → has_name n r ≡ true → r ∷ rs ≡ rows_named n (r ∷ rs)
-unfolding rows_named
-first-named n r rs h e =
-    let same : r.name ≡ n = name-is r.name n e in
-    sym (all-kept (has_name n) (r ∷ rs) (subst (λ m. list_all (has_name m) (r ∷ rs) ≡ true) same h))
-
-pub first-other : (n : Option (List ℕ)) (r : ProfileRow) (rs : List ProfileRow)
-    → one_name (r ∷ rs) ≡ true → has_name n r ≡ false → [] ≡ rows_named n (r ∷ rs)
-unfolding rows_named
-first-other n r rs h e = sym (none-kept-of n r.name (r ∷ rs) e h)
-
--- the first row of some tells whether they have the name
-pub named-by-first : (n : Option (List ℕ)) (rows : List Row) (row : Row) → 0 < length rows
-    → one_name (map row_of rows) ≡ true
-    → ((has_name n (row_of (get_or rows 0 row)) ≡ true
-    → map row_of rows ≡ rows_named n (map row_of rows))
-    × (has_name n (row_of (get_or rows 0 row)) ≡ false → [] ≡ rows_named n (map row_of rows)))
-named-by-first n [] row lt h = absurd (omega arith)
-named-by-first n (r ∷ rs) row lt h =
-    (first-named n (row_of r) (map row_of rs) h, first-other n (row_of r) (map row_of rs) h)

@@ -7,15 +7,17 @@ use Rattle.std.proofs.Common.{◌++◌, map, take, drop, Option, Some, None, opt
 use Rattle.std.proofs.Common.{sym, ◌∙◌, ap, ap₂, bytes_eq, true≢false}
 use Rattle.std.specs.Option.{option_map_or, option_or}
 use Rattle.std.proofs.lemmas.Slice.Eq.{bytes_eq-Decides}
-use Rattle.dap_message.specs.Places.{PlaceStep, named, each, is_object, parts_at}
-use Rattle.dap_message.specs.Profile.{profile}
-use Rattle.dap_message.specs.Rows.{ProfileRow, is_asked, is_text, is_true, row_fault, first_fault}
-use Rattle.dap_message.specs.Rows.{of_row, broken_at, cause_against, first_cause}
+use Rattle.dap_profile.specs.PlaceSteps.{PlaceStep, named, each}
+use Rattle.dap_profile.specs.Profile.{profile}
+use Rattle.dap_profile.specs.ProfileRows.{ProfileRow}
+use Rattle.dap_profile.specs.declared.profile.Kind.{Kind}
+use Rattle.dap_profile.specs.declared.profile.Kind.TheVariants.{Request, Response, Event}
+use Rattle.dap_profile.specs.declared.profile.Want.TheVariants.{Bool as WantBool, Object}
+use Rattle.dap_message.specs.Places.{is_object, parts_at}
+use Rattle.dap_message.specs.Rows.{is_asked, is_text, is_true, row_fault, first_fault, of_row}
+use Rattle.dap_message.specs.Rows.{broken_at, cause_against, first_cause}
 use Rattle.dap_message.specs.declared.broken_rows.Cause.{Cause}
-use Rattle.dap_message.specs.declared.profile.Kind.{Kind}
-use Rattle.dap_message.specs.declared.profile.Kind.TheVariants.{Request, Response, Event}
 use Rattle.dap_message.specs.declared.fault.MessageFault.{MessageFault}
-use Rattle.dap_message.specs.declared.profile.Want.TheVariants.{Bool as WantBool, Object}
 use Rattle.dap_message.specs.Capabilities.{default_to, default_member, is_given, false_members}
 use Rattle.dap_message.specs.Capabilities.{capabilities}
 use Rattle.dap_message.proofs.Edits.{by_bool}
@@ -334,4 +336,13 @@ abbrev pub after_body : List ProfileRow
 after_body = take 54 (drop 50 profile)
 
 pub profile_is : profile ≡ before_body ++ row_50 ∷ after_body ++ capability_rows 105 capabilities
+unfolding profile
 profile_is = refl
+
+pub calm_before : all_calm before_body ≡ true
+unfolding profile
+calm_before = refl
+
+pub calm_after : all_calm after_body ≡ true
+unfolding profile
+calm_after = refl

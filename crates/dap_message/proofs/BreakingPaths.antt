@@ -11,11 +11,12 @@ use Rattle.std.proofs.lemmas.Slice.Eq.{bytes_eq-Decides}
 use Rattle.std.specs.Cmp.Lexicographic.{slice_cmp}
 use Rattle.std.specs.Option.{option_or, option_map_or}
 use Rattle.std.specs.Ordering.{is_lt}
+use Rattle.dap_profile.specs.PlaceSteps.{PlaceStep, named, each}
+use Rattle.dap_profile.specs.declared.profile.Want.{Want}
 use Rattle.dap_message.specs.FaultsByPath.{shown}
-use Rattle.dap_message.specs.Places.{PlaceStep, named, each, fits_place, elements, parts_at}
+use Rattle.dap_message.specs.Places.{fits_place, elements, parts_at}
 use Rattle.dap_message.specs.Rows.{cause_against, first_cause}
 use Rattle.dap_message.specs.declared.broken_rows.Cause.{Cause}
-use Rattle.dap_message.specs.declared.profile.Want.{Want}
 use Rattle.dap_message.proofs.Envelopes.{fault_free, some_is}
 use Rattle.dap_message.proofs.NameOrder.{itself}
 

@@ -10,6 +10,8 @@ use Rattle.dap_tree.specs.declared.sort.Sort.TheVariants.{Reference}
 use Rattle.dap_tree.proofs.Outcomes.{read_once, one_outcome, some_outcome, read_is_plain}
 use Rattle.dap_tree.proofs.MemberOrder.{read_is_ordered}
 use Rattle.dap_tree.proofs.Utf8.{read_is_utf8}
+use Rattle.dap_profile.specs.declared.profile.Kind.{Kind}
+use Rattle.dap_profile.specs.declared.profile.Kind.TheVariants.{Request, Response, Event}
 use Rattle.dap_message.specs.Message.{IsTypedBack, IsRenumberedBack}
 use Rattle.std.proofs.Common.{◌≡◌, ◌⊎◌, inl, inr, ℕ, zero, suc, ◌<◌, ℤ, pos, true, cond, List, []}
 use Rattle.std.proofs.Common.{◌∷◌, length, get_or, Contains, Option, Some, None, option_map, codes}
@@ -24,12 +26,9 @@ use Rattle.dap_message.specs.Laws.{IsWellFormed}
 use Rattle.dap_message.specs.Marks.{mark}
 use Rattle.dap_message.specs.Message.{IsTyped, IsTypedContent, message_of, Refusal, no_reading}
 use Rattle.dap_message.specs.Message.{fraction, faulty, HasRefusal}
-use Rattle.dap_message.specs.Numbers.{is_proper_number, is_proper, has_id_numbers}
-use Rattle.dap_message.specs.Numbers.{has_small_ids}
+use Rattle.dap_message.specs.Numbers.{is_proper_number, is_proper, has_id_numbers, has_small_ids}
 use Rattle.dap_message.specs.Rows.{is_of_kind, type_name, name_key}
 use Rattle.dap_message.specs.declared.fault.MessageFault.{MessageFault}
-use Rattle.dap_message.specs.declared.profile.Kind.{Kind}
-use Rattle.dap_message.specs.declared.profile.Kind.TheVariants.{Request, Response, Event}
 use Rattle.dap_message.proofs.FilledOnce.{numbers-again, filled-again}
 use Rattle.dap_message.proofs.Envelopes.{enveloped-message, some_is}
 use Rattle.dap_message.proofs.KeptByTyping.{sound-message, proper-message}

@@ -11,7 +11,8 @@ use Rattle.std.proofs.Common.{nat_cmp, refl, sym, ◌∙◌, ap, bytes_eq, true�
 use Rattle.std.proofs.lemmas.Slice.Eq.{bytes_eq-Decides}
 use Rattle.std.specs.Cmp.Lexicographic.{slice_cmp}
 use Rattle.std.specs.Ordering.{match_ordering}
-use Rattle.dap_message.specs.Places.{PlaceStep, named, each, fits_place}
+use Rattle.dap_profile.specs.PlaceSteps.{PlaceStep, named, each}
+use Rattle.dap_message.specs.Places.{fits_place}
 use Rattle.dap_message.specs.Marks.{is_id_of, marked, top, items_top, members_top, edit}
 
 pub by_bool : {P : Type 0} → (b : Bool) → (b ≡ true → P) → (b ≡ false → P) → P

@@ -17,11 +17,18 @@ use Rattle.std.proofs.lemmas.Map.Text.{is_eq-slice_cmp}
 use Rattle.std.proofs.lemmas.Slice.Eq.{bytes_eq-Decides}
 use Rattle.std.specs.Cmp.Lexicographic.{slice_cmp}
 use Rattle.std.specs.Ordering.{match_ordering}
-use Rattle.dap_message.specs.Places.{named, is_object, fits_place}
-use Rattle.dap_message.specs.Rows.{ProfileRow, row_fault, first_fault, of_row, is_asked, is_of_kind}
-use Rattle.dap_message.specs.Rows.{name_key, type_name, is_text, has_type, cause_against, broken_at}
+use Rattle.dap_profile.specs.PlaceSteps.{named}
+use Rattle.dap_profile.specs.Profile.{profile}
+use Rattle.dap_profile.specs.ProfileRows.{ProfileRow}
+use Rattle.dap_profile.specs.declared.profile.Kind.{Kind}
+use Rattle.dap_profile.specs.declared.profile.Kind.TheVariants.{Request, Response, Event}
+use Rattle.dap_profile.specs.declared.profile.Want.{Want}
+use Rattle.dap_profile.specs.declared.profile.Want.TheVariants.{Bool as WantBool, Text, OwnSeq}
+use Rattle.dap_profile.specs.declared.profile.Want.TheVariants.{OtherSeq}
+use Rattle.dap_message.specs.Places.{is_object, fits_place}
+use Rattle.dap_message.specs.Rows.{row_fault, first_fault, of_row, is_asked, is_of_kind, name_key}
+use Rattle.dap_message.specs.Rows.{type_name, is_text, has_type, cause_against, broken_at}
 use Rattle.dap_message.specs.Rows.{first_cause, is_null, is_id_number}
-use Rattle.dap_message.specs.Profile.{profile}
 use Rattle.dap_message.specs.Faults.{fault, row_broken, has_kind}
 use Rattle.dap_message.specs.Capabilities.{filled, with_capabilities, default_to, is_given}
 use Rattle.dap_message.specs.Capabilities.{false_at, capabilities, tells_capabilities}
@@ -30,11 +37,6 @@ use Rattle.dap_message.specs.Envelope.{has_envelope, is_named, text_value, boole
 use Rattle.dap_message.specs.Envelope.{seq_of}
 use Rattle.dap_message.specs.declared.broken_rows.Cause.{Cause}
 use Rattle.dap_message.specs.declared.broken_rows.Cause.TheVariants.{WrongType}
-use Rattle.dap_message.specs.declared.profile.Kind.{Kind}
-use Rattle.dap_message.specs.declared.profile.Kind.TheVariants.{Request, Response, Event}
-use Rattle.dap_message.specs.declared.profile.Want.{Want}
-use Rattle.dap_message.specs.declared.profile.Want.TheVariants.{Bool as WantBool, Text, OwnSeq}
-use Rattle.dap_message.specs.declared.profile.Want.TheVariants.{OtherSeq}
 use Rattle.dap_message.specs.declared.fault.MessageFault.TheVariants as MessageFault
 use Rattle.dap_message.proofs.Edits.{by_bool, get-change_other}
 use Rattle.dap_message.proofs.RowMarks.{one_step, text-top, at-mark}
@@ -442,6 +444,7 @@ row_6 = record {
 
 seq_there : (side : Side) (d : Doc) → is_object d ≡ true → first_fault profile d ≡ None
     → is_some (seq_of (mark_rows profile side (filled side d))) ≡ true
+unfolding profile
 seq_there side d ob h =
     let s = row_free 1 None None (codes "seq") OwnSeq d ob refl (free_at 0 profile row_1 d h refl)
     in
@@ -483,6 +486,7 @@ words_there side d n kd k ob is away free =
 success_there : (side : Side) (d : Doc) → is_object d ≡ true → is_of_kind Response d ≡ true
     → first_fault profile d ≡ None
     → is_some (boolean_value (get (codes "success") (After side d))) ≡ true
+unfolding profile
 success_there side d ob is h =
     let s = row_free 5 (Some Response) None (codes "success") WantBool d ob is
     (free_at 4 profile row_5 d h refl) in
@@ -493,6 +497,7 @@ success_there side d ob is h =
 request_seq_there : (side : Side) (d : Doc) → is_object d ≡ true → is_of_kind Response d ≡ true
     → first_fault profile d ≡ None
     → is_some (id_number (get (codes "request_seq") (After side d))) ≡ true
+unfolding profile
 request_seq_there side d ob is h =
     let s = row_free 4 (Some Response) None (codes "request_seq") OtherSeq d ob is
     (free_at 3 profile row_4 d h refl) in
@@ -540,6 +545,7 @@ rows_free d h = h
 
 enveloped : (side : Side) (d : Doc) → is_object d ≡ true → has_kind d ≡ true
     → first_fault profile d ≡ None → has_envelope (After side d) ≡ true
+unfolding profile
 enveloped side d ob known h =
     let e = After side d in
     let a = is_named Request e in

@@ -7,8 +7,8 @@ use Rattle.dap_tree.proofs.Paths.{get-change}
 use Rattle.std.proofs.Common.{◌≡◌, ℕ, Bool, true, false, cond, ◌||◌, List, ◌∷◌, ◌++◌, Some, None}
 use Rattle.std.proofs.Common.{option_map, codes, refl, sym, ◌∙◌, ap}
 use Rattle.std.specs.Option.{option_or}
+use Rattle.dap_profile.specs.Profile.{profile}
 use Rattle.dap_message.specs.Places.{is_object}
-use Rattle.dap_message.specs.Profile.{profile}
 use Rattle.dap_message.specs.Rows.{first_fault, row_fault, is_text}
 use Rattle.dap_message.specs.Faults.{fault, row_broken, has_kind}
 use Rattle.dap_message.specs.declared.fault.MessageFault.TheVariants.{NotObject, UnknownType}
@@ -19,7 +19,7 @@ use Rattle.dap_message.proofs.Envelopes.{get-filled, fault_free, fault_parts, ro
 use Rattle.dap_message.proofs.BodyRows.{AlikeOutside, Tells, calm_rows, both_free, first-append}
 use Rattle.dap_message.proofs.BodyRows.{capability_rows, capabilities_free, body_free, body_was}
 use Rattle.dap_message.proofs.BodyRows.{body_case, get-default, row_50, before_body, after_body}
-use Rattle.dap_message.proofs.BodyRows.{profile_is}
+use Rattle.dap_message.proofs.BodyRows.{profile_is, calm_before, calm_after}
 
 object-change : (k : List ℕ) (f : Doc → Doc) (d : Doc)
     → is_object (change_child k f d) ≡ is_object d
@@ -61,6 +61,7 @@ split : (d : Doc) → first_fault profile d
     ≡ option_or (first_fault before_body d)
     (option_or (row_fault row_50 d)
     (option_or (first_fault after_body d) (first_fault (capability_rows 105 capabilities) d)))
+unfolding profile
 split d =
     ap (λ rs. first_fault rs d) profile_is
     ∙ first-append before_body (row_50 ∷ after_body ++ capability_rows 105 capabilities) d
@@ -87,10 +88,10 @@ rows_kept d e a t ob oe body h =
     body ∙ ap (option_map (false_at capabilities))
     (get-default (codes "body") (object no_members) d ob ∙ b.1) in
     split e
-    ∙ both_free (first_fault before_body e) _ (calm_rows before_body d e a t refl p.0)
+    ∙ both_free (first_fault before_body e) _ (calm_rows before_body d e a t calm_before p.0)
     (both_free (row_fault row_50 e) _ (body_free d e (false_members capabilities b.0) oe is)
     (both_free (first_fault after_body e) (first_fault (capability_rows 105 capabilities) e)
-    (calm_rows after_body d e a t refl r.0)
+    (calm_rows after_body d e a t calm_after r.0)
     (capabilities_free 105 capabilities d e b.0 t is b.2 r.1)))
 
 pub rows_broken : (d : Doc) → first_fault profile d ≡ None → row_broken d ≡ None

@@ -17,9 +17,10 @@ use Rattle.std.specs.Option.{option_map_or}
 use Rattle.std.proofs.lemmas.Slice.Eq.{bytes_eq-Decides}
 use Rattle.std.specs.Cmp.Lexicographic.{slice_cmp}
 use Rattle.std.specs.Ordering.{match_ordering}
-use Rattle.dap_message.specs.Places.{PlaceStep, named, each}
-use Rattle.dap_message.specs.Profile.{profile}
-use Rattle.dap_message.specs.Rows.{ProfileRow, is_asked, is_text, is_true}
+use Rattle.dap_profile.specs.PlaceSteps.{PlaceStep, named, each}
+use Rattle.dap_profile.specs.Profile.{profile}
+use Rattle.dap_profile.specs.ProfileRows.{ProfileRow}
+use Rattle.dap_message.specs.Rows.{is_asked, is_text, is_true}
 use Rattle.dap_message.specs.Capabilities.{filled, with_capabilities, default_to, default_member}
 use Rattle.dap_message.specs.Capabilities.{is_given, false_members, false_at, capabilities}
 use Rattle.dap_message.specs.Capabilities.{tells_capabilities}

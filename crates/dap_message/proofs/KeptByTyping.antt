@@ -17,9 +17,10 @@ use Rattle.std.specs.Option.{option_map_or}
 use Rattle.std.proofs.lemmas.List.Folds.{list_all-append}
 use Rattle.std.specs.List.{list_all}
 use Rattle.std.specs.Ordering.{int_eq}
-use Rattle.dap_message.specs.Places.{PlaceStep, named, each}
-use Rattle.dap_message.specs.Rows.{ProfileRow, is_asked, is_id_number}
-use Rattle.dap_message.specs.Profile.{profile}
+use Rattle.dap_profile.specs.PlaceSteps.{PlaceStep, named, each}
+use Rattle.dap_profile.specs.Profile.{profile}
+use Rattle.dap_profile.specs.ProfileRows.{ProfileRow}
+use Rattle.dap_message.specs.Rows.{is_asked, is_id_number}
 use Rattle.dap_message.specs.Marks.{is_id_of, marked, edit, mark_rows, mark_row, sort_of, mark}
 use Rattle.dap_message.specs.Capabilities.{default_to, false_at, capabilities, with_capabilities}
 use Rattle.dap_message.specs.Capabilities.{filled, tells_capabilities}

@@ -4,12 +4,13 @@ use Rattle.std.proofs.Common.{◌≡◌, ◌⊎◌, ⊎_elim, ℕ, zero, suc, �
 use Rattle.std.proofs.Common.{cond, List, [], ◌∷◌, length, map, get_or, Contains, Option, Some}
 use Rattle.std.proofs.Common.{None, option_map, refl, sym, ◌∙◌, ap, subst, arith}
 use Rattle.std.specs.Option.{option_or}
+use Rattle.dap_profile.specs.Profile.{profile}
+use Rattle.dap_profile.specs.ProfileRows.{ProfileRow}
 use Rattle.dap_message.specs.Faults.{fault, Fits, has_kind, row_broken}
 use Rattle.dap_message.specs.FaultsByPath.{IsKept, BreaksFirst, IsLeastBroken, IsJudged}
 use Rattle.dap_message.specs.FaultsByPath.{AreNumbered}
 use Rattle.dap_message.specs.Places.{is_object}
-use Rattle.dap_message.specs.Profile.{profile}
-use Rattle.dap_message.specs.Rows.{ProfileRow, is_asked, broken_at, of_row, row_fault, first_fault}
+use Rattle.dap_message.specs.Rows.{is_asked, broken_at, of_row, row_fault, first_fault}
 use Rattle.dap_message.specs.declared.broken_rows.Cause.{Cause}
 use Rattle.dap_message.specs.declared.broken_rows.Cause.TheVariants.{Missing, WrongType}
 use Rattle.dap_message.specs.declared.fault.MessageFault.{MessageFault}
@@ -121,6 +122,7 @@ number_at (q ∷ rs) n (suc i) r h lt is =
     omega arith
 
 profile_numbers : map (λ s. s.number) profile ≡ numbers_from 1 profile
+unfolding profile
 profile_numbers = refl
 
 pub are_numbered : AreNumbered profile

@@ -9,13 +9,19 @@ use Rattle.std.proofs.Common.{filter_map, Option, Some, None, option_map, option
 use Rattle.std.proofs.Common.{refl, sym, ◌∙◌, ap, ap₂, subst}
 use Rattle.std.specs.List.{list_all, flat_map, cons_option}
 use Rattle.std.specs.Option.{is_some, option_or, option_map_or, unwrap_or}
+use Rattle.dap_profile.specs.PlaceSteps.{PlaceStep, named, each}
+use Rattle.dap_profile.specs.Profile.{profile}
+use Rattle.dap_profile.specs.ProfileRows.{ProfileRow}
+use Rattle.dap_profile.specs.declared.profile.Kind.TheVariants.{Response}
+use Rattle.dap_profile.specs.declared.profile.Want.{Want}
+use Rattle.dap_profile.specs.declared.profile.Want.TheVariants.{Whole, Text, Object, Frame}
+use Rattle.dap_profile.specs.declared.profile.Want.TheVariants.{Reference}
 use Rattle.dap_message.specs.Envelope.{text_value}
 use Rattle.dap_message.specs.Faults.{Fits, has_kind, row_broken}
 use Rattle.dap_message.specs.Message.{IsTyped, IsTypedContent}
-use Rattle.dap_message.specs.Places.{PlaceStep, named, each, parts_at, is_object, list_of}
-use Rattle.dap_message.specs.Profile.{profile}
-use Rattle.dap_message.specs.Rows.{ProfileRow, is_asked, is_id_number, cause_against, first_cause}
-use Rattle.dap_message.specs.Rows.{broken_at, of_row, row_fault, first_fault}
+use Rattle.dap_message.specs.Places.{parts_at, is_object, list_of}
+use Rattle.dap_message.specs.Rows.{is_asked, is_id_number, cause_against, first_cause, broken_at}
+use Rattle.dap_message.specs.Rows.{of_row, row_fault, first_fault}
 use Rattle.dap_message.specs.Views.{number_value, reference_value, frame_from, scope_from}
 use Rattle.dap_message.specs.Views.{variable_from, frame_of, scope_of, variable_of, frames_of}
 use Rattle.dap_message.specs.Views.{scopes_of, variables_of, listed, listed_frames, listed_scopes}
@@ -24,10 +30,6 @@ use Rattle.dap_message.specs.Views.{shows_all}
 use Rattle.dap_message.specs.declared.broken_rows.Cause.{Cause}
 use Rattle.dap_message.specs.declared.broken_rows.Cause.TheVariants.{WrongType}
 use Rattle.dap_message.specs.declared.fault.MessageFault.TheVariants.{NotObject, UnknownType}
-use Rattle.dap_message.specs.declared.profile.Kind.TheVariants.{Response}
-use Rattle.dap_message.specs.declared.profile.Want.{Want}
-use Rattle.dap_message.specs.declared.profile.Want.TheVariants.{Whole, Text, Object, Frame}
-use Rattle.dap_message.specs.declared.profile.Want.TheVariants.{Reference}
 use Rattle.dap_tree.proofs.Outcomes.{read_is_plain}
 use Rattle.dap_message.proofs.Contents.{own_again}
 use Rattle.dap_message.proofs.Edits.{by_bool}
@@ -499,6 +501,7 @@ all_listed p command name m asked =
 
 frames_listed : (m : Doc) → first_fault profile (without_ids m) ≡ None
     → are_frames (listed_frames m) ≡ true
+unfolding profile
 frames_listed m h =
     let command = codes "stackTrace" in
     let name = codes "stackFrames" in
@@ -521,6 +524,7 @@ frames_listed m h =
 
 scopes_listed : (m : Doc) → first_fault profile (without_ids m) ≡ None
     → are_scopes (listed_scopes m) ≡ true
+unfolding profile
 scopes_listed m h =
     let command = codes "scopes" in
     let name = codes "scopes" in
@@ -539,6 +543,7 @@ scopes_listed m h =
 
 variables_listed : (m : Doc) → first_fault profile (without_ids m) ≡ None
     → are_variables (listed_variables m) ≡ true
+unfolding profile
 variables_listed m h =
     let command = codes "variables" in
     let name = codes "variables" in

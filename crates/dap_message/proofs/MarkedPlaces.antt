@@ -18,9 +18,9 @@ use Rattle.std.proofs.lemmas.Slice.Eq.{bytes_eq-Decides}
 use Rattle.std.specs.Cmp.Lexicographic.{slice_cmp}
 use Rattle.std.specs.List.{list_all}
 use Rattle.std.specs.Ordering.{int_eq}
+use Rattle.dap_profile.specs.PlaceSteps.{PlaceStep, named, each}
 use Rattle.dap_message.specs.Marks.{is_id_of, marked, edit}
 use Rattle.dap_message.specs.Numbers.{is_small}
-use Rattle.dap_message.specs.Places.{PlaceStep, named, each}
 use Rattle.dap_message.specs.Rows.{is_id_number}
 use Rattle.dap_message.proofs.NameOrder.{equal_at, other_at}
 use Rattle.dap_message.proofs.Edits.{by_bool}

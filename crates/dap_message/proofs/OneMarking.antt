@@ -13,8 +13,8 @@ use Rattle.std.proofs.Common.{refl, sym, ◌∙◌, ap, ap₂, bytes_eq}
 use Rattle.std.proofs.lemmas.Slice.Eq.{bytes_eq-Decides}
 use Rattle.std.specs.Cmp.Lexicographic.{slice_cmp}
 use Rattle.std.specs.Ordering.{match_ordering, is_lt}
+use Rattle.dap_profile.specs.Profile.{profile}
 use Rattle.dap_message.specs.Marks.{IsMarked, top, items_top, members_top, mark}
-use Rattle.dap_message.specs.Profile.{profile}
 use Rattle.dap_message.proofs.NameOrder.{itself, equal_at}
 use Rattle.dap_message.proofs.Edits.{Alike, by_bool}
 use Rattle.dap_message.proofs.Envelopes.{apart}

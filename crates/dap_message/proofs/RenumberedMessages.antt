@@ -11,9 +11,9 @@ use Rattle.std.specs.List.{zip}
 use Rattle.std.specs.Option.{is_some}
 use Rattle.std.specs.Cmp.Lexicographic.{slice_cmp}
 use Rattle.std.specs.Ordering.{match_ordering}
+use Rattle.dap_profile.specs.declared.profile.Kind.{Kind}
+use Rattle.dap_profile.specs.declared.profile.Kind.TheVariants.{Request, Response, Event}
 use Rattle.dap_message.specs.Rows.{is_text, type_name, name_key}
-use Rattle.dap_message.specs.declared.profile.Kind.{Kind}
-use Rattle.dap_message.specs.declared.profile.Kind.TheVariants.{Request, Response, Event}
 use Rattle.dap_message.specs.Envelope.{text_value, boolean_value, id_number, is_named, has_envelope}
 use Rattle.dap_message.specs.Numbers.{are_proper, is_proper, renumbered}
 

@@ -6,12 +6,13 @@ use Rattle.dap_tree.specs.declared.sort.Sort.{Sort}
 use Rattle.std.proofs.Common.{◌≡◌, ℕ, ℤ, Bool, true, false, cond, ◌&&◌, List, [], ◌∷◌, Option, Some}
 use Rattle.std.proofs.Common.{None, option_map, option_and_then, codes, refl, sym, ◌∙◌, ap, ap₂}
 use Rattle.std.specs.Option.{option_map_or}
-use Rattle.dap_message.specs.Places.{PlaceStep, fits_place}
-use Rattle.dap_message.specs.Profile.{profile}
-use Rattle.dap_message.specs.Rows.{ProfileRow, is_asked, is_text, is_true, may_have_body, name_key}
-use Rattle.dap_message.specs.Rows.{type_name}
-use Rattle.dap_message.specs.declared.profile.Kind.{Kind}
-use Rattle.dap_message.specs.declared.profile.Kind.TheVariants.{Request, Response, Event}
+use Rattle.dap_profile.specs.PlaceSteps.{PlaceStep}
+use Rattle.dap_profile.specs.Profile.{profile}
+use Rattle.dap_profile.specs.ProfileRows.{ProfileRow}
+use Rattle.dap_profile.specs.declared.profile.Kind.{Kind}
+use Rattle.dap_profile.specs.declared.profile.Kind.TheVariants.{Request, Response, Event}
+use Rattle.dap_message.specs.Places.{fits_place}
+use Rattle.dap_message.specs.Rows.{is_asked, is_text, is_true, may_have_body, name_key, type_name}
 use Rattle.dap_message.specs.Marks.{is_id_of, marked, top, edit, made, made_by, mark_rows, mark_row}
 use Rattle.dap_message.specs.Marks.{sort_of, IsMarked, mark}
 use Rattle.dap_message.proofs.Edits.{Alike, at-edit, by_bool}

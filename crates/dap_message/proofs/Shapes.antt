@@ -12,11 +12,12 @@ use Rattle.std.specs.Cmp.Lexicographic.{slice_cmp}
 use Rattle.std.specs.List.{flat_map}
 use Rattle.std.specs.Option.{option_map_or}
 use Rattle.std.specs.Ordering.{match_ordering}
+use Rattle.dap_profile.specs.PlaceSteps.{PlaceStep, named, each}
+use Rattle.dap_profile.specs.declared.profile.Kind.{Kind}
+use Rattle.dap_profile.specs.declared.profile.Kind.TheVariants.{Request, Response, Event}
 use Rattle.dap_message.specs.Capabilities.{is_given}
-use Rattle.dap_message.specs.Places.{PlaceStep, named, each, parts_at, is_object, list_of, elements}
+use Rattle.dap_message.specs.Places.{parts_at, is_object, list_of, elements}
 use Rattle.dap_message.specs.Rows.{is_text, is_true, is_asked, may_have_body, type_name, name_key}
-use Rattle.dap_message.specs.declared.profile.Kind.{Kind}
-use Rattle.dap_message.specs.declared.profile.Kind.TheVariants.{Request, Response, Event}
 use Rattle.dap_message.proofs.SortsApart.{AskedAlike}
 use Rattle.dap_message.proofs.MarkedPlaces.{IdNumbers, numbers_left, numbers_right}
 

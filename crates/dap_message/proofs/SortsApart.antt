@@ -11,17 +11,18 @@ use Rattle.std.proofs.Common.{Option, Some, None, codes, refl, sym, ◌∙◌, a
 use Rattle.std.proofs.lemmas.Slice.Eq.{bytes_eq-Decides}
 use Rattle.std.specs.List.{list_all}
 use Rattle.std.specs.Option.{option_map_or}
+use Rattle.dap_profile.specs.PlaceSteps.{PlaceStep}
+use Rattle.dap_profile.specs.Profile.{profile}
+use Rattle.dap_profile.specs.ProfileRows.{ProfileRow}
+use Rattle.dap_profile.specs.declared.profile.Kind.{Kind}
+use Rattle.dap_profile.specs.declared.profile.Kind.TheVariants.{Request, Response, Event}
+use Rattle.dap_profile.specs.declared.profile.Want.{Want}
+use Rattle.dap_profile.specs.declared.profile.Want.TheVariants.{Bool as WantBool, Whole, Text}
+use Rattle.dap_profile.specs.declared.profile.Want.TheVariants.{Object, List as WantList, OwnSeq}
+use Rattle.dap_profile.specs.declared.profile.Want.TheVariants.{OtherSeq, Frame, Reference}
 use Rattle.dap_message.specs.Marks.{sort_of, marked, edit, mark_row, mark_rows}
-use Rattle.dap_message.specs.Places.{PlaceStep}
-use Rattle.dap_message.specs.Profile.{profile}
-use Rattle.dap_message.specs.Rows.{ProfileRow, is_asked, is_of_kind, is_text, type_name, name_key}
+use Rattle.dap_message.specs.Rows.{is_asked, is_of_kind, is_text, type_name, name_key}
 use Rattle.dap_message.specs.Rows.{may_have_body}
-use Rattle.dap_message.specs.declared.profile.Kind.{Kind}
-use Rattle.dap_message.specs.declared.profile.Kind.TheVariants.{Request, Response, Event}
-use Rattle.dap_message.specs.declared.profile.Want.{Want}
-use Rattle.dap_message.specs.declared.profile.Want.TheVariants.{Bool as WantBool, Whole, Text}
-use Rattle.dap_message.specs.declared.profile.Want.TheVariants.{Object, List as WantList, OwnSeq}
-use Rattle.dap_message.specs.declared.profile.Want.TheVariants.{OtherSeq, Frame, Reference}
 use Rattle.dap_message.proofs.RowMarks.{asked-mark_row}
 use Rattle.dap_message.proofs.MarkedPlaces.{Pending, done, mark_at, edits, meet, AgreeWith, Agree}
 
@@ -145,6 +146,7 @@ all_apart [] = true
 all_apart (r ∷ rs) = list_all (apart r) rs && all_apart rs
 
 profile_apart : all_apart profile ≡ true
+unfolding profile
 profile_apart = refl
 
 -- the sort that a side's message has where a client's has this one

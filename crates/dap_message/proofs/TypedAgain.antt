@@ -20,6 +20,14 @@ use Rattle.std.proofs.lemmas.Bool.Decides.{nat_tests}
 use Rattle.std.specs.Cmp.Lexicographic.{slice_cmp}
 use Rattle.std.specs.List.{list_all}
 use Rattle.std.specs.Ordering.{match_ordering}
+use Rattle.dap_profile.specs.PlaceSteps.{PlaceStep}
+use Rattle.dap_profile.specs.Profile.{profile}
+use Rattle.dap_profile.specs.ProfileRows.{ProfileRow}
+use Rattle.dap_profile.specs.declared.profile.Kind.TheVariants.{Request, Response, Event}
+use Rattle.dap_profile.specs.declared.profile.Want.{Want}
+use Rattle.dap_profile.specs.declared.profile.Want.TheVariants.{Bool as WantBool, Whole, Text}
+use Rattle.dap_profile.specs.declared.profile.Want.TheVariants.{Object, List as WantList, OwnSeq}
+use Rattle.dap_profile.specs.declared.profile.Want.TheVariants.{OtherSeq, Frame, Reference}
 use Rattle.dap_message.specs.Capabilities.{is_given, default_to, false_members, false_at}
 use Rattle.dap_message.specs.Capabilities.{capabilities, tells_capabilities, with_capabilities}
 use Rattle.dap_message.specs.Capabilities.{filled}
@@ -27,17 +35,11 @@ use Rattle.dap_message.specs.Faults.{fault, Fits, has_kind, row_broken}
 use Rattle.dap_message.specs.Marks.{is_id_of, mark}
 use Rattle.dap_message.specs.Message.{message_of, IsTyped}
 use Rattle.dap_message.specs.Numbers.{has_id_numbers}
-use Rattle.dap_message.specs.Places.{PlaceStep, parts_at, is_object}
-use Rattle.dap_message.specs.Profile.{profile}
-use Rattle.dap_message.specs.Rows.{ProfileRow, is_asked, is_id_number, cause_against, first_cause}
-use Rattle.dap_message.specs.Rows.{broken_at, of_row, row_fault, first_fault}
+use Rattle.dap_message.specs.Places.{parts_at, is_object}
+use Rattle.dap_message.specs.Rows.{is_asked, is_id_number, cause_against, first_cause, broken_at}
+use Rattle.dap_message.specs.Rows.{of_row, row_fault, first_fault}
 use Rattle.dap_message.specs.declared.broken_rows.Cause.{Cause}
 use Rattle.dap_message.specs.declared.fault.MessageFault.TheVariants.{NotObject, UnknownType}
-use Rattle.dap_message.specs.declared.profile.Kind.TheVariants.{Request, Response, Event}
-use Rattle.dap_message.specs.declared.profile.Want.{Want}
-use Rattle.dap_message.specs.declared.profile.Want.TheVariants.{Bool as WantBool, Whole, Text}
-use Rattle.dap_message.specs.declared.profile.Want.TheVariants.{Object, List as WantList, OwnSeq}
-use Rattle.dap_message.specs.declared.profile.Want.TheVariants.{OtherSeq, Frame, Reference}
 use Rattle.dap_message.proofs.FilledOnce.{numbers-again, tells-again, AllGiven, false-given}
 use Rattle.dap_message.proofs.FilledOnce.{false-noop}
 use Rattle.dap_message.proofs.SortsApart.{AskedAlike, pending, mark_rows-edits, agree_profile}
@@ -306,6 +308,7 @@ has_body ks d ms is given =
 
 has_all-capabilities : (d : Doc) → Fits d → Tells d
     → has_all capabilities (with_capabilities d) ≡ true
+unfolding profile
 has_all-capabilities d fits tells =
     let p = fault_parts (is_object d) (has_kind d) (row_broken d) UnknownType NotObject fits in
     let free = free_at 49 profile row_50 d (rows_free d p.2) refl in

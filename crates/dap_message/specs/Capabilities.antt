@@ -5,8 +5,8 @@ use Rattle.dap_tree.specs.Doc.{change_child}
 use Rattle.dap_tree.specs.declared.side.Side.{Side}
 use Rattle.dap_tree.specs.declared.side.Side.TheVariants.{Client, Adapter}
 use Rattle.std.specs.Prelude.{ℕ, Bool, true, false, cond, List, [], ◌∷◌, Option, Some, None, codes}
+use Rattle.dap_profile.specs.declared.profile.Kind.TheVariants.{Response}
 use Rattle.dap_message.specs.Rows.{is_asked}
-use Rattle.dap_message.specs.declared.profile.Kind.TheVariants.{Response}
 
 -- Something but null stands there.
 abbrev pub is_given : Option Doc → Bool

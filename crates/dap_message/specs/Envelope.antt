@@ -2,9 +2,9 @@
 use Rattle.dap_tree.specs.Doc.{Doc, boolean, text, id, get}
 use Rattle.std.specs.Prelude.{ℕ, ℤ, Bool, cond, ◌&&◌, ◌||◌, List, Option, Some, None, is_some}
 use Rattle.std.specs.Prelude.{codes}
+use Rattle.dap_profile.specs.declared.profile.Kind.{Kind}
+use Rattle.dap_profile.specs.declared.profile.Kind.TheVariants.{Request, Response, Event}
 use Rattle.dap_message.specs.Rows.{is_of_kind, name_key}
-use Rattle.dap_message.specs.declared.profile.Kind.{Kind}
-use Rattle.dap_message.specs.declared.profile.Kind.TheVariants.{Request, Response, Event}
 
 -- The number of an id, the value of a boolean, the bytes of a text, where one stands there.
 abbrev pub id_number : Option Doc → Option ℤ

@@ -1,12 +1,12 @@
 -- What is wrong with a message, and the messages with which nothing is.
 use Rattle.dap_tree.specs.Doc.{Doc}
 use Rattle.std.specs.Prelude.{◌≡◌, Bool, cond, ◌||◌, Option, Some, None}
+use Rattle.dap_profile.specs.Profile.{profile}
+use Rattle.dap_profile.specs.declared.profile.Kind.TheVariants.{Request, Response, Event}
 use Rattle.dap_message.specs.Places.{is_object}
-use Rattle.dap_message.specs.Profile.{profile}
 use Rattle.dap_message.specs.Rows.{is_of_kind, first_fault}
 use Rattle.dap_message.specs.declared.fault.MessageFault.{MessageFault}
 use Rattle.dap_message.specs.declared.fault.MessageFault.TheVariants.{NotObject, UnknownType}
-use Rattle.dap_message.specs.declared.profile.Kind.TheVariants.{Request, Response, Event}
 
 -- A message is a request, a response or an event (DAP specification, ProtocolMessage).
 abbrev pub has_kind : Doc → Bool

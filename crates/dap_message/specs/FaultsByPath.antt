@@ -1,12 +1,13 @@
 -- What is wrong with a message, said path by path and by the numbers of the rows.
 use Rattle.dap_tree.specs.Doc.{Doc, object, get_member}
 use Rattle.dap_tree.specs.Path.{Step, name, step, IsBefore}
-use Rattle.std.specs.Prelude.{◌≡◌, ℕ, ◌+◌, ◌<◌, true, List, [], ◌∷◌, length, Contains, Option}
-use Rattle.std.specs.Prelude.{Some, option_and_then, slice_index_or}
+use Rattle.std.specs.Prelude.{◌≡◌, ℕ, ◌+◌, ◌<◌, true, List, [], ◌∷◌, length, Contains, Option, Some}
+use Rattle.std.specs.Prelude.{option_and_then, slice_index_or}
+use Rattle.dap_profile.specs.Profile.{profile}
+use Rattle.dap_profile.specs.ProfileRows.{ProfileRow}
 use Rattle.dap_message.specs.Faults.{has_kind}
 use Rattle.dap_message.specs.Places.{fits_place, is_object}
-use Rattle.dap_message.specs.Profile.{profile}
-use Rattle.dap_message.specs.Rows.{ProfileRow, is_asked, cause_against}
+use Rattle.dap_message.specs.Rows.{is_asked, cause_against}
 use Rattle.dap_message.specs.declared.broken_rows.Cause.{Cause}
 
 -- What a path shows (own): the document that stands there, or None for a member that an object

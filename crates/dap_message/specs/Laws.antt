@@ -5,6 +5,8 @@ use Rattle.dap_tree.specs.Json.{text_of}
 use Rattle.dap_tree.specs.declared.side.Side.{Side}
 use Rattle.dap_tree.specs.declared.sort.Sort.TheVariants.{Reference}
 use Rattle.std.specs.Prelude.{◌≡◌, ◌⊎◌, ◌↔◌, ℕ, ℤ, pos, List, Contains, true, length, map, Some}
+use Rattle.dap_profile.specs.Profile.{profile}
+use Rattle.dap_profile.specs.ProfileRows.{ProfileRow}
 use Rattle.dap_message.specs.Capabilities.{filled}
 use Rattle.dap_message.specs.Envelope.{kind_of, name_of, success_of, has_envelope}
 use Rattle.dap_message.specs.Faults.{fault, Fits}
@@ -13,8 +15,7 @@ use Rattle.dap_message.specs.Marks.{IsMarked, mark}
 use Rattle.dap_message.specs.Message.{IsTyped, IsTypedAs, IsTypedContent, Refusal, HasRefusal}
 use Rattle.dap_message.specs.Message.{side_of}
 use Rattle.dap_message.specs.Numbers.{is_proper, has_id_numbers, has_small_ids, renumbered}
-use Rattle.dap_message.specs.Profile.{profile}
-use Rattle.dap_message.specs.Rows.{ProfileRow, of_row}
+use Rattle.dap_message.specs.Rows.{of_row}
 use Rattle.dap_message.specs.Views.{frame_of, frames_of, listed_frames, scope_of, scopes_of}
 use Rattle.dap_message.specs.Views.{listed_scopes, variable_of, variables_of, listed_variables}
 use Rattle.dap_message.specs.Views.{shows_all}

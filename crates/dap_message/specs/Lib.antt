@@ -1,6 +1,5 @@
 pub mod Places
 pub mod Rows
-pub mod Profile
 pub mod Faults
 pub mod FaultsByPath
 pub mod Steps
@@ -13,3 +12,7 @@ pub mod Views
 pub mod ViewItems
 pub mod Message
 pub mod Laws
+pub use Rattle.dap_profile.specs.PlaceSteps
+pub use Rattle.dap_profile.specs.Profile
+pub use Rattle.dap_profile.specs.ProfileRows
+pub use Rattle.dap_profile.specs.Stretches

@@ -12,11 +12,13 @@ use Rattle.std.specs.Prelude.{◌≡◌, ℤ, pos, Bool, cond, not, ◌&&◌, Li
 use Rattle.std.specs.Prelude.{option_map}
 use Rattle.std.specs.Option.{option_map_or}
 use Rattle.std.specs.Ordering.{int_eq}
-use Rattle.dap_message.specs.Places.{PlaceStep, named, each, fits_place}
-use Rattle.dap_message.specs.Profile.{profile}
-use Rattle.dap_message.specs.Rows.{ProfileRow, is_asked, is_id_number}
-use Rattle.dap_message.specs.declared.profile.Want.{Want}
-use Rattle.dap_message.specs.declared.profile.Want.TheVariants.{OwnSeq, OtherSeq, Frame, Reference}
+use Rattle.dap_profile.specs.PlaceSteps.{PlaceStep, named, each}
+use Rattle.dap_profile.specs.Profile.{profile}
+use Rattle.dap_profile.specs.ProfileRows.{ProfileRow}
+use Rattle.dap_profile.specs.declared.profile.Want.{Want}
+use Rattle.dap_profile.specs.declared.profile.Want.TheVariants.{OwnSeq, OtherSeq, Frame, Reference}
+use Rattle.dap_message.specs.Places.{fits_place}
+use Rattle.dap_message.specs.Rows.{is_asked, is_id_number}
 
 -- The sort of the id that is wanted: each side counts its own messages (DAP specification,
 -- ProtocolMessage.seq), so `request_seq` is of the other side.

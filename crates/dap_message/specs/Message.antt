@@ -7,11 +7,11 @@ use Rattle.dap_tree.specs.View.{view}
 use Rattle.dap_tree.specs.declared.side.Side.{Side}
 use Rattle.dap_tree.specs.declared.sort.Sort.{Sort}
 use Rattle.std.specs.Prelude.{◌≡◌, ℕ, ℤ, List, Some, true}
+use Rattle.dap_profile.specs.Profile.{profile}
 use Rattle.dap_message.specs.Capabilities.{filled}
 use Rattle.dap_message.specs.Faults.{fault, Fits}
 use Rattle.dap_message.specs.Marks.{IsMarked, mark}
 use Rattle.dap_message.specs.Numbers.{has_id_numbers}
-use Rattle.dap_message.specs.Profile.{profile}
 use Rattle.dap_message.specs.declared.fault.MessageFault.{MessageFault}
 use Rattle.dap_message.specs.declared.fault.MessageFault.TheVariants.{NotObject, UnknownType}
 use Rattle.dap_message.specs.declared.fault.MessageFault.TheVariants.{Missing, WrongType, Memory}

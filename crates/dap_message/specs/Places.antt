@@ -1,14 +1,10 @@
 -- Places of the profile: the paths that one speaks of, and what stands there.
 use Rattle.dap_tree.specs.Doc.{Doc, object, list, Items, no_items, item, get}
 use Rattle.dap_tree.specs.Path.{Step, name, place}
-use Rattle.std.specs.Prelude.{ℕ, Bool, true, false, cond, ◌&&◌, List, [], ◌∷◌, flat_map, Option}
-use Rattle.std.specs.Prelude.{Some, None, bytes_eq}
+use Rattle.std.specs.Prelude.{Bool, true, false, cond, ◌&&◌, List, [], ◌∷◌, flat_map, Option, Some}
+use Rattle.std.specs.Prelude.{None, bytes_eq}
 use Rattle.std.specs.Option.{option_map_or}
-
--- One step of a place: to the member of a name, or to each element of a list.
-pub data PlaceStep : Type 0 where
-  named : List ℕ → PlaceStep
-  each : PlaceStep
+use Rattle.dap_profile.specs.PlaceSteps.{PlaceStep, named, each}
 
 -- The place speaks of the path: step by step one name, or any element.
 abbrev pub fits_place : List PlaceStep → List Step → Bool

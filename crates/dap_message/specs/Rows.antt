@@ -4,48 +4,20 @@ use Rattle.dap_tree.specs.Doc.{Doc, null, boolean, whole, text, list, object, ge
 use Rattle.std.specs.Prelude.{ℕ, ◌^◌, ℤ, pos, negsuc, Bool, true, false, cond, not, ◌&&◌, nat_lt}
 use Rattle.std.specs.Prelude.{List, [], ◌∷◌, map, Option, Some, None, option_map, codes, bytes_eq}
 use Rattle.std.specs.Option.{option_or}
-use Rattle.dap_message.specs.Places.{PlaceStep, named, each, parts_at}
+use Rattle.dap_profile.specs.PlaceSteps.{PlaceStep}
+use Rattle.dap_profile.specs.ProfileRows.{ProfileRow}
+use Rattle.dap_profile.specs.declared.profile.Kind.{Kind}
+use Rattle.dap_profile.specs.declared.profile.Kind.TheVariants.{Request, Response, Event}
+use Rattle.dap_profile.specs.declared.profile.Want.{Want}
+use Rattle.dap_profile.specs.declared.profile.Want.TheVariants.{Bool as WantBool, Whole, Text}
+use Rattle.dap_profile.specs.declared.profile.Want.TheVariants.{Object, List as WantList, OwnSeq}
+use Rattle.dap_profile.specs.declared.profile.Want.TheVariants.{OtherSeq, Frame, Reference}
+use Rattle.dap_message.specs.Places.{parts_at}
 use Rattle.dap_message.specs.declared.broken_rows.Cause.{Cause}
 use Rattle.dap_message.specs.declared.broken_rows.Cause.TheVariants.{Missing, WrongType}
 use Rattle.dap_message.specs.declared.fault.MessageFault.{MessageFault}
 use Rattle.dap_message.specs.declared.fault.MessageFault.TheVariants.{Missing as MissingRow}
 use Rattle.dap_message.specs.declared.fault.MessageFault.TheVariants.{WrongType as WrongTypeRow}
-use Rattle.dap_message.specs.declared.profile.Kind.{Kind}
-use Rattle.dap_message.specs.declared.profile.Kind.TheVariants.{Request, Response, Event}
-use Rattle.dap_message.specs.declared.profile.Place.{Place}
-use Rattle.dap_message.specs.declared.profile.Place.TheVariants.{Member, Inner, Element, Part}
-use Rattle.dap_message.specs.declared.profile.Row.{Row}
-use Rattle.dap_message.specs.declared.profile.Want.{Want}
-use Rattle.dap_message.specs.declared.profile.Want.TheVariants.{Bool as WantBool, Whole, Text}
-use Rattle.dap_message.specs.declared.profile.Want.TheVariants.{Object, List as WantList, OwnSeq}
-use Rattle.dap_message.specs.declared.profile.Want.TheVariants.{OtherSeq, Frame, Reference}
-
--- A row, as the definitions see it.
-pub record ProfileRow : Type 0 where
-  pub number : ℕ
-  pub kind : Option Kind
-  pub name : Option (List ℕ)
-  pub place : List PlaceStep
-  pub want : Want
-  pub needed : Bool
-
--- The steps of a place, in order. A further form of place is a further line here.
-abbrev pub steps_of : Place → List PlaceStep
-steps_of (Member a) = named a.now ∷ []
-steps_of (Inner a b) = named a.now ∷ named b.now ∷ []
-steps_of (Element a b) = named a.now ∷ named b.now ∷ each ∷ []
-steps_of (Part a b c) = named a.now ∷ named b.now ∷ each ∷ named c.now ∷ []
-
--- What the definitions see of a row of the program.
-abbrev pub row_of : Row → ProfileRow
-row_of r = record {
-  number = r.number;
-  kind = r.kind;
-  name = option_map (λ n. n.now) r.name;
-  place = steps_of r.place;
-  want = r.want;
-  needed = r.needed;
-}
 
 -- ---- the messages that a row is asked of
 

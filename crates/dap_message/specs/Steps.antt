@@ -1,6 +1,6 @@
 -- The place that the program's steps stand for.
 use Rattle.std.specs.Prelude.{List, map}
-use Rattle.dap_message.specs.Places.{PlaceStep, named, each}
+use Rattle.dap_profile.specs.PlaceSteps.{PlaceStep, named, each}
 use Rattle.dap_message.specs.declared.marks.Step.{Step}
 use Rattle.dap_message.specs.declared.marks.Step.TheVariants.{Name, Each}
 

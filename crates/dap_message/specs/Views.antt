@@ -3,10 +3,10 @@ use Rattle.dap_tree.specs.Doc.{Doc, whole, id, get}
 use Rattle.std.specs.Prelude.{ℕ, ℤ, Bool, cond, ◌&&◌, List, [], filter_map, Option, Some, None}
 use Rattle.std.specs.Prelude.{is_some, option_and_then, unwrap_or, codes}
 use Rattle.std.specs.List.{list_all}
+use Rattle.dap_profile.specs.declared.profile.Kind.TheVariants.{Response}
 use Rattle.dap_message.specs.Envelope.{text_value}
 use Rattle.dap_message.specs.Places.{list_of}
 use Rattle.dap_message.specs.Rows.{is_asked, is_id_number}
-use Rattle.dap_message.specs.declared.profile.Kind.TheVariants.{Response}
 
 -- What is shown of a stack frame, of a scope and of a variable (DAP specification, StackFrame,
 -- Scope and Variable).

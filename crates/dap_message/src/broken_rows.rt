@@ -3,10 +3,11 @@ ghost use Rattle.std.specs.Prelude.{◌≡◌, [], ◌∷◌, map, option_map, o
 ghost use Rattle.std.specs.List.{flat_map};
 ghost use Rattle.dap_tree.specs.Doc.{get};
 ghost use Rattle.dap_tree.specs.View.{view};
-ghost use Rattle.dap_message.specs.Places.{named, parts_at, list_of};
-ghost use Rattle.dap_message.specs.Rows.{has_type, cause_against, first_cause, broken_at, steps_of};
+ghost use Rattle.dap_profile.specs.PlaceSteps.{named, steps_of};
+ghost use Rattle.dap_message.specs.Places.{parts_at, list_of};
+ghost use Rattle.dap_message.specs.Rows.{has_type, cause_against, first_cause, broken_at};
 
-use crate::profile::{Place, Row, Want};
+use dap_profile::{Place, Row, Want};
 use dap_tree::Tree;
 
 /// How a row is broken.

@@ -7,7 +7,7 @@ ghost use Rattle.dap_message.specs.Capabilities.{false_members, false_at, tells_
 ghost use Rattle.dap_message.specs.Capabilities.{with_capabilities, filled};
 
 use crate::asked_rows::{has_succeeded, has_text, is_of_kind};
-use crate::profile::Kind;
+use dap_profile::Kind;
 use dap_tree::{Side, Tree};
 use std::alloc::{AllocError, Global};
 use std::collections::BTreeMap;

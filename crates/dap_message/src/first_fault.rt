@@ -1,14 +1,15 @@
 //! The first thing that is wrong with a message.
 ghost use Rattle.std.specs.Prelude.{◌≡◌, Some, IfOk, IfErr, map};
 ghost use Rattle.dap_tree.specs.View.{view};
-ghost use Rattle.dap_message.specs.AskedRows.{asked_rows, kind_told, rows_in, fault_by, first_by};
-ghost use Rattle.dap_message.specs.Rows.{row_of};
+ghost use Rattle.dap_profile.specs.Stretches.{rows_in};
+ghost use Rattle.dap_profile.specs.ProfileRows.{row_of};
+ghost use Rattle.dap_message.specs.AskedRows.{asked_rows, kind_told, fault_by, first_by};
 ghost use Rattle.dap_message.specs.Faults.{fault};
 
 use crate::asked_rows::kind_of;
 use crate::broken_rows::{Cause, cause_of};
 use crate::fault::MessageFault;
-use crate::profile::{Kind, Row};
+use dap_profile::{Kind, Row};
 use dap_tree::Tree;
 
 /// The kind of a message, or why the tree is none before any row is looked at.

@@ -16,15 +16,14 @@ pub mod laws;
 mod listing;
 mod marks;
 mod message;
-mod profile;
 mod typing;
 mod views;
 
+pub use dap_profile::{Kind, PROFILE, Place, Row, Want};
 pub use dap_tree::Side;
 pub use fault::MessageFault;
 pub use ids::IdList;
 pub use listing::{Frames, Scopes, Variables};
 pub use message::Message;
-pub use profile::{Kind, PROFILE, Place, Row, Want};
 pub use typing::typed;
 pub use views::{FrameView, ScopeView, VariableView};

@@ -2,12 +2,14 @@
 ghost use Rattle.std.specs.Prelude.{◌≡◌, map};
 ghost use Rattle.dap_tree.specs.Doc.{change_child, change_items, map_items};
 ghost use Rattle.dap_tree.specs.View.{view, items_view};
-ghost use Rattle.dap_message.specs.AskedRows.{asked_rows, rows_in, mark_by, marks_by};
+ghost use Rattle.dap_profile.specs.Stretches.{rows_in};
+ghost use Rattle.dap_profile.specs.PlaceSteps.{steps_of};
+ghost use Rattle.dap_profile.specs.ProfileRows.{row_of};
+ghost use Rattle.dap_message.specs.AskedRows.{asked_rows, mark_by, marks_by};
 ghost use Rattle.dap_message.specs.Marks.{sort_of, is_id_of, marked, edit, mark};
-ghost use Rattle.dap_message.specs.Rows.{row_of, steps_of};
 ghost use Rattle.dap_message.specs.Steps.{place_of};
 
-use crate::profile::{Place, Row, Want};
+use dap_profile::{Place, Row, Want};
 use dap_tree::{Side, Sort, Tree};
 
 /// One step of a place: to a member, or to each element.

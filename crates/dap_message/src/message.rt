@@ -5,20 +5,20 @@ ghost use Rattle.dap_tree.specs.Doc.{is_sound, is_ordered, get};
 ghost use Rattle.dap_tree.specs.Ids.{ids, with_ids, without_ids, skeleton};
 ghost use Rattle.dap_tree.specs.Json.{text_of, IsRead};
 ghost use Rattle.dap_tree.specs.View.{view};
+ghost use Rattle.dap_profile.specs.declared.profile.Kind.{Kind};
 ghost use Rattle.dap_message.specs.Rows.{is_of_kind};
 ghost use Rattle.dap_message.specs.Envelope.{has_envelope, id_number, boolean_value, text_value};
 ghost use Rattle.dap_message.specs.Envelope.{kind_of, seq_of, request_seq_of, success_of, name_of};
 ghost use Rattle.dap_message.specs.Numbers.{is_proper, are_proper, renumbered};
 ghost use Rattle.dap_message.specs.Views.{shows_all};
 ghost use Rattle.dap_message.specs.declared.fault.MessageFault.{MessageFault};
-ghost use Rattle.dap_message.specs.declared.profile.Kind.{Kind};
 
 use crate::asked_rows::is_of_kind;
 use crate::fault::MessageFault;
 use crate::ids::IdList;
 use crate::listing::{Frames, Scopes, Variables};
-use crate::profile::Kind;
 use crate::views::listed;
+use dap_profile::Kind;
 use dap_tree::{Side, Tree, write_tree};
 use std::alloc::Global;
 

@@ -9,7 +9,7 @@ ghost use Rattle.dap_message.specs.ViewItems.{frame_shown, scope_shown, variable
 use crate::asked_rows::{has_succeeded, has_text, is_of_kind};
 use crate::broken_rows::list_at;
 use crate::message::text_at;
-use crate::profile::Kind;
+use dap_profile::Kind;
 use dap_tree::Tree;
 
 /// What a view shows of a stack frame.

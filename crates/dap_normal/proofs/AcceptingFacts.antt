@@ -8,7 +8,7 @@ use Rattle.dap_message.proofs.Contents.{one_message, one_refusal, typed_not_refu
 use Rattle.dap_message.proofs.Contents.{content_well_formed}
 use Rattle.dap_recording.specs.Recording.{IsRecording}
 use Rattle.dap_rename.specs.Messages.{AreProper, HasFewIds, HasTooManyIds, in_whole}
-use Rattle.dap_rename.specs.Numbering.{table}
+use Rattle.dap_names.specs.Numbering.{table}
 use Rattle.dap_rename.proofs.NormalForms.{front_has_few_ids}
 use Rattle.dap_session.specs.declared.rule.Rule.{Rule}
 use Rattle.dap_session.specs.Rules.{KeepsRules, first_broken}

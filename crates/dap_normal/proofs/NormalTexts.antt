@@ -8,12 +8,12 @@ use Rattle.dap_tree.specs.Json.{text_of}
 use Rattle.dap_message.specs.Message.{Sent}
 use Rattle.dap_message.specs.Numbers.{is_proper}
 use Rattle.dap_recording.specs.Recording.{record_text}
-use Rattle.dap_rename.specs.Numbering.{numbers, table}
+use Rattle.dap_names.specs.Numbering.{numbers, table}
 use Rattle.dap_rename.specs.Renamings.{IsIn}
 use Rattle.dap_rename.specs.Messages.{Class, AreProper, HasFewIds, HasTooManyIds, IsNormal}
 use Rattle.dap_rename.specs.Messages.{in_whole, normal_of, numbers_of_class, occurrences}
 use Rattle.dap_rename.specs.Messages.{same_class, whole_classes}
-use Rattle.dap_rename.proofs.Additions.{by_bool}
+use Rattle.dap_names.proofs.Additions.{by_bool}
 use Rattle.dap_rename.proofs.Lists.{at_each, each-append, each_left}
 use Rattle.dap_rename.proofs.Occurrences.{class_decides}
 use Rattle.dap_rename.proofs.Sameness.{in_any, normal_is_unique, same_as_itself, whole_occurrences}

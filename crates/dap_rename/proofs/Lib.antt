@@ -1,12 +1,9 @@
 pub mod Lists
-pub mod Additions
-pub mod FreshLists
 pub mod RelatedLists
 pub mod RenamingBetween
 pub mod Occurrences
 pub mod Sameness
 pub mod NormalForms
-pub mod Places
 pub mod ListGrowth
 pub mod TableContents
 pub mod CarriesTest

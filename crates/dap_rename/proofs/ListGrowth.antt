@@ -8,10 +8,10 @@ use Rattle.std.specs.List.{list_any}
 use Rattle.std.specs.Ordering.{int_eq}
 use Rattle.dap_tree.specs.declared.sort.Sort.{Sort}
 use Rattle.dap_tree.specs.declared.sort.Sort.TheVariants.{ClientSeq, AdapterSeq, Frame, Reference}
-use Rattle.dap_rename.specs.Numbering.{add}
-use Rattle.dap_rename.proofs.Additions.{by_bool}
+use Rattle.dap_names.specs.Numbering.{add}
+use Rattle.dap_names.proofs.Additions.{by_bool}
 use Rattle.dap_rename.specs.declared.tables.Tables.{Tables}
-use Rattle.dap_rename.specs.Table.{place, has}
+use Rattle.dap_names.specs.Table.{place, has}
 use Rattle.dap_rename.specs.Tables.{Lists, list_of, added, added_all, names_from, Begins, AllBegin}
 use Rattle.dap_rename.specs.Tables.{Limits, limits, limit_of, lists, AllFit, SomeIsOver}
 

@@ -13,7 +13,7 @@ use Rattle.dap_tree.specs.declared.sort.Sort.TheVariants.{ClientSeq, AdapterSeq,
 use Rattle.dap_tree.proofs.Booleans.{or_left, or_right}
 use Rattle.dap_message.specs.Message.{Sent}
 use Rattle.dap_message.specs.Numbers.{is_proper_number}
-use Rattle.dap_rename.specs.Numbering.{table}
+use Rattle.dap_names.specs.Numbering.{table}
 use Rattle.dap_rename.specs.Messages.{Class, IsProperId, class_after, occurrences, same_class}
 use Rattle.dap_rename.specs.Messages.{in_whole, equal_places}
 use Rattle.dap_rename.specs.Renamings.{AreApart, IsRenaming, pairs_of_class}

@@ -10,15 +10,15 @@ use Rattle.dap_tree.specs.declared.sort.Sort.TheVariants.{ClientSeq, AdapterSeq,
 use Rattle.dap_tree.proofs.Booleans.{and_both}
 use Rattle.dap_message.specs.Message.{Sent}
 use Rattle.dap_message.specs.Numbers.{is_proper_number, are_proper}
-use Rattle.dap_rename.specs.Numbering.{add, numbers, table, name, named}
+use Rattle.dap_names.specs.Numbering.{add, numbers, table, name, named}
 use Rattle.dap_rename.specs.Messages.{Class, same_class, sort_number, class_after, occurrence}
 use Rattle.dap_rename.specs.Messages.{occurrences, numbers_of_class, stops_after, in_whole}
 use Rattle.dap_rename.specs.Messages.{HasFewIds, HasTooManyIds, IsRenamed}
-use Rattle.dap_rename.specs.Table.{place}
+use Rattle.dap_names.specs.Table.{place}
 use Rattle.dap_rename.specs.Tables.{Lists, list_of, added, added_all, names_from, table_of, lists}
 use Rattle.dap_rename.specs.Tables.{limit_of, limits, AllFit, SomeIsOver}
 use Rattle.dap_rename.specs.declared.tables.Tables.{Tables}
-use Rattle.dap_rename.proofs.Additions.{table-push}
+use Rattle.dap_names.proofs.Additions.{table-push}
 use Rattle.dap_rename.proofs.Occurrences.{class_sort, same_itself, same_sent, occurrences-push}
 use Rattle.dap_rename.proofs.Sameness.{proper_suc}
 

@@ -1,12 +1,12 @@
-pub mod Numbering
 pub mod Renamings
 pub mod Messages
-pub mod Table
 pub mod Tables
 pub mod Names
-pub mod PlainNames
 pub mod Pairs
 pub mod Renaming
 pub mod Carrying
-pub mod IndexNames
 pub mod Laws
+pub use Rattle.dap_names.specs.IndexNames
+pub use Rattle.dap_names.specs.Numbering
+pub use Rattle.dap_names.specs.PlainNames
+pub use Rattle.dap_names.specs.Table

@@ -6,19 +6,14 @@
 #![tactic(auto)]
 
 mod carries;
-mod index_names;
 pub mod laws;
-mod name_table;
 mod names;
 mod pair;
-mod plain_names;
 mod renaming;
 mod tables;
 
-pub use index_names::IndexNames;
-pub use name_table::{NameFault, NameTable};
+pub use dap_names::{IndexNames, NameFault, NameTable, PlainNames};
 pub use names::Names;
 pub use pair::{Pair, PairFault};
-pub use plain_names::PlainNames;
 pub use renaming::Renaming;
 pub use tables::Tables;

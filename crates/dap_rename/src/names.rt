@@ -3,9 +3,9 @@ ghost use Rattle.std.specs.Prelude.{◌≡◌, List, [], ◌∷◌, ◌++◌, le
 ghost use Rattle.dap_message.specs.Message.{Sent, sent};
 ghost use Rattle.dap_rename.specs.Messages.{HasFewIds, HasTooManyIds, IsRenamed, in_whole};
 
-use crate::name_table::{NameFault, NameTable};
 use crate::tables::Tables;
 use dap_message::Message;
+use dap_names::{NameFault, NameTable};
 use dap_tree::Sort;
 use std::alloc::Global;
 

@@ -9,10 +9,10 @@ ghost use Rattle.dap_rename.specs.Pairs.{PairFails, FailsFirst, RefusesPairs, eq
 ghost use Rattle.dap_rename.specs.Renamings.{IsRenaming, pairs_of_class};
 
 use crate::carries::carries_list;
-use crate::name_table::{NameFault, NameTable};
 use crate::names::Names;
 use crate::pair::{Pair, PairFault};
 use dap_message::Message;
+use dap_names::{NameFault, NameTable};
 use dap_tree::Sort;
 use std::alloc::{AllocError, Global};
 

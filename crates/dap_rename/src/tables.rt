@@ -1,10 +1,10 @@
 //! A table of names for each sort of ids.
 ghost use Rattle.std.specs.Prelude.{◌≡◌, ◌≤◌, false, Err, IfOk, OnOk, OnErr, length, take};
-ghost use Rattle.dap_rename.specs.Table.{has, place};
+ghost use Rattle.dap_names.specs.Table.{has, place};
 ghost use Rattle.dap_rename.specs.Tables.{lists, list_of, added, added_all, names_from, AllBegin};
 ghost use Rattle.dap_rename.specs.Tables.{limits, limit_of, AllFit, SomeIsOver};
 
-use crate::name_table::{NameFault, NameTable};
+use dap_names::{NameFault, NameTable};
 use dap_tree::Sort;
 use std::alloc::Global;
 

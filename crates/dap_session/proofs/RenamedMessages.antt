@@ -7,11 +7,11 @@ use Rattle.std.proofs.Common.{None, option_map, codes, refl, sym, ap, ◌∙◌,
 use Rattle.std.specs.List.{All, AllZip}
 use Rattle.std.specs.Option.{unwrap_or}
 use Rattle.std.proofs.lemmas.List.Elements.{All-head, All-tail}
+use Rattle.dap_profile.specs.declared.profile.Kind.{Kind}
+use Rattle.dap_profile.specs.declared.profile.Kind.TheVariants.{Response}
 use Rattle.dap_message.specs.Envelope as envelope
 use Rattle.dap_message.specs.Message.{Sent}
 use Rattle.dap_message.specs.Rows.{is_of_kind, type_name}
-use Rattle.dap_message.specs.declared.profile.Kind.{Kind}
-use Rattle.dap_message.specs.declared.profile.Kind.TheVariants.{Response}
 use Rattle.dap_message.proofs.Contents.{skeleton_tells}
 use Rattle.dap_message.proofs.Shapes.{text-shape, skeleton_keeps}
 use Rattle.dap_session.specs.Messages.{side_of, kind_of, name_of, seq_of, request_seq_of}

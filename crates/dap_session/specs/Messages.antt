@@ -5,10 +5,10 @@ use Rattle.std.specs.Prelude.{ℕ, ℤ, pos, Bool, true, false, ◌&&◌, List, 
 use Rattle.std.specs.Prelude.{codes, unwrap_or}
 use Rattle.std.specs.Str.{bytes_eq}
 use Rattle.std.specs.Ordering.{int_eq}
+use Rattle.dap_profile.specs.declared.profile.Kind.{Kind}
+use Rattle.dap_profile.specs.declared.profile.Kind.TheVariants.{Request, Response, Event}
 use Rattle.dap_message.specs.Envelope as envelope
 use Rattle.dap_message.specs.Message.{Sent}
-use Rattle.dap_message.specs.declared.profile.Kind.{Kind}
-use Rattle.dap_message.specs.declared.profile.Kind.TheVariants.{Request, Response, Event}
 
 -- ---- the words
 

@@ -7,9 +7,9 @@ use Rattle.dap_tree.specs.declared.sort.Sort.{Sort}
 use Rattle.dap_tree.specs.declared.sort.Sort.TheVariants.{ClientSeq, AdapterSeq}
 use Rattle.std.specs.Prelude.{◌≡◌, ◌↔◌, ℤ, true, List, Option, Some, None, codes}
 use Rattle.std.specs.List.{AllZip}
+use Rattle.dap_profile.specs.declared.profile.Kind.TheVariants.{Response}
 use Rattle.dap_message.specs.Message.{Sent}
 use Rattle.dap_message.specs.Rows.{is_of_kind}
-use Rattle.dap_message.specs.declared.profile.Kind.TheVariants.{Response}
 use Rattle.dap_session.specs.Messages.{other}
 
 -- The sort of the id that stands there.

@@ -9,11 +9,11 @@ use Rattle.dap_tree.specs.Doc.{Doc, text}
 use Rattle.dap_tree.specs.Json.{text_of}
 use Rattle.dap_tree.specs.declared.side.Side.{Side}
 use Rattle.dap_tree.specs.declared.side.Side.TheVariants.{Client, Adapter}
+use Rattle.dap_profile.specs.declared.profile.Kind.{Kind}
+use Rattle.dap_profile.specs.declared.profile.Kind.TheVariants.{Request, Response, Event}
 use Rattle.dap_message.specs.Envelope.{kind_of, name_of, seq_of, request_seq_of, success_of}
 use Rattle.dap_message.specs.Message.{Sent}
 use Rattle.dap_message.specs.Views.{StackFrame, Scope, Variable, frames_of, scopes_of, variables_of}
-use Rattle.dap_message.specs.declared.profile.Kind.{Kind}
-use Rattle.dap_message.specs.declared.profile.Kind.TheVariants.{Request, Response, Event}
 use Rattle.dap_recording.specs.Recording.{IsRecording, records}
 use Rattle.dap_input.specs.declared.limits.Limits.{Limits}
 use Rattle.dap_normal.specs.Accepting.{Held, IsMessage, HoldsNoMessage, AreMessages}

@@ -1,7 +1,8 @@
 use Rattle.dap_tree.specs.View.{view}
 use Rattle.std.proofs.Common.{◌≡◌, drop, map, [], ◌∷◌}
 use Rattle.std.specs.List.{flat_map}
-use Rattle.dap_message.specs.Places.{parts_at, named}
+use Rattle.dap_profile.specs.PlaceSteps.{named}
+use Rattle.dap_message.specs.Places.{parts_at}
 use Rattle.dap_message.specs.Rows.{cause_against, first_cause}
 use Rattle.dap_message.proofs.broken_rows.judge_parts.Given as goal
 

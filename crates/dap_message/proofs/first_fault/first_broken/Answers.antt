@@ -1,6 +1,6 @@
 use Rattle.dap_tree.specs.View.{view}
 use Rattle.std.proofs.Common.{◌∙◌, sym, map}
-use Rattle.dap_message.specs.Rows.{row_of}
+use Rattle.dap_profile.specs.ProfileRows.{row_of}
 use Rattle.dap_message.proofs.AskedRows.{first-told, first-rest}
 use Rattle.dap_message.proofs.first_fault.first_broken.Goals as goal
 

@@ -1,7 +1,7 @@
 use Rattle.dap_tree.specs.View.{view}
 use Rattle.std.proofs.Common.{◌≡◌, drop, map}
+use Rattle.dap_profile.specs.ProfileRows.{row_of}
 use Rattle.dap_message.specs.AskedRows.{first_by}
-use Rattle.dap_message.specs.Rows.{row_of}
 use Rattle.dap_message.proofs.first_fault.first_of.Given as goal
 
 abbrev pub invariant-loop-row : goal.invariant-loop-row

@@ -1,6 +1,7 @@
 use Rattle.dap_tree.specs.View.{view}
 use Rattle.std.proofs.Common.{◌≡◌, drop}
-use Rattle.dap_message.specs.AskedRows.{rows_in, marks_by}
+use Rattle.dap_profile.specs.Stretches.{rows_in}
+use Rattle.dap_message.specs.AskedRows.{marks_by}
 use Rattle.dap_message.proofs.marks.mark.Given as goal
 
 abbrev pub invariant-loop-rows : goal.invariant-loop-rows

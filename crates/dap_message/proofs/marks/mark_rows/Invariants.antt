@@ -1,6 +1,6 @@
 use Rattle.dap_tree.specs.View.{view}
 use Rattle.std.proofs.Common.{◌≡◌, drop, map}
-use Rattle.dap_message.specs.Rows.{row_of}
+use Rattle.dap_profile.specs.ProfileRows.{row_of}
 use Rattle.dap_message.specs.AskedRows.{marks_by}
 use Rattle.dap_message.proofs.marks.mark_rows.Given as goal
 

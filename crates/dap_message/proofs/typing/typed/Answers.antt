@@ -1,12 +1,12 @@
 use Rattle.dap_tree.specs.View.{view}
 use Rattle.std.proofs.Common.{rules, arith, ◌≡◌, ◌∙◌, Some, ap, refl, sym, subst}
 use Rattle.std.proofs.lemmas.Grind.{common_steps}
+use Rattle.dap_profile.specs.Profile.{profile}
 use Rattle.dap_message.specs.AskedRows.{asked_rows}
 use Rattle.dap_message.specs.Capabilities.{filled}
 use Rattle.dap_message.specs.Faults.{fault, Fits}
 use Rattle.dap_message.specs.Marks.{mark, IsMarked}
 use Rattle.dap_message.specs.Message.{message_of}
-use Rattle.dap_message.specs.Profile.{profile}
 use Rattle.dap_message.specs.declared.fault.MessageFault.TheVariants.{Memory}
 use Rattle.dap_message.proofs.AskedRows.{asked-filled}
 use Rattle.dap_message.proofs.KeptByTyping.{sound-message, proper-message}

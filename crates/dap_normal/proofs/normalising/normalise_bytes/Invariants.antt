@@ -1,6 +1,6 @@
 use Rattle.std.proofs.Common.{◌≡◌, Some}
 use Rattle.dap_device.specs.Memory.{GivenBytes}
-use Rattle.dap_rename.specs.IndexNames.{index_limit, index_numbers}
+use Rattle.dap_names.specs.IndexNames.{index_limit, index_numbers}
 use Rattle.dap_normal.specs.Accepting.{text}
 use Rattle.dap_normal.specs.NormalSteps.{remaining}
 use Rattle.dap_normal.proofs.StreamLoop.{Going}

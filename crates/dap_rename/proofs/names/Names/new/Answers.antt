@@ -1,6 +1,6 @@
 use Rattle.std.proofs.Common.{arith}
 use Rattle.dap_tree.specs.declared.sort.Sort.TheVariants.{ClientSeq, AdapterSeq, Frame, Reference}
-use Rattle.dap_rename.specs.Numbering.{table}
+use Rattle.dap_names.specs.Numbering.{table}
 use Rattle.dap_rename.proofs.names.Names.new.Goals as goal
 
 pub returns-clause-stand : goal.returns-clause-stand

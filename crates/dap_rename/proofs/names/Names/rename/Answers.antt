@@ -4,7 +4,7 @@ use Rattle.dap_tree.specs.Ids.{ids, sorts_of}
 use Rattle.dap_message.specs.Message.{sent, doc_of}
 use Rattle.dap_message.specs.Numbers.{are_proper, renumbered}
 use Rattle.dap_rename.specs.Tables.{lists, added_all, names_from, limits, AllFit, SomeIsOver}
-use Rattle.dap_rename.specs.declared.name_table.NameFault.TheVariants.{Full}
+use Rattle.dap_names.specs.declared.name_table.NameFault.TheVariants.{Full}
 use Rattle.dap_rename.proofs.TableContents.{count_names, names_proper, renamed, stand_lists}
 use Rattle.dap_rename.proofs.TableContents.{stand_next, few_next, many_next}
 use Rattle.dap_rename.proofs.names.Names.rename.Goals as goal

@@ -1,0 +1,3 @@
+pub mod Additions
+pub mod FreshLists
+pub mod Places

@@ -1,0 +1,4 @@
+pub mod Numbering
+pub mod Table
+pub mod PlainNames
+pub mod IndexNames

@@ -1,0 +1,95 @@
+//! A table of names with an index by hash.
+ghost use Rattle.std.specs.Prelude.{◌≡◌, suc, ◌<◌, ◌≤◌, ◌^◌, pos, true, false, [], length};
+ghost use Rattle.std.specs.Prelude.{MatchOption};
+ghost use Rattle.dap_names.specs.Table.{has, place, AllDiffer};
+
+use crate::name_table::{NameFault, NameTable};
+use indexmap::IndexSet;
+use std::alloc::Global;
+use std::hash::BuildHasher;
+
+/// A table that looks for a number by its hash.
+///
+/// A look-up takes one hash, and a new number one more. Where many numbers have one hash, a look-up
+/// goes over all of them, and with a fixed hasher an adapter could choose such numbers: a program
+/// hands in a random one, as `RandomState`. The hasher has to give equal numbers equal hashes, as
+/// the contract of `BuildHasher` says.
+#[derive(Drop)]
+pub struct IndexNames<S: BuildHasher> {
+    items: IndexSet<i64, S>,
+    limit: usize,
+    ghost differ: { AllDiffer items.keys },
+    ghost fits: { length items.keys ≤ limit },
+    ghost small: { limit < 2 ^ 31 },
+}
+
+impl<S: BuildHasher + Drop> IndexNames<S> {
+    ghost use Rattle.dap_names.specs.IndexNames.{index_numbers, index_limit};
+
+    /// An empty table for at most `limit` names, which hashes by `hasher`. Takes no memory.
+    pub fn new(alloc: Global, limit: usize, hasher: S) -> IndexNames<S>
+        requires { limit < 2 ^ 31 }
+        ensures empty { index_numbers result ≡ [] }
+        ensures limit { index_limit result ≡ limit }
+    {
+        IndexNames {
+            items: IndexSet::with_hasher(alloc, hasher),
+            limit,
+        }
+    }
+
+    fn place_of(&self, number: i64) -> Option<usize>
+        ensures { MatchOption result (has (index_numbers self.now) number ≡ false)
+            (λ i. (has (index_numbers self.now) number ≡ true)
+            × (place (index_numbers self.now) number ≡ pos (suc i))
+            × (i < length (index_numbers self.now))) }
+    {
+        self.items.get_index_of(&number)
+    }
+}
+
+impl<S: BuildHasher + Drop> NameTable for IndexNames<S> {
+    ghost use Rattle.dap_names.specs.IndexNames.{index_numbers, index_limit};
+
+    ghost numbers = { index_numbers };
+
+    ghost limit = { index_limit };
+
+    ghost distinct = { λ t. t.differ };
+
+    ghost bounded = { λ t. t.fits };
+
+    ghost small = { λ t. t.small };
+
+    fn name(&mut self, number: i64) -> Result<i64, NameFault> {
+        if let Some(index) = self.place_of(number) {
+            return Ok(index as i64 + 1);
+        }
+        if self.items.len() == self.limit {
+            return Err(NameFault::Full);
+        }
+        match self.items.insert_full(number) {
+            Ok((index, _)) => Ok(index as i64 + 1),
+            Err(_) => Err(NameFault::Memory),
+        }
+    }
+
+    fn find(&self, number: i64) -> Option<i64> {
+        match self.place_of(number) {
+            Some(index) => Some(index as i64 + 1),
+            None => None,
+        }
+    }
+
+    fn at(&self, place: i64) -> i64 {
+        *self.items.get_index((place - 1) as usize).unwrap()
+    }
+
+    fn len(&self) -> usize {
+        self.items.len()
+    }
+
+    fn cut(&mut self, keep: usize) {
+        self.items.truncate(keep);
+    }
+}
