@@ -1,10 +1,17 @@
 # make            proves and builds bin/dapnorm
 # make test       the gate and the runs around it
-# make try        a first look, unproved
+# make try        a first look, unproved: two runs of one session normalised
 # make bench      speed and memory
-# make install    puts the program under PREFIX
+# make install    puts program, man page and completions under DESTDIR and PREFIX; make uninstall removes them
 
 PREFIX ?= /usr/local
+PROGRAM ?= bin/dapnorm
+BELOW = $(DESTDIR)$(PREFIX)
+AS_PROGRAM := bin/dapnorm
+AS_MANUAL := share/man/man1/dapnorm.1
+AS_BASH := share/bash-completion/completions/dapnorm
+AS_ZSH := share/zsh/site-functions/_dapnorm
+AS_FISH := share/fish/vendor_completions.d/dapnorm.fish
 SHELL := bash
 .SHELLFLAGS := -o pipefail -c
 
@@ -12,7 +19,7 @@ SHELL := bash
 CRATES := $(filter-out layer_tests conformance fault_injection,$(shell sed -n 's/^\([a-z0-9_]*\):.*/\1/p' crates.txt))
 SOURCES := crates.txt $(shell find $(addprefix crates/,$(CRATES)) -type f -not -path '*/out/*' -not -path '*/must-fail/*')
 
-.PHONY: all test try bench install clean need-rt need-python
+.PHONY: all test try bench install uninstall clean need-rt need-python
 
 all: bin/dapnorm
 
@@ -20,7 +27,7 @@ need-rt:
 	@command -v rt > /dev/null || { echo "rt, the command of the Rattle toolchain, is not found: put its folder bin on PATH"; exit 1; }
 
 need-python:
-	@command -v python3 > /dev/null || { echo "python3 is not found: it runs the tests around the gate and the benchmarks"; exit 1; }
+	@command -v python3 > /dev/null || { echo "python3 is not found: it runs the first look, the tests around the gate and the benchmarks"; exit 1; }
 
 # Crates that do not stand on each other are proved side by side, as many as there are processors.
 bin/dapnorm: $(SOURCES) | need-rt
@@ -36,17 +43,25 @@ test: need-rt need-python
 	@echo "Proves every crate from nothing, tries the must-fail edits, and runs the tests: one to two hours on 4 cores."
 	@python3 tests/all.py
 
-try: need-rt
-	@echo "Runs compact on examples/debugpy-adapter.frames with checks and without any proof: under a minute."
-	@cd crates/dapnorm_main && rt try -- compact < ../../examples/debugpy-adapter.frames
+try: need-rt need-python
+	@python3 scripts/first_look.py
 
 bench: bin/dapnorm need-python
 	@echo "Measures each command on generated input, beside short Python scripts: some minutes."
 	@python3 scripts/bench.py
 
-install: bin/dapnorm
-	@echo "Puts the program into $(DESTDIR)$(PREFIX)/bin: at once."
-	install -D -m 755 bin/dapnorm $(DESTDIR)$(PREFIX)/bin/dapnorm
+# PROGRAM may name a program that is built already. The folders of completions are those that the shells look into.
+install: $(PROGRAM)
+	@echo "Puts the program, its man page and its completions below $(DESTDIR)$(PREFIX): at once."
+	install -D -m 755 "$(PROGRAM)" "$(BELOW)/$(AS_PROGRAM)"
+	install -D -m 644 docs/dapnorm.1 "$(BELOW)/$(AS_MANUAL)"
+	install -D -m 644 completions/dapnorm.bash "$(BELOW)/$(AS_BASH)"
+	install -D -m 644 completions/_dapnorm "$(BELOW)/$(AS_ZSH)"
+	install -D -m 644 completions/dapnorm.fish "$(BELOW)/$(AS_FISH)"
+
+uninstall:
+	@echo "Removes the files that make install put below $(DESTDIR)$(PREFIX)."
+	rm -f "$(BELOW)/$(AS_PROGRAM)" "$(BELOW)/$(AS_MANUAL)" "$(BELOW)/$(AS_BASH)" "$(BELOW)/$(AS_ZSH)" "$(BELOW)/$(AS_FISH)"
 
 clean:
 	@echo "Removes what the checks and builds have kept: the next make begins from nothing."

@@ -4,7 +4,7 @@
 
 A client that starts this in the place of the adapter notices nothing. Each piece is what one read gave: `>` (of the client)
 or `<` (of the adapter), its length, LF, and its bytes. A piece is written down before it is passed on, so that no answer
-stands before its question.
+comes before its question.
 """
 import os
 import subprocess

@@ -50,6 +50,8 @@ def main():
             ("recordings compared", "comparing.py"),
             ("recordings shown", "showing.py"),
             ("growths of memory refused in turn", "fault_injection.py"),
+            ("the examples", "examples.py"),
+            ("the man page, completions and installation", "manual.py"),
             ("what the documents name", "documents.py"),
             ("the document of the profile", "profile.py"),
         ]:

@@ -1,5 +1,5 @@
 """Checks that the documents name what there is: the contracts of docs/PROMISES.md, the files that links lead to and that are named, the make
-targets; and that docs/FAULTS.md has each fault."""
+targets; that docs/FAULTS.md has each fault; and that the README has a line for each crate and short sentences."""
 import glob
 import os
 import re
@@ -8,7 +8,7 @@ import sys
 from report import TOP, Report
 
 NAMED = re.compile(r"`(\w+)::([\w:]+)`(?:: ((?:`\w+`(?:, )?)+))?")
-LINK = re.compile(r"\]\(([^)#:]+)\)")
+LINK = re.compile(r"\]\(([^)#:]+)(?:#([^)]+))?\)")
 
 
 def sources(crate):
@@ -52,31 +52,77 @@ def promises(report):
             report.check(f"{crate}::{path} has the clause {clause}", re.search(rf"ensures\*? {clause} \{{", text) is not None)
 
 
+def documents():
+    return [*glob.glob(os.path.join(TOP, "*.md")), *glob.glob(os.path.join(TOP, "docs", "*.md"))]
+
+
+def anchors(path):
+    """The names by which a link leads to a heading."""
+    with open(path, encoding="utf-8") as file:
+        titles = re.findall(r"^#+ (.*)$", file.read(), re.MULTILINE)
+    return {re.sub(r"[^\w -]", "", title.lower()).replace(" ", "-") for title in titles}
+
+
 def links(report):
-    for path in [os.path.join(TOP, "README.md"), *glob.glob(os.path.join(TOP, "docs", "*.md")), *glob.glob(os.path.join(TOP, "examples", "**", "*.md"), recursive=True)]:
+    for path in [*documents(), *glob.glob(os.path.join(TOP, "examples", "**", "*.md"), recursive=True)]:
         with open(path, encoding="utf-8") as file:
-            for target in LINK.findall(file.read()):
-                report.check(f"{os.path.relpath(path, TOP)} leads to {target}", os.path.exists(os.path.join(os.path.dirname(path), target)))
+            for target, anchor in LINK.findall(file.read()):
+                file_there = os.path.join(os.path.dirname(path), target)
+                there = os.path.exists(file_there) and (not anchor or anchor in anchors(file_there))
+                report.check(f"{os.path.relpath(path, TOP)} leads to {target} {anchor}".rstrip(), there)
+
+
+def crates(report):
+    """The README has a line for each crate of the program."""
+    with open(os.path.join(TOP, "crates.txt"), encoding="utf-8") as file:
+        names = set(re.findall(r"^(\w+):", file.read(), re.MULTILINE)) - {"layer_tests", "conformance", "fault_injection"}
+    with open(os.path.join(TOP, "README.md"), encoding="utf-8") as file:
+        told = set(re.findall(r"^\| `(\w+)` \|", file.read(), re.MULTILINE))
+    report.check("the README has each crate of the program", told == names, repr(told ^ names))
+
+
+def sentences(report):
+    """No sentence of the README has more than 30 words."""
+    with open(os.path.join(TOP, "README.md"), encoding="utf-8") as file:
+        lines = [re.sub(r"\]\([^)]*\)|^[-|] *", "", line) for line in file if not line.startswith(("    ", "#"))]
+    for sentence in re.split(r"(?<=[.?!])\s|\n|\|", "".join(lines)):
+        report.check(f"short enough: {sentence}", len(sentence.split()) <= 30)
 
 
 def files(report):
     """Files of the crates that are named in full, as `dap_frame/specs/Frame.antt`."""
-    for path in [os.path.join(TOP, "README.md"), *glob.glob(os.path.join(TOP, "docs", "*.md"))]:
+    for path in documents():
         with open(path, encoding="utf-8") as file:
             for name in re.findall(r"`(?:crates/)?((?:dap\w+|layer_tests|conformance)/[\w/]+\.(?:antt|rt))`", file.read()):
                 report.check(f"{os.path.relpath(path, TOP)} names the file {name}", os.path.exists(os.path.join(TOP, "crates", name)))
 
 
-def faults(report):
-    with open(os.path.join(TOP, "docs", "FAULTS.md"), encoding="utf-8") as file:
-        told = file.read()
-    for crate in ("dap_frame", "dap_tree", "dap_message", "dap_recording", "dap_session", "dap_input"):
+def told_faults():
+    """The words of each fault line that the program can tell, by the code: the names of faults and the texts of refusals, without numbers."""
+    words = set()
+    for crate in ("dap_frame", "dap_recording", "dap_session"):
+        for text in sources(crate):
+            words |= set(re.findall(r"\w+::\w+ => \"([A-Z]\w+)\"", text))
+    for crate in ("dap_tree", "dap_message", "dap_input"):
         for text in sources(crate):
             for fault in re.findall(r"#\[error\(\"([^\"]+)\"\)\]", text):
-                name = re.sub(r"^(?:record|piece) ", "", re.sub(r"[:,]? *\{\d\}[:,]? *", " ", fault)).split()
-                for word in name:
-                    if word != "Memory":
-                        report.check(f"docs/FAULTS.md has {word} of {fault}", word in told)
+                words.add(re.sub(r"^(?:record|piece) \{0\}: | ?\{\d\}", "", fault).strip())
+    return {word for word in words if word not in ("", "Memory")}
+
+
+def faults(report):
+    """Each fault has a line in a table of docs/FAULTS.md, with its meaning, its usual cause and what to do; and no line is of a fault that is none."""
+    with open(os.path.join(TOP, "docs", "FAULTS.md"), encoding="utf-8") as file:
+        rows = [[cell.strip() for cell in line.strip().strip("|").split("|")] for line in file if line.startswith("| `")]
+    for row in rows:
+        report.check(f"docs/FAULTS.md says all of {row[0]}", len(row) == 4 and all(row), repr(row))
+    lines = {re.sub(r"^(?:record|piece) N: | R$|\b[CA] ", "", name) for row in rows for name in re.findall(r"`([^`]+)`", row[0])}
+    known = told_faults()
+    report.check("the code has faults", len(known) > 30, repr(known))
+    for fault in sorted(known):
+        report.check(f"docs/FAULTS.md has {fault}", fault in lines, repr(sorted(lines)))
+    for line in sorted(lines - {"client F", "adapter F"}):
+        report.check(f"{line} of docs/FAULTS.md is a fault", line in known)
 
 
 def targets(report):
@@ -91,6 +137,8 @@ def main():
     report = Report()
     promises(report)
     links(report)
+    crates(report)
+    sentences(report)
     targets(report)
     files(report)
     faults(report)

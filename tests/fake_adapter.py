@@ -20,8 +20,9 @@ def send(target, message):
         target.flush()
 
 
-def main(first):
-    source, target, seq = sys.stdin.buffer, sys.stdout.buffer, 0
+def serve(source, target, first):
+    """One session, up to its end or to `disconnect`."""
+    seq = 0
     bodies = {"stackTrace": {"stackFrames": [{"id": first, "name": "main", "line": 3, "column": 1}]}}
     while (request := receive(source)) is not None:
         command = request["command"]
@@ -37,4 +38,4 @@ def main(first):
 
 
 if __name__ == "__main__":
-    main(int(sys.argv[1]))
+    serve(sys.stdin.buffer, sys.stdout.buffer, json.loads(sys.argv[1]))

@@ -1,0 +1,26 @@
+# Completion of dapnorm for bash.
+
+_dapnorm() {
+    local word=${COMP_WORDS[COMP_CWORD]} command=${COMP_WORDS[1]} words=
+    COMPREPLY=()
+    if ((COMP_CWORD == 1)); then
+        words='record check normalise compare show compact help -h --help'
+    else
+        case $command in
+            check) words='--complete -h --help' ;;
+            record | normalise | show | compact) words='-h --help' ;;
+            help) ((COMP_CWORD == 2)) && words='record check normalise compare show compact help' ;;
+            compare)
+                if [[ $word == -* ]]; then
+                    words='-h --help'
+                else
+                    mapfile -t COMPREPLY < <(compgen -f -- "$word")
+                    return
+                fi
+                ;;
+        esac
+    fi
+    mapfile -t COMPREPLY < <(compgen -W "$words" -- "$word")
+}
+
+complete -o filenames -o default -F _dapnorm dapnorm

@@ -1,0 +1,110 @@
+"""Holds a session of a debug adapter to its golden file. Copy it together with trace_tee.py, and change ADAPTER, GOLDEN and SESSION.
+
+    python3 -m pytest golden_test.py                    # compares
+    UPDATE_GOLDEN=1 python3 -m pytest golden_test.py    # makes the golden file anew: look at the difference before you commit it
+
+`dapnorm` has to be on PATH. Where no pytest is, `python3 golden_test.py` does the same.
+"""
+import difflib
+import json
+import os
+import pathlib
+import re
+import shlex
+import subprocess
+import sys
+import tempfile
+
+HERE = pathlib.Path(__file__).resolve().parent
+TEE = HERE / "trace_tee.py"
+ADAPTER = shlex.split(os.environ.get("ADAPTER", "python3 -m debugpy.adapter"))
+GOLDEN = pathlib.Path(os.environ.get("GOLDEN", HERE / "session.golden"))
+SESSION = [
+    {"command": "initialize", "arguments": {"adapterID": "golden"}},
+    {"command": "configurationDone"},
+    {"command": "stackTrace", "arguments": {"threadId": 1}},
+    {"command": "disconnect"},
+]
+SECONDS = 60
+
+
+def send(target, message):
+    content = json.dumps(message).encode()
+    target.write(b"Content-Length: %d\r\n\r\n%s" % (len(content), content))
+    target.flush()
+
+
+def receive(source):
+    length = 0
+    while (line := source.readline().strip()):
+        name, value = line.split(b":", 1)
+        if name.lower() == b"content-length":
+            length = int(value)
+    assert length, "the adapter ended before it answered"
+    return json.loads(source.read(length))
+
+
+def run_session(trace):
+    """Sends one request after the other, each after the answer to the one before, so that every run has one order."""
+    with subprocess.Popen([sys.executable, str(TEE), str(trace), *ADAPTER], stdin=subprocess.PIPE, stdout=subprocess.PIPE) as process:
+        for seq, request in enumerate(SESSION, 1):
+            send(process.stdin, {"seq": seq, "type": "request", **request})
+            wanted = {("response", seq)} | ({("event", "initialized")} if request["command"] == "initialize" else set())
+            while wanted:
+                message = receive(process.stdout)
+                wanted.discard((message["type"], message.get("request_seq", message.get("event"))))
+        process.stdin.close()
+        process.stdout.read()
+        process.wait(timeout=SECONDS)
+
+
+def dapnorm(*arguments, given=b""):
+    ran = subprocess.run(["dapnorm", *map(str, arguments)], input=given, capture_output=True, timeout=SECONDS)
+    assert ran.returncode in (0, 1), ran.stderr.decode()
+    return ran.stdout
+
+
+def recorded(folder):
+    """The normal form of a new session, as a file. It is written whole or not at all."""
+    trace, normal = folder / "session.trace", folder / "session.normal"
+    run_session(trace)
+    recording = dapnorm("record", given=trace.read_bytes())
+    dapnorm("check", "--complete", given=recording)
+    normal.write_bytes(dapnorm("normalise", given=recording))
+    return normal
+
+
+def contents(recording):
+    """The contents of a recording's records, each over several lines."""
+    at, found = 0, []
+    while at < len(recording):
+        begin = recording.index(b"\r\n\r\n", at) + 4
+        end = begin + int(re.search(rb"(?i)content-length:\s*(\d+)", recording[at:begin])[1])
+        found.append(recording[at:at + 1].decode() + " " + json.dumps(json.loads(recording[begin:end]), indent=1))
+        at = end + 1
+    return found
+
+
+def difference(golden, later, number):
+    """Record `number` of both, line by line; of a recording that has ended before, nothing."""
+    lines = [(it[number - 1].splitlines() if number <= len(it) else []) for it in (contents(golden), contents(later))]
+    return "\n".join(difflib.unified_diff(*lines, f"record {number} of the golden file", f"record {number} of this run", lineterm=""))
+
+
+def test_session_is_golden(tmp_path):
+    normal = recorded(tmp_path)
+    if os.environ.get("UPDATE_GOLDEN"):
+        beside = GOLDEN.with_name(GOLDEN.name + ".new")
+        beside.write_bytes(normal.read_bytes())
+        os.replace(beside, GOLDEN)
+        return
+    assert GOLDEN.exists(), f"{GOLDEN} is not there: run with UPDATE_GOLDEN=1 once"
+    verdict = dapnorm("compare", GOLDEN, normal).decode().splitlines()[0]
+    if verdict != "same":
+        number = int(verdict.split()[1])
+        raise AssertionError(f"{verdict}\n{difference(GOLDEN.read_bytes(), normal.read_bytes(), number)}")
+
+
+if __name__ == "__main__":
+    with tempfile.TemporaryDirectory() as name:
+        test_session_is_golden(pathlib.Path(name))
