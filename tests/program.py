@@ -78,6 +78,32 @@ def streams(report):
     report.check("a folder is a read fault", (ran.returncode, ran.stdout, ran.stderr) == (4, b"", b"dapnorm: read fault\n"), repr(ran))
 
 
+def closed_streams(report):
+    """Standard streams that are closed, and a pipe that nobody reads."""
+    frames = os.path.join(EXAMPLES, "debugpy-adapter.frames")
+    for closed, wanted in [
+        ("<&-", (4, b"", b"dapnorm: read fault\n")),
+        (">&-", (4, b"", b"dapnorm: write fault\n")),
+        ("2>&-", (0, read("debugpy-adapter.compact"), b"")),
+    ]:
+        command = f'exec "$0" compact < "$1" {closed}'
+        ran = subprocess.run(["sh", "-c", command, PROGRAM, frames], capture_output=True)
+        answer = (ran.returncode, ran.stdout, ran.stderr)
+        report.check(f"compact with {closed}", answer == wanted, repr((ran.returncode, ran.stderr)))
+    unread, written = os.pipe()
+    os.close(unread)
+    ran = subprocess.run([PROGRAM, "compact"], input=read("debugpy-adapter.frames"), stdout=written, stderr=subprocess.PIPE)
+    os.close(written)
+    report.check("a pipe that nobody reads is a write fault", (ran.returncode, ran.stderr) == (4, b"dapnorm: write fault\n"), repr(ran))
+
+
+def arguments_that_are_no_text(report):
+    for words in ([b"\xff"], [b"check", b"\xff"], [b"compare", b"\xff", b"b"]):
+        ran = subprocess.run([PROGRAM, *words], capture_output=True)
+        answer = (ran.returncode, ran.stdout, ran.stderr)
+        report.check(f"{words} is a usage fault", answer == (3, b"", b"error: an argument is not valid UTF-8\n"), repr(answer))
+
+
 def usage(report):
     status, output, errors = run([])
     report.check("no subcommand is a usage fault", status == 3 and output == b"" and errors.startswith(b"error: "))
@@ -108,6 +134,8 @@ def main():
     compact_an_adapter(report)
     check_a_session(report)
     streams(report)
+    closed_streams(report)
+    arguments_that_are_no_text(report)
     usage(report)
     refusals(report)
     return report.close()

@@ -1,8 +1,9 @@
 //! Judges recordings.
-ghost use Rattle.std.specs.Prelude.{◌+◌, ◌<◌, ◌≤◌, ◌^◌, false};
+ghost use Rattle.std.specs.Prelude.{◌+◌, ◌<◌, ◌≤◌, ◌^◌, [], false};
 ghost use Rattle.dap_normal.specs.Checking.{Checks};
 ghost use Rattle.dap_input.specs.Limits.{AreSound};
 ghost use Rattle.dap_normal.specs.NameTables.{AreReady};
+ghost use Rattle.dap_normal.specs.NormalSteps.{StandsBefore};
 
 use crate::checked::Checked;
 use crate::default_tables::index_tables;
@@ -92,6 +93,23 @@ fn count_records<R: Source, T: NameTable + Drop>(
     let Ok(mut records) = NormalRecords::new(alloc, limits, tables) else {
         return Err(Refused::Memory);
     };
+    judge_records(alloc, &mut records, reader, limits)
+}
+
+/// Judges the records of an input, of which nothing has been read.
+fn judge_records<R: Source, T: NameTable + Drop>(
+    alloc: Global,
+    records: &mut NormalRecords<T>,
+    reader: &mut R,
+    limits: Limits,
+) -> Result<Checked, Refused>
+    requires limits { AreSound limits }
+    requires stands { StandsBefore T.numbers T.limit limits [] records.old [] [] }
+    requires given { R.given reader.old < 2 ^ 62 }
+    requires failures { R.failures reader.old < 2 ^ 62 }
+    ensures answer { Checks R.left R.given R.failures limits false reader.old reader.new result }
+    ensures taken { R.given reader.new ≤ R.given reader.old + limits.input + 1 }
+{
     let mut text = Vec::new(alloc);
     while records.next(alloc, reader, &mut text)? {
         text.clear();

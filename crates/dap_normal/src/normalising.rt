@@ -1,7 +1,8 @@
 //! Normalises recordings.
-ghost use Rattle.std.specs.Prelude.{◌≡◌, ◌+◌, ◌<◌, ◌≤◌, ◌^◌, IfErr, IfOk};
+ghost use Rattle.std.specs.Prelude.{◌≡◌, ◌+◌, ◌<◌, ◌≤◌, ◌^◌, [], IfErr, IfOk};
 ghost use Rattle.dap_input.specs.Limits.{AreSound};
 ghost use Rattle.dap_normal.specs.NameTables.{AreReady};
+ghost use Rattle.dap_normal.specs.NormalSteps.{StandsBefore};
 ghost use Rattle.dap_normal.specs.Normalising.{IsCanonical, RefusesBytes};
 ghost use Rattle.dap_normal.specs.Streaming.{Flushes, Streams};
 
@@ -115,6 +116,26 @@ pub fn normalise_with<R: Source, W: Sink, T: NameTable + Drop>(
     let Ok(mut records) = NormalRecords::new(alloc, limits, tables) else {
         return Err(Refused::Memory);
     };
+    write_records(alloc, &mut records, reader, writer, limits)
+}
+
+/// Writes the normal text of each record of an input, of which nothing has been read.
+fn write_records<R: Source, W: Sink, T: NameTable + Drop>(
+    alloc: Global,
+    records: &mut NormalRecords<T>,
+    reader: &mut R,
+    writer: &mut W,
+    limits: Limits,
+) -> Result<(), Refused>
+    requires limits { AreSound limits }
+    requires stands { StandsBefore T.numbers T.limit limits [] records.old [] [] }
+    requires given { R.given reader.old < 2 ^ 62 }
+    requires read_failures { R.failures reader.old < 2 ^ 62 }
+    requires write_failures { W.failures writer.old < 2 ^ 62 }
+    ensures answer { Streams R.left R.given R.failures W.out W.failures limits reader.old reader.new
+        writer.old writer.new result }
+    ensures taken { R.given reader.new ≤ R.given reader.old + limits.input + 1 }
+{
     let mut text = Vec::new(alloc);
     loop {
         text.clear();

@@ -30,6 +30,9 @@ const LIMITS: Limits = Limits {
 /// The status where the arguments or random words cannot be had, or a file does not open.
 const FAULT: u8 = 4;
 
+/// What is told where an argument cannot be read as text.
+const NOT_UTF_8: &str = "error: an argument is not valid UTF-8\n";
+
 /// The tables for names, which hash by these random words, so that nobody can choose ids whose
 /// hashes collide.
 fn tables(alloc: Global, limits: Limits, hasher: RandomState) -> Tables<IndexNames<RandomState>>
@@ -132,14 +135,23 @@ fn tell_unread(rt: &HostRuntime) -> u8 {
     FAULT
 }
 
+/// Tells why the arguments could not be read. One that is not UTF-8 is a mistake of the user.
+fn tell_no_words(rt: &HostRuntime, error: &Error) -> u8 {
+    match error.kind() {
+        ErrorKind::OutOfMemory => tell_usage(rt, &UsageFault::Memory),
+        ErrorKind::InvalidData => match String::from_str(rt.alloc(), NOT_UTF_8) {
+            Ok(text) => tell_usage(rt, &UsageFault::Usage(text)),
+            Err(_) => tell_usage(rt, &UsageFault::Memory),
+        },
+        _ => tell_unread(rt),
+    }
+}
+
 fn run(rt: &HostRuntime) -> u8 {
     let alloc = rt.alloc();
     let args = match env::args(rt) {
         Ok(args) => args,
-        Err(error) if error.kind() == ErrorKind::OutOfMemory => {
-            return tell_usage(rt, &UsageFault::Memory);
-        }
-        Err(_) => return tell_unread(rt),
+        Err(error) => return tell_no_words(rt, &error),
     };
     match args.collect::<Vec<String>>(alloc) {
         Ok(words) => run_words(rt, alloc, words.as_slice()),

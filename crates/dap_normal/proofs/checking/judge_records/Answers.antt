@@ -3,7 +3,7 @@ use Rattle.std.proofs.lemmas.Bool.{true≢false}
 use Rattle.std.proofs.lemmas.Result.{err_from_is_err_and}
 use Rattle.dap_normal.proofs.StreamAnswers.{ended, gone, check_refuses, check_accepts, some_records}
 use Rattle.dap_normal.proofs.StreamLoop.{all_taken, few_taken, on}
-use Rattle.dap_normal.proofs.checking.count_records.Goals as goal
+use Rattle.dap_normal.proofs.checking.judge_records.Goals as goal
 
 pub returns-in_err-next-clause-answer : goal.returns-in_err-next-clause-answer
 returns-in_err-next-clause-answer g c =

@@ -1,6 +1,6 @@
 use Rattle.dap_normal.specs.NormalSteps.{remaining}
 use Rattle.dap_normal.proofs.StreamLoop.{Going}
-use Rattle.dap_normal.proofs.checking.count_records.Given as goal
+use Rattle.dap_normal.proofs.checking.judge_records.Given as goal
 
 abbrev pub invariant-loop-text : goal.invariant-loop-text
 invariant-loop-text g l =

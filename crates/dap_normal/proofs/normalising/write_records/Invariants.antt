@@ -3,7 +3,7 @@ use Rattle.std.specs.Io.KnownBytes.{Appends}
 use Rattle.dap_normal.specs.Accepting.{text}
 use Rattle.dap_normal.specs.NormalSteps.{remaining}
 use Rattle.dap_normal.proofs.StreamLoop.{Going}
-use Rattle.dap_normal.proofs.normalising.normalise_with.Given as goal
+use Rattle.dap_normal.proofs.normalising.write_records.Given as goal
 
 abbrev pub invariant-loop-writer : goal.invariant-loop-writer
 invariant-loop-writer g l =
