@@ -36,7 +36,7 @@ def excerpt(title, recording):
 
 
 def main():
-    print("Normalises two runs of one session with delve. The program is built with checks and without a proof: about a minute.", flush=True)
+    print("Normalises two runs of one session with delve. The program is built with checks and without a proof: a minute or two.", flush=True)
     paths = [os.path.join(TOP, "examples", "captures", name) for name in RUNS]
     outputs = normalised(paths)
     for path in paths:

@@ -12,8 +12,16 @@ ghost use Rattle.dap_input.specs.Refusals.{IsRefused};
 use dap_device::{Sink, Source, write_and_flush};
 use dap_frame::{FrameFault, Framer, write_frame};
 use dap_input::{Limits, Records, Refused};
-use dap_tree::{TreeFault, read_tree, write_tree};
+use dap_tree::{Scratch, TreeFault, read_tree_with, write_tree_to};
 use std::alloc::Global;
+
+/// Room that is kept from record to record.
+#[derive(Drop)]
+struct Room {
+    scratch: Scratch,
+    /// The canonical text of a content.
+    text: Vec<u8>,
+}
 
 /// Appends the frame of the canonical text of a record's content to the text of those before it.
 fn append_compact(
@@ -22,21 +30,23 @@ fn append_compact(
     number: u64,
     content: &[u8],
     limits: Limits,
+    room: &mut Room,
 ) -> Result<(), Refused>
     requires { AreSound limits }
     ensures { (values : List Doc) → Fits limits values → out.old.items ≡ text values
         → Appended limits values number content.now result out.new.items }
 {
-    let tree = match read_tree(alloc, content) {
+    let tree = match read_tree_with(alloc, content, &mut room.scratch) {
         Ok(tree) => tree,
         Err(TreeFault::Json) => return Err(Refused::Json(number)),
         Err(TreeFault::Fraction) => return Err(Refused::Fraction(number)),
         Err(TreeFault::Memory) => return Err(Refused::Memory),
     };
-    let Ok(text) = write_tree(alloc, &tree) else {
+    room.text.clear();
+    if write_tree_to(alloc, &tree, &mut room.text).is_err() {
         return Err(Refused::Memory);
-    };
-    match write_frame(out, text.as_bytes(), limits.frame) {
+    }
+    match write_frame(out, room.text.as_slice(), limits.frame) {
         Ok(()) => {}
         Err(FrameFault::ContentTooLong) => return Err(Refused::Grew(number)),
         Err(_) => return Err(Refused::Memory),
@@ -61,13 +71,24 @@ fn compact_records<R: Source>(
     ensures { JudgesInput limits R.left R.given R.failures reader.old reader.new records.new
         result }
 {
+    let mut room = Room {
+        scratch: Scratch::new(alloc),
+        text: Vec::new(alloc),
+    };
     let mut out = Vec::new(alloc);
     loop {
         let number = records.number();
         let Some(content) = records.next(reader)? else {
             return Ok(out);
         };
-        append_compact(alloc, &mut out, number, content.as_slice(), limits)?;
+        append_compact(
+            alloc,
+            &mut out,
+            number,
+            content.as_slice(),
+            limits,
+            &mut room,
+        )?;
     }
 }
 

@@ -1,6 +1,6 @@
 //! Messages: their parts, their views, and their ids replaced.
-ghost use Rattle.std.specs.Prelude.{◌≡◌, length, true, Some, is_some, option_map, IfOk, IfErr};
-ghost use Rattle.std.specs.Prelude.{OnOk, string_bytes};
+ghost use Rattle.std.specs.Prelude.{◌≡◌, ◌++◌, length, true, Some, is_some, option_map, IfOk};
+ghost use Rattle.std.specs.Prelude.{IfErr, OnOk, OnErr, string_bytes};
 ghost use Rattle.dap_tree.specs.Doc.{is_sound, is_ordered, get};
 ghost use Rattle.dap_tree.specs.Ids.{ids, with_ids, without_ids, skeleton};
 ghost use Rattle.dap_tree.specs.Json.{text_of, IsRead};
@@ -19,7 +19,7 @@ use crate::ids::IdList;
 use crate::listing::{Frames, Scopes, Variables};
 use crate::views::listed;
 use dap_profile::Kind;
-use dap_tree::{Side, Tree, write_tree};
+use dap_tree::{Side, Tree, write_tree, write_tree_to};
 use std::alloc::Global;
 
 /// A message of the protocol: the side that sent it, and its tree with the ids marked.
@@ -155,6 +155,28 @@ impl Message {
     {
         match write_tree(alloc, &self.tree) {
             Ok(text) => Ok(text),
+            Err(_) => Err(MessageFault::Memory),
+        }
+    }
+
+    /// Appends the content, as [`content`](Message::content) answers it.
+    ///
+    /// On an error `out` holds what it held; its capacity may have grown.
+    pub fn write_content_to(&self, alloc: Global, out: &mut Vec<u8>) -> Result<(), MessageFault>
+        ensures text { OnOk result (out.new.items ≡ out.old.items ++ text_of (doc_of self.now)) }
+        ensures reads_back { OnOk result
+            (IsRead (text_of (doc_of self.now)) (without_ids (doc_of self.now))) }
+
+        // What `content` promises of its text.
+        ensures typed_again { OnOk result
+            (IsTypedBack (side_of self.now) (doc_of self.now) (text_of (doc_of self.now))) }
+        ensures renumbered_again { OnOk result
+            (IsRenumberedBack (side_of self.now) (doc_of self.now) (text_of (doc_of self.now))) }
+        ensures memory { IfErr result (λ f. f ≡ MessageFault.Memory) }
+        ensures err { OnErr result (out.new.items ≡ out.old.items) }
+    {
+        match write_tree_to(alloc, &self.tree, out) {
+            Ok(()) => Ok(()),
             Err(_) => Err(MessageFault::Memory),
         }
     }

@@ -12,6 +12,7 @@ use dap_message::Side;
 use dap_recording::Record;
 use dap_rename::{NameFault, NameTable, Names, Tables};
 use dap_session::{Session, SessionFault};
+use dap_tree::Scratch;
 use std::alloc::Global;
 
 /// What the records so far leave behind for the judging of the next one.
@@ -22,6 +23,10 @@ pub struct Judge<T> {
     /// How many bytes the text of the normal form has so far.
     written: u64,
     limits: Limits,
+    /// Room for reading a record.
+    scratch: Scratch,
+    /// Room for the content that is written.
+    content: Vec<u8>,
     ghost sound: { AreSound limits },
     ghost short: { written ≤ limits.input },
 }
@@ -41,6 +46,8 @@ impl<T: NameTable + Drop> Judge<T> {
             names: Names::new(alloc, tables),
             written: 0,
             limits,
+            scratch: Scratch::new(alloc),
+            content: Vec::new(alloc),
         }
     }
 
@@ -58,7 +65,13 @@ impl<T: NameTable + Drop> Judge<T> {
             self.new out.old.items out.new.items result }
         ensures limits { judge_limits self.new ≡ judge_limits self.old }
     {
-        let message = read_message(alloc, number, whole.side, whole.content.as_slice())?;
+        let message = read_message(
+            alloc,
+            number,
+            whole.side,
+            whole.content.as_slice(),
+            &mut self.scratch,
+        )?;
         match self.session.accept(&message) {
             Ok(()) => {}
             Err(SessionFault::Broken(rule)) => return Err(Refused::Rule(number, rule)),
@@ -69,7 +82,15 @@ impl<T: NameTable + Drop> Judge<T> {
             Err(NameFault::Full) => return Err(Refused::TooManyIds(number)),
             Err(NameFault::Memory) => return Err(Refused::Memory),
         };
-        self.written = append_record(alloc, number, &renamed, self.written, self.limits, out)?;
+        self.written = append_record(
+            alloc,
+            number,
+            &renamed,
+            self.written,
+            self.limits,
+            &mut self.content,
+            out,
+        )?;
         Ok(())
     }
 

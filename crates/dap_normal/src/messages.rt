@@ -10,15 +10,17 @@ use dap_frame::FrameFault;
 use dap_input::{Limits, Refused};
 use dap_message::{Message, MessageFault, Side, typed};
 use dap_recording::write_record;
-use dap_tree::{TreeFault, read_tree};
+use dap_tree::{Scratch, TreeFault, read_tree_with};
 use std::alloc::Global;
 
-/// The message that the record of that number holds.
+/// The message that the record of that number holds, read with room that is kept from record to
+/// record.
 pub fn read_message(
     alloc: Global,
     number: u64,
     side: Side,
     content: &[u8],
+    scratch: &mut Scratch,
 ) -> Result<Message, Refused>
     ensures ok { IfOk result (λ message. IsMessage (side, content.now) (sent message)) }
     ensures err { IfErr result (λ because. (limits : Limits) (messages : List Sent)
@@ -26,7 +28,7 @@ pub fn read_message(
     ensures only { IfErr result
         (λ because. RefusesHeld (HoldsNoMessage (side, content.now)) number because) }
 {
-    let tree = match read_tree(alloc, content) {
+    let tree = match read_tree_with(alloc, content, scratch) {
         Ok(tree) => tree,
         Err(TreeFault::Json) => return Err(Refused::Json(number)),
         Err(TreeFault::Fraction) => return Err(Refused::Fraction(number)),
@@ -40,24 +42,26 @@ pub fn read_message(
 }
 
 /// Appends the record of a message behind a text that has so many bytes, and answers how many it
-/// then has.
+/// then has. `content` is room for the message's content, kept from record to record.
 pub fn append_record(
     alloc: Global,
     number: u64,
     message: &Message,
     written: u64,
     limits: Limits,
+    content: &mut Vec<u8>,
     out: &mut Vec<u8>,
 ) -> Result<u64, Refused>
     requires sound { AreSound limits }
     requires short { written ≤ limits.input }
     ensures { Writes limits (sent message.now) number written out.old.items out.new.items result }
 {
-    let Ok(content) = message.content(alloc) else {
+    content.clear();
+    let Ok(()) = message.write_content_to(alloc, content) else {
         return Err(Refused::Memory);
     };
     let before = out.len();
-    match write_record(out, message.side(), content.as_bytes(), limits.frame) {
+    match write_record(out, message.side(), content.as_slice(), limits.frame) {
         Ok(()) => {}
         Err(FrameFault::ContentTooLong) => return Err(Refused::Grew(number)),
         Err(_) => return Err(Refused::Memory),

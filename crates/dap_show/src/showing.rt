@@ -14,14 +14,21 @@ use dap_device::{Sink, Source, write_and_flush};
 use dap_input::{Limits, Records, Refused};
 use dap_normal::read_message;
 use dap_recording::{Record, RecordReader};
+use dap_tree::Scratch;
 use std::alloc::Global;
 
 /// Appends the lines of a record to those of the records before it.
-fn append_lines(alloc: Global, out: &mut String, number: u64, whole: &Record) -> Result<(), Refused>
+fn append_lines(
+    alloc: Global,
+    out: &mut String,
+    number: u64,
+    whole: &Record,
+    scratch: &mut Scratch,
+) -> Result<(), Refused>
     ensures { Appended number (held_of whole.now) (string_bytes out.old) (string_bytes out.new)
         result }
 {
-    let message = read_message(alloc, number, whole.side, whole.content.as_slice())?;
+    let message = read_message(alloc, number, whole.side, whole.content.as_slice(), scratch)?;
     match push_lines(alloc, out, number, &message) {
         Ok(()) => Ok(()),
         Err(_) => Err(Refused::Memory),
@@ -41,13 +48,14 @@ fn show_records<R: Source>(
         → IsAtStart (StandsForRecord limits.frame) limits.input records.old
         → JudgesInput limits R.left R.given R.failures reader.old reader.new records.new result }
 {
+    let mut scratch = Scratch::new(alloc);
     let mut out = String::new(alloc);
     loop {
         let number = records.number();
         let Some(whole) = records.next(reader)? else {
             return Ok(out);
         };
-        append_lines(alloc, &mut out, number, &whole)?;
+        append_lines(alloc, &mut out, number, &whole, &mut scratch)?;
     }
 }
 

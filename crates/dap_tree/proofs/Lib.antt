@@ -4,6 +4,8 @@ pub mod Views
 pub mod Depths
 pub mod WithoutIds
 pub mod ReadTrees
+pub mod Turns
+pub mod Parsing
 pub mod Numbers
 pub mod Writing
 pub mod Paths

@@ -20,7 +20,7 @@ use Rattle.dap_tree.specs.Doc.{members_have_id, depth, is_sound, is_plain}
 use Rattle.dap_tree.specs.Ids.{without_ids, items_without_ids, members_without_ids}
 use Rattle.dap_tree.specs.Json.{data_of, items_data, members_data, Reads, IsRead, HasFraction}
 use Rattle.dap_tree.specs.Json.{Outcome, document, no_reading, fraction, HasOutcome, ExplainsText}
-use Rattle.dap_tree.specs.Json.{ExplainsData, Tells, Stands}
+use Rattle.dap_tree.specs.Json.{ExplainsData, Tells}
 use Rattle.dap_tree.specs.View.{view}
 use Rattle.dap_tree.specs.declared.tree.Tree.{Tree}
 use Rattle.dap_tree.specs.declared.fault.TreeFault.{TreeFault}
@@ -247,14 +247,21 @@ explains_text bytes v Json reads h = absurd h
 explains_text bytes v Fraction reads h = (v, reads, h)
 explains_text bytes v Memory reads h = tt
 
-pub answers : (bytes : List ℕ) (v : json.Data) (r : Result Tree TreeFault) (o : Outcome)
-    → Reads bytes v → IfOk r (λ t. Stands v (view t)) → IfErr r (ExplainsData v)
-    → HasOutcome bytes o
+pub explained : (bytes : List ℕ) (v : json.Data) (r : Result Tree TreeFault) → Reads bytes v
+    → IfErr r (ExplainsData v) → IfErr r (ExplainsText bytes)
+explained bytes v (Ok t) reads err = tt
+explained bytes v (Err f) reads err = explains_text bytes v f reads err
+
+pub plain_answers : (bytes : List ℕ) (r : Result Tree TreeFault)
+    → IfOk r (λ t. IsRead bytes (view t)) → IfOk r (λ t. is_plain (view t) ≡ true)
+plain_answers bytes (Ok t) ok = read_is_plain bytes (view t) ok
+plain_answers bytes (Err f) ok = tt
+
+pub answers : (bytes : List ℕ) (r : Result Tree TreeFault) (o : Outcome)
+    → IfOk r (λ t. IsRead bytes (view t)) → IfErr r (ExplainsText bytes) → HasOutcome bytes o
     → MatchResult r (λ t. o ≡ document (view t)) (Tells o)
-answers bytes v (Ok t) o reads ok err has =
-    document_answers bytes t o ((reads.0, reads.1 ∙ ap Some ok.0), ok.1) has
-answers bytes v (Err f) o reads ok err has =
-    fault_answers bytes f o (explains_text bytes v f reads err) has
+answers bytes (Ok t) o ok err has = document_answers bytes t o ok has
+answers bytes (Err f) o ok err has = fault_answers bytes f o err has
 
 -- ---- the empty content
 

@@ -63,7 +63,7 @@ pub items_snoc : (ts : List Tree) (t : Tree)
 items_snoc [] t = refl
 items_snoc (x ∷ ts) t = ap (json.item (data_of (view x))) (items_snoc ts t)
 
-no_id_pushed : (ts : List Tree) (t : Tree) → items_have_id (items_view ts) ≡ false
+pub no_id_pushed : (ts : List Tree) (t : Tree) → items_have_id (items_view ts) ≡ false
     → has_id (view t) ≡ false → items_have_id (items_view (ts ++ t ∷ [])) ≡ false
 no_id_pushed [] t h k = or_both _ false k refl
 no_id_pushed (x ∷ ts) t h k =
@@ -100,8 +100,8 @@ no_id_at Less a b c p q r = p
 no_id_at Equal a b c p q r = q
 no_id_at Greater a b c p q r = r
 
-no_id_put : (k : List ℕ) (d : Doc) (ms : Members) → has_id d ≡ false → members_have_id ms ≡ false
-    → members_have_id (put k d ms) ≡ false
+pub no_id_put : (k : List ℕ) (d : Doc) (ms : Members) → has_id d ≡ false
+    → members_have_id ms ≡ false → members_have_id (put k d ms) ≡ false
 no_id_put k d no_members h g = or_both _ false h refl
 no_id_put k d (member l e ms) h g =
     let first = or_left (has_id e) (members_have_id ms) g in

@@ -6,5 +6,6 @@ pub mod Path
 pub mod Json
 pub mod Laws
 pub mod LentChildren
+pub mod ReadTokens
 pub mod WrittenTokens
 pub mod Rows

@@ -10,7 +10,9 @@ ghost use Rattle.dap_tree.specs.Json.{ItemsStand, MembersStand};
 ghost use Rattle.dap_tree.specs.View.{view, items_view, members_view};
 ghost use Rattle.dap_tree.specs.declared.fault.TreeFault.{TreeFault};
 
+use crate::parse::{Unread, parse};
 use crate::{Tree, TreeFault};
+use json::Scratch;
 use serde_json::{Map, Number, Value};
 use std::alloc::Global;
 use std::collections::BTreeMap;
@@ -28,6 +30,40 @@ pub fn read_tree(alloc: Global, content: &[u8]) -> Result<Tree, TreeFault>
     // And the other way round: the outcome of the content is what the answer says.
     ensures exactly { (o : Outcome) → HasOutcome content.now o
         → MatchResult result (λ t. o ≡ document (view t)) (Tells o) }
+{
+    let mut scratch = Scratch::new(alloc);
+    read_tree_with(alloc, content, &mut scratch)
+}
+
+/// Does what [`read_tree`] does, with room that is kept from read to read.
+///
+/// What the room holds is of no matter.
+pub fn read_tree_with(
+    alloc: Global,
+    content: &[u8],
+    scratch: &mut Scratch,
+) -> Result<Tree, TreeFault>
+    ensures ok { IfOk result (λ t. IsRead content.now (view t)) }
+    ensures plain { IfOk result (λ t. is_plain (view t) ≡ true) }
+    ensures err { IfErr result (ExplainsText content.now) }
+    ensures memory { IsErrOf result TreeFault.Memory → 0 < length content.now }
+
+    // And the other way round: the outcome of the content is what the answer says.
+    ensures exactly { (o : Outcome) → HasOutcome content.now o
+        → MatchResult result (λ t. o ≡ document (view t)) (Tells o) }
+{
+    match parse(alloc, content, scratch) {
+        Ok(tree) => Ok(tree),
+        Err(Unread::Memory) => Err(TreeFault::Memory),
+        Err(Unread::Unclear) => read_value(alloc, content),
+    }
+}
+
+/// The same in two passes: whether some number is not kept whole is known only of the whole value.
+fn read_value(alloc: Global, content: &[u8]) -> Result<Tree, TreeFault>
+    ensures ok { IfOk result (λ t. IsRead content.now (view t)) }
+    ensures err { IfErr result (ExplainsText content.now) }
+    ensures memory { IsErrOf result TreeFault.Memory → 0 < length content.now }
 {
     match Value::from_slice(alloc, content) {
         Ok(value) => tree_of(alloc, value),

@@ -1,5 +1,5 @@
 //! A tree written as compact JSON.
-ghost use Rattle.std.specs.Prelude.{◌≡◌, true, IfOk, IfErr, OnOk, string_bytes};
+ghost use Rattle.std.specs.Prelude.{◌≡◌, ◌++◌, true, IfOk, IfErr, OnOk, OnErr, string_bytes};
 ghost use Rattle.dap_tree.specs.Doc.{whole, in_range, all_in_range, items_in_range};
 ghost use Rattle.dap_tree.specs.Doc.{members_in_range, is_sound};
 ghost use Rattle.dap_tree.specs.Ids.{without_ids};
@@ -12,6 +12,7 @@ use crate::{Tree, TreeFault};
 use json::Writer;
 use std::alloc::{AllocError, Global};
 use std::collections::BTreeMap;
+use std::mem;
 
 /// Writes a sound tree as compact JSON: no spaces, members in the byte order of their names, an id
 /// as its number.
@@ -24,6 +25,28 @@ pub fn write_tree(alloc: Global, tree: &Tree) -> Result<String, TreeFault>
     let mut out = Writer::new(Vec::new(alloc));
     write(tree, &mut out)?;
     Ok(String::from_utf8(out.into_inner()).unwrap())
+}
+
+/// Appends the text of a sound tree, as [`write_tree`] writes it.
+///
+/// On an error `out` holds what it held; its capacity may have grown.
+pub fn write_tree_to(alloc: Global, tree: &Tree, out: &mut Vec<u8>) -> Result<(), TreeFault>
+    requires { is_sound (view tree.now) ≡ true }
+    ensures text { OnOk result (out.new.items ≡ out.old.items ++ text_of (view tree.now)) }
+    ensures reads_back { OnOk result
+        (IsRead (text_of (view tree.now)) (without_ids (view tree.now))) }
+    ensures memory { IfErr result (λ f. f ≡ TreeFault.Memory) }
+    ensures err { OnErr result (out.new.items ≡ out.old.items) }
+{
+    let len = out.len();
+    let mut writer = Writer::new(mem::replace(out, Vec::new(alloc)));
+    let written = write(tree, &mut writer);
+    *out = writer.into_inner();
+    if written.is_err() {
+        out.truncate(len);
+        return Err(TreeFault::Memory);
+    }
+    Ok(())
 }
 
 #[cycle(write)]

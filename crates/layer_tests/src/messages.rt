@@ -26,8 +26,12 @@ fn refuses(rt: &impl Abort, alloc: Global, table: &[Refused]) {
     }
 }
 
+/// Whether the message has this content, also where it is appended.
 fn has_content(alloc: Global, message: &Message, text: &str) -> bool {
+    let mut appended = Vec::new(alloc);
     matches!(message.content(alloc), Ok(content) if content.as_str() == text)
+        && message.write_content_to(alloc, &mut appended).is_ok()
+        && appended.as_slice() == text.as_bytes()
 }
 
 fn becomes(alloc: Global, line: Line, text: &str) -> bool {

@@ -1,6 +1,9 @@
 //! Trees read, looked into, changed, copied and written.
 use crate::texts::is_printed;
-use dap_tree::{Side, Sort, Tree, TreeFault, laws, read_tree, write_tree};
+use dap_tree::{
+    Scratch, Side, Sort, Tree, TreeFault, laws, read_tree, read_tree_with, write_tree,
+    write_tree_to,
+};
 use std::alloc::Global;
 use std::process::Abort;
 
@@ -59,6 +62,45 @@ fn json_and_other_contents(rt: HostRuntime) {
     for reading in CONTENTS {
         reads(&rt, rt.alloc(), reading);
     }
+}
+
+/// Contents with a fraction, which a later member of the same name may replace.
+const FRACTIONS: [Reading; 3] = [
+    (b"{\"a\":1.5,\"a\":2}", Ok("{\"a\":2}")),
+    (b"{\"a\":2,\"a\":1.5}", Err(TreeFault::Fraction)),
+    (b"[1.5,}", Err(TreeFault::Json)),
+];
+
+#[test]
+fn fractions_tell_of_the_whole_text(rt: HostRuntime) {
+    for reading in FRACTIONS {
+        reads(&rt, rt.alloc(), reading);
+    }
+}
+
+/// Appends the text of the tree of a content. Whether it has one.
+fn appends(alloc: Global, content: &[u8], scratch: &mut Scratch, out: &mut Vec<u8>) -> bool {
+    match read_tree_with(alloc, content, scratch) {
+        Ok(tree) => tree.sound() && write_tree_to(alloc, &tree, out).is_ok(),
+        Err(_) => false,
+    }
+}
+
+const APPENDED: [&[u8]; 3] = [
+    b"[ 1 ]",
+    b"{\"\\u0061\": \"\\u0062\"}",
+    b"{\"a\":1.5,\"a\":2}",
+];
+
+#[test]
+fn appended_texts(rt: HostRuntime) {
+    let mut scratch = Scratch::new(rt.alloc());
+    let mut out = Vec::new(rt.alloc());
+    for content in APPENDED {
+        assert!(rt; appends(rt.alloc(), content, &mut scratch, &mut out));
+    }
+    assert!(rt; !appends(rt.alloc(), b"[1,", &mut scratch, &mut out));
+    assert!(rt; out.as_slice() == b"[1]{\"a\":\"b\"}{\"a\":2}".as_slice());
 }
 
 /// A text of 17 bytes.

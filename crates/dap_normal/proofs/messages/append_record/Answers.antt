@@ -15,15 +15,16 @@ counted old added new written before after is first last =
 
 pub returns : goal.returns
 returns c =
-    let content : c.as_bytes.result.now ≡ text_of (doc_of c.args.message.now) =
-    c.as_bytes.ensures.value ∙ c.in-Ok.ensures.text in
+    let text = text_of (doc_of c.args.message.now) in
+    let content : c.as_slice.result.now ≡ text =
+    c.as_slice.ensures.value ∙ c.in-Ok.ensures.text ∙ ap (λ xs. xs ++ text) c.clear.ensures.items in
     let wrote =
     c.in-Ok-write_record.ensures.ok
     ∙ ap₂ (λ side bytes. c.args.out.now.items ++ record_text side bytes) c.side.ensures content
     in
-    let short : length c.as_bytes.result.now ≤ c.args.limits.frame.content =
+    let short : length c.as_slice.result.now ≤ c.args.limits.frame.content =
     ⊎_elim (λ long. absurd (let told = c.in-Ok-write_record.ensures.too_long.1 long in cc))
-    (λ le. le) (cases_lt c.args.limits.frame.content (length c.as_bytes.result.now)) in (
+    (λ le. le) (cases_lt c.args.limits.frame.content (length c.as_slice.result.now)) in (
       subst (λ bytes. length bytes ≤ c.args.limits.frame.content) content short,
       wrote,
       counted c.args.out.now.items (record_of (sent c.args.message.now))
