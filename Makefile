@@ -2,6 +2,7 @@
 # make test       the gate and the runs around it
 # make try        a first look, unproved: two runs of one session normalised
 # make bench      speed and memory
+# make dist       the sources of the last commit and a Debian package, in dist/
 # make install    puts program, man page and completions under DESTDIR and PREFIX; make uninstall removes them
 
 PREFIX ?= /usr/local
@@ -19,7 +20,7 @@ SHELL := bash
 CRATES := $(filter-out layer_tests conformance fault_injection,$(shell sed -n 's/^\([a-z0-9_]*\):.*/\1/p' crates.txt))
 SOURCES := crates.txt $(shell find $(addprefix crates/,$(CRATES)) -type f -not -path '*/out/*' -not -path '*/must-fail/*')
 
-.PHONY: all test try bench install uninstall clean need-rt need-python
+.PHONY: all test try bench dist install uninstall clean need-rt need-python need-commit
 
 all: bin/dapnorm
 
@@ -43,8 +44,9 @@ test: need-rt need-python
 	@echo "Proves every crate from nothing, tries the must-fail edits, and runs the tests: one to two hours on 4 cores."
 	@python3 tests/all.py
 
-try: need-rt need-python
-	@python3 scripts/first_look.py
+# The program that make has built is taken where it is there.
+try: need-python $(if $(wildcard bin/dapnorm),,need-rt)
+	@python3 scripts/first_look.py $(wildcard bin/dapnorm)
 
 bench: bin/dapnorm need-python
 	@echo "Measures each command on generated input, beside short Python scripts: some minutes."
@@ -63,6 +65,15 @@ uninstall:
 	@echo "Removes the files that make install put below $(DESTDIR)$(PREFIX)."
 	rm -f "$(BELOW)/$(AS_PROGRAM)" "$(BELOW)/$(AS_MANUAL)" "$(BELOW)/$(AS_BASH)" "$(BELOW)/$(AS_ZSH)" "$(BELOW)/$(AS_FISH)"
 
+# The packages are made of the last commit, so the program has to be built of it too.
+need-commit:
+	@git rev-parse -q --verify HEAD > /dev/null 2>&1 || { echo "git finds no commit here: the packages are made of the last one"; exit 1; }
+	@git diff --quiet HEAD -- && test -z "$$(git ls-files --others --exclude-standard crates)" || { echo "the packages are made of the last commit: commit first, or set aside what has changed"; exit 1; }
+
+dist: need-commit need-python $(PROGRAM)
+	@echo "Makes the sources of the last commit and a Debian package: seconds."
+	@python3 scripts/make_package.py "$(PROGRAM)" dist
+
 clean:
-	@echo "Removes what the checks and builds have kept: the next make begins from nothing."
-	rm -rf bin crates/*/out
+	@echo "Removes what the checks and builds have kept, and the packages: the next make begins from nothing."
+	rm -rf bin dist crates/*/out

@@ -8,7 +8,10 @@ complete -c dapnorm -n __fish_use_subcommand -a normalise -d 'Write the normal f
 complete -c dapnorm -n __fish_use_subcommand -a compare -d 'Tell how two recordings are the same or where they differ'
 complete -c dapnorm -n __fish_use_subcommand -a show -d 'Print a recording in lines'
 complete -c dapnorm -n __fish_use_subcommand -a compact -d 'Make the contents of frames canonical'
+complete -c dapnorm -n __fish_use_subcommand -s V -l version -d 'Print version'
+complete -c dapnorm -n __fish_use_subcommand -a mask -d 'Take away what changes from run to run'
+complete -c dapnorm -n __fish_use_subcommand -a rows -d 'Print the rows of the profile'
 complete -c dapnorm -n __fish_use_subcommand -a help -d 'Print the help of the program or of a command'
 complete -c dapnorm -n '__fish_seen_subcommand_from check' -l complete -d 'Refuse a recording in which some request has no response'
-complete -c dapnorm -n '__fish_seen_subcommand_from compare' -F
-complete -c dapnorm -n '__fish_seen_subcommand_from help' -a 'record check normalise compare show compact help'
+complete -c dapnorm -n '__fish_seen_subcommand_from compare mask' -F
+complete -c dapnorm -n '__fish_seen_subcommand_from help' -a 'record check normalise compare show compact mask rows help'

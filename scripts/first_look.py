@@ -1,4 +1,9 @@
-"""Normalises two runs of one session with the program, built by `rt try` without any proof, and shows that the outputs are equal."""
+"""Normalises two runs of one session, and shows that the outputs are equal.
+
+    python3 scripts/first_look.py [PROGRAM]
+
+Without PROGRAM the program is built by `rt try`, with checks and without any proof.
+"""
 import os
 import re
 import shutil
@@ -13,13 +18,23 @@ RUNS = ["dlv-l-stopentry.3.rec", "dlv-l-stopentry.5.rec"]
 SHOWN = (6, 10, 11)
 
 
-def normalised(paths):
-    """The outputs of `normalise` for these files: `rt try --cases` builds once and runs the program on each file of a folder."""
+def normalised_by(program, paths):
+    """The outputs of `normalise` for these files, by a program that is there."""
+    outputs = []
+    for path in paths:
+        with open(path, "rb") as file:
+            outputs.append(subprocess.check_output([program, "normalise"], stdin=file))
+    return outputs
+
+
+def normalised_unproved(paths):
+    """The same by `rt try --cases`, which builds once and takes each file of a folder."""
     with tempfile.TemporaryDirectory() as folder:
         for path in paths:
             shutil.copy(path, folder)
-        arguments = ["rt", "try", "--cases", folder, "--", "normalise"]
-        ran = subprocess.run(arguments, cwd=os.path.join(TOP, "crates", "dapnorm_main"), stdout=subprocess.PIPE, stderr=subprocess.PIPE)
+        words = ["rt", "try", "--cases", folder, "--", "normalise"]
+        crate = os.path.join(TOP, "crates", "dapnorm_main")
+        ran = subprocess.run(words, cwd=crate, capture_output=True)
     told = ran.stderr.decode(errors="replace")
     if ran.returncode != 0 or told.count("run=ended status=0") != len(paths):
         sys.exit(f"{told}\nThe program did not end well on each run.")
@@ -36,16 +51,24 @@ def excerpt(title, recording):
 
 
 def main():
-    print("Normalises two runs of one session with delve. The program is built with checks and without a proof: a minute or two.", flush=True)
+    if len(sys.argv) > 2:
+        sys.exit(__doc__)
     paths = [os.path.join(TOP, "examples", "captures", name) for name in RUNS]
-    outputs = normalised(paths)
+    print("Normalises two runs of one session with delve.", end=" ", flush=True)
+    if len(sys.argv) == 2:
+        print(f"{sys.argv[1]} is there, so nothing is built.", flush=True)
+        outputs = normalised_by(sys.argv[1], paths)
+    else:
+        print("The program is built with checks and without a proof: a minute or two.", flush=True)
+        outputs = normalised_unproved(paths)
     for path in paths:
         with open(path, "rb") as file:
             excerpt(f"Three records of {os.path.basename(path)}, as they came:", file.read())
     if len(outputs) != len(paths) or not outputs[0] or outputs[0] != outputs[1]:
         sys.exit("\nThe outputs of dapnorm normalise differ.")
     excerpt("The same records of both after dapnorm normalise:", outputs[0])
-    print(f"\nThe two outputs are equal: {len(outputs[0]):,} bytes, {len(list(records(outputs[0])))} records.")
+    count = len(list(records(outputs[0])))
+    print(f"\nThe two outputs are equal: {len(outputs[0]):,} bytes, {count} records.")
 
 
 if __name__ == "__main__":

@@ -48,10 +48,12 @@ def main():
             ("their messages typed", "typed_recordings.py"),
             ("the normal form", "normal_form.py"),
             ("recordings compared", "comparing.py"),
+            ("recordings of fresh runs masked", "masks.py"),
             ("recordings shown", "showing.py"),
             ("growths of memory refused in turn", "fault_injection.py"),
             ("the examples", "examples.py"),
             ("the man page, completions and installation", "manual.py"),
+            ("the packages", "package.py"),
             ("what the documents name", "documents.py"),
             ("the document of the profile", "profile.py"),
         ]:

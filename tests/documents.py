@@ -103,11 +103,11 @@ def told_faults():
     for crate in ("dap_frame", "dap_recording", "dap_session"):
         for text in sources(crate):
             words |= set(re.findall(r"\w+::\w+ => \"([A-Z]\w+)\"", text))
-    for crate in ("dap_tree", "dap_message", "dap_input"):
+    for crate in ("dap_tree", "dap_message", "dap_input", "dap_mask"):
         for text in sources(crate):
             for fault in re.findall(r"#\[error\(\"([^\"]+)\"\)\]", text):
                 words.add(re.sub(r"^(?:record|piece) \{0\}: | ?\{\d\}", "", fault).strip())
-    return {word for word in words if word not in ("", "Memory")}
+    return {word for word in words if word not in ("", "Memory", "line {line}: {cause}")}
 
 
 def faults(report):
@@ -116,7 +116,7 @@ def faults(report):
         rows = [[cell.strip() for cell in line.strip().strip("|").split("|")] for line in file if line.startswith("| `")]
     for row in rows:
         report.check(f"docs/FAULTS.md says all of {row[0]}", len(row) == 4 and all(row), repr(row))
-    lines = {re.sub(r"^(?:record|piece) N: | R$|\b[CA] ", "", name) for row in rows for name in re.findall(r"`([^`]+)`", row[0])}
+    lines = {re.sub(r"^(?:record|piece) N: |^rules: (?:line L: )?| R$|\b[CA] ", "", name) for row in rows for name in re.findall(r"`([^`]+)`", row[0])}
     known = told_faults()
     report.check("the code has faults", len(known) > 30, repr(known))
     for fault in sorted(known):

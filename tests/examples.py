@@ -14,6 +14,16 @@ from report import PROGRAM, TOP, Report, run
 from tracing import REQUESTS
 
 EXAMPLES = os.path.join(TOP, "examples")
+LOGS = os.path.join(EXAMPLES, "logs")
+# The logs of real adapters: the script that reads them, the answer of `check`, and whether the log
+# has the contents byte by byte.
+LOG_ANSWERS = {
+    "debugpy-1.6.3": ("from_debugpy_log.py", b"accepted records=28 open=0,0\n", False),
+    "lldb-vscode-14": ("from_lldb_log.py", b"accepted records=24 open=0,0\n", True),
+    "lldb-dap-19": ("from_lldb_log.py", b"accepted records=10 open=0,0\n", False),
+    "lldb-dap-22": ("from_lldb_log.py", b"accepted records=12 open=1,0\n", True),
+}
+BROKEN = ("lldb-vscode-14", "lldb-dap-22", "debugpy-1.6.3")
 FRACTION = b'{"seq":1,"type":"event","event":"output","body":{"share":0.5}}'
 
 
@@ -47,6 +57,18 @@ def picture(report):
         report.check(f"the README shows what is printed {name}", re.sub("^ {4}", "", shown, flags=re.MULTILINE) in lines)
     other = read(os.path.join(EXAMPLES, "captures", "rdbg-e-errors.3.rec"))
     report.check("the other run gives the same bytes", run(["normalise"], other)[1] == normal)
+
+
+def first_look(report, folder):
+    """`make try` with the program that the gate built, and with one that changes nothing."""
+    copier = os.path.join(folder, "copier")
+    write(copier, b"#!/bin/sh\nexec cat\n")
+    os.chmod(copier, 0o755)
+    for program, status, line in ((PROGRAM, 0, "outputs are equal: "), (copier, 1, " differ.")):
+        words = [sys.executable, os.path.join(TOP, "scripts", "first_look.py"), program]
+        ran = subprocess.run(words, capture_output=True, text=True, timeout=60)
+        good = ran.returncode == status and line in (ran.stdout + ran.stderr).splitlines()[-1]
+        report.check(f"the first look says {line!r}", good, ran.stdout + ran.stderr)
 
 
 def serve_once(server, first):
@@ -151,12 +173,12 @@ def golden(report, folder, environment):
 def recipe(report, folder, environment):
     """The recipe of the README, word by word: of a refused recording no golden file is left, and one that was there stays."""
     with open(os.path.join(TOP, "README.md"), encoding="utf-8") as file:
-        line = re.search(r"^ {4}(dapnorm normalise < session\.rec .*)$", file.read(), re.MULTILINE)[1]
+        line = re.search(r"^ {4}(dapnorm normalise < session\.masked .*)$", file.read(), re.MULTILINE)[1]
     good = read(os.path.join(EXAMPLES, "captures", "dlv-l-stopentry.5.rec"))
     refused = good + b"<Content-Length: %d\r\n\r\n%s\n" % (len(FRACTION), FRACTION)
     target = os.path.join(folder, "session.golden")
     for recording, left in ((refused, None), (good, "dlv-stopentry.golden"), (refused, "dlv-stopentry.golden")):
-        write(os.path.join(folder, "session.rec"), recording)
+        write(os.path.join(folder, "session.masked"), recording)
         subprocess.run(["sh", "-c", line], cwd=folder, env=environment, capture_output=True, timeout=60)
         there = read(target) if os.path.exists(target) else None
         wanted = left and read(os.path.join(EXAMPLES, left))
@@ -205,6 +227,89 @@ def ci(report, folder, environment):
         report.check(f"the CI recipe says {word!r}", ran.returncode == status and word in ran.stdout, repr((ran.returncode, ran.stdout, ran.stderr)))
 
 
+def from_log(script, log, trace, *more):
+    words = [sys.executable, os.path.join(EXAMPLES, script), log, trace, *more]
+    ran = subprocess.run(words, capture_output=True, text=True, timeout=60)
+    return ran.returncode, ran.stdout + ran.stderr
+
+
+def logs(report, folder):
+    """The logs of real adapters give the sessions that the tee has seen beside them."""
+    names = {name.rpartition(".")[0] for name in os.listdir(LOGS)} - {"README"}
+    report.check("each log is tried", names == set(LOG_ANSWERS), repr(names))
+    for name, (script, wanted, exact) in LOG_ANSWERS.items():
+        path = os.path.join(folder, name)
+        answer = from_log(script, os.path.join(LOGS, name + ".log"), path)
+        report.check(f"a trace is made of the log {name}", answer == (0, ""), repr(answer))
+        seen = run(["record"], read(os.path.join(LOGS, name + ".trace")))
+        status, recording, errors = run(["record"], read(path))
+        report.check(f"the trace of {name} is recorded", (status, errors) == (0, b""), repr(errors))
+        answer = run(["check"], recording)
+        report.check(f"check answers on {name}", answer == (0, wanted, b""), repr(answer))
+        normal = run(["normalise"], recording)
+        report.check(f"{name} is what the tee saw", normal == run(["normalise"], seen[1]))
+        same = (recording == seen[1]) == exact
+        report.check(f"{name}: the bytes are those sent, where the log has them", same)
+
+
+def broken_texts(lldb, dap, debugpy):
+    """Texts that are no such log, each with the script that says so and its words."""
+    behind = {text: text.count(b"\n") + 1 for text in (lldb, debugpy)}
+    return (
+        ("from_lldb_log.py", b"", "line 1: the log has no message"),
+        ("from_lldb_log.py", b"no log\n" + lldb, "line 1: neither a message nor a note"),
+        ("from_lldb_log.py", lldb + b"no log\n", f"line {behind[lldb]}: neither a message"),
+        ("from_lldb_log.py", lldb[:-9], f"line {behind[lldb] - 1}: the message is no JSON"),
+        ("from_lldb_log.py", lldb[:-1] + b"}\n", f"line {behind[lldb] - 1}: something stands"),
+        ("from_lldb_log.py", lldb + b"\xff\n", f"line {behind[lldb]}: the log is not UTF-8"),
+        ("from_lldb_log.py", dap + dap.replace(b"(stdio)", b"(client)"), "a second client"),
+        ("from_debugpy_log.py", b"", "line 1: the log has no message of Client[1]"),
+        ("from_debugpy_log.py", lldb, "line 1: no whole entry"),
+        ("from_debugpy_log.py", debugpy + b"I+0", f"line {behind[debugpy]}: no whole entry"),
+        ("from_debugpy_log.py", debugpy.replace(b'"seq": 2,', b'"seq" 2,', 1), "is no JSON"),
+        ("from_debugpy_log.py", debugpy + b"\xff", f"line {behind[debugpy]}: the log is not UTF-8"),
+    )
+
+
+def broken_logs(report, folder):
+    """Of a text that is no such log the line is named, and no trace is written or changed."""
+    texts = [read(os.path.join(LOGS, name + ".log")) for name in BROKEN]
+    log, trace = os.path.join(folder, "a log"), os.path.join(folder, "trace")
+    for before in (None, b"as it was"):
+        if before is not None:
+            write(trace, before)
+        for script, text, why in broken_texts(*texts):
+            write(log, text)
+            status, told = from_log(script, log, trace)
+            good = (status, told.startswith(log + ": line "), why in told) == (1, True, True)
+            report.check(f"{script} says {why!r}", good, told)
+            left = read(trace) if os.path.exists(trace) else None
+            report.check(f"{script} leaves the trace at {why!r}", left == before, repr(left))
+    report.check("and nothing beside it", sorted(os.listdir(folder)) == ["a log", "trace"])
+
+
+def clients(report, folder):
+    """Of a debugpy log with two clients each can be had."""
+    debugpy = read(os.path.join(LOGS, "debugpy-1.6.3.log"))
+    log, trace = os.path.join(folder, "log"), os.path.join(folder, "trace")
+    other = debugpy.replace(b"Client[1] ", b"Client[2] ").replace(b'"debugpy"', b'"another"')
+    write(log, debugpy + other)
+    answer = from_log("from_debugpy_log.py", log, trace)
+    said = answer[0] == 1 and "the clients 1, 2: say which" in answer[1]
+    report.check("of two clients one has to be chosen", said, answer[1])
+    made = []
+    for client in ("1", "2"):
+        answer = from_log("from_debugpy_log.py", log, trace, client)
+        report.check(f"a trace is made of client {client}", answer == (0, ""), repr(answer))
+        made.append(read(trace))
+    write(log, debugpy)
+    from_log("from_debugpy_log.py", log, trace)
+    report.check("the first client is the log's own", made[0] == read(trace) != made[1])
+    answer = from_log("from_debugpy_log.py", log, trace, "3")
+    said = answer[0] == 1 and "no message of Client[3]" in answer[1]
+    report.check("a client that is not there is told", said, answer[1])
+
+
 def main():
     report = Report()
     if not report.check("the gate has built the program", os.access(PROGRAM, os.X_OK)):
@@ -212,7 +317,10 @@ def main():
     picture(report)
     with tempfile.TemporaryDirectory() as top:
         environment = with_program(top)
-        for part, arguments in ((proxy, ()), (proxy_alone, ()), (golden, (environment,)), (recipe, (environment,)), (git_recipe, (environment,)), (ci, (environment,))):
+        alone = (first_look, proxy, proxy_alone, logs, broken_logs, clients)
+        with_tools = (golden, recipe, git_recipe, ci)
+        parts = [(it, ()) for it in alone] + [(it, (environment,)) for it in with_tools]
+        for part, arguments in parts:
             folder = os.path.join(top, part.__name__)
             os.makedirs(folder)
             part(report, folder, *arguments)

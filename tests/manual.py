@@ -56,6 +56,7 @@ def manual(report, commands, statuses):
         for option in options:
             report.check(f"the man page explains --{option}", re.search(rf"^\.It Fl -{option}$", text, re.MULTILINE))
     report.check("the man page explains --help", ".It Fl h , -help" in text)
+    report.check("the man page explains --version", ".It Fl V , -version" in text)
     listed = re.findall(r"^\.It (\d+)$", text, re.MULTILINE)
     report.check("the man page has the statuses", sorted(listed) == sorted(statuses), repr((listed, statuses)))
     for tool, words in (("mandoc", ["mandoc", "-T", "lint", MANUAL]), ("man", ["man", "--warnings", "-l", MANUAL])):
@@ -119,6 +120,9 @@ def completions(report, commands):
             continue
         offered = [it for it in complete(["dapnorm", ""]) if not it.startswith("-")]
         report.check(f"{shell} offers the commands", sorted(set(offered)) == names, repr(offered))
+        if shell != "zsh":
+            offered = {it for it in complete(["dapnorm", "--"]) if it.startswith("--")}
+            report.check(f"{shell} offers the options of the program", offered == {"--help", "--version"}, repr(offered))
         offered = complete(["dapnorm", "c"])
         report.check(f"{shell} offers those that begin so", sorted(set(offered)) == with_c, repr(offered))
         for command, options in commands.items():

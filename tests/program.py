@@ -1,6 +1,7 @@
 """Runs the program that the gate built on the examples, as a user would."""
 import json
 import os
+import re
 import subprocess
 import sys
 
@@ -109,10 +110,33 @@ def usage(report):
     report.check("no subcommand is a usage fault", status == 3 and output == b"" and errors.startswith(b"error: "))
     status, output, errors = run(["--help"])
     report.check("help goes to the output", status == 0 and b"compact" in output and b"check" in output and errors == b"")
+    status, output, errors = run(["--version"])
+    version = re.search(r"^## ([\d.]+)", read("../CHANGELOG.md").decode(), re.MULTILINE)[1]
+    rows = len(re.findall(rb"^\| \d+ \|", read("../docs/PROFILE.md"), re.MULTILINE))
+    wanted = f"dapnorm {version} (profile of {rows} rows)\n".encode()
+    report.check("the version is that of the changelog", (status, output, errors) == (0, wanted, b""), repr(output))
     status, output, errors = run(["check", "--help"])
     report.check("help of check names its flag", status == 0 and b"--complete" in output and errors == b"")
     status, output, errors = run(["check", "--all"])
     report.check("an unknown flag is a usage fault", status == 3 and output == b"" and errors.startswith(b"error: "))
+
+
+def rows(report):
+    numbers = re.findall(rb"^\| (\d+) \|", read("../docs/PROFILE.md"), re.MULTILINE)
+    status, output, errors = run(["rows"])
+    printed = [line.split()[0] for line in output.splitlines()]
+    report.check("rows prints each row of the profile", (status, printed, errors) == (0, numbers, b""), repr((printed, errors)))
+    for number, line in [
+        ("1", b"1 * * seq needed own-seq\n"),
+        ("2", b"2 request * command needed string\n"),
+        ("62", b"62 response stackTrace body.stackFrames[].id needed frame\n"),
+        ("139", output.splitlines(keepends=True)[-1]),
+    ]:
+        answer = run(["rows", number])
+        report.check(f"rows {number} prints that row", answer == (0, line, b""), repr(answer))
+    for number in ("0", "140", "062", "x", ""):
+        answer = run(["rows", number])
+        report.check(f"there is no row {number!r}", answer[:2] == (3, b"") and answer[2].startswith(b"error: no row "), repr(answer))
 
 
 def refusals(report):
@@ -137,6 +161,7 @@ def main():
     closed_streams(report)
     arguments_that_are_no_text(report)
     usage(report)
+    rows(report)
     refusals(report)
     return report.close()
 

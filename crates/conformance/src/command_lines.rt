@@ -6,11 +6,17 @@ use std::alloc::Global;
 use std::process::Abort;
 
 /// Words, and the job that they are.
-const JOBS: [(&[&str], Job<'static>); 7] = [
+const JOBS: [(&[&str], Job<'static>); 10] = [
     (&["dapnorm", "compact"], Job::Compact),
     (&["dapnorm", "record"], Job::Record),
     (&["dapnorm", "normalise"], Job::Normalise),
     (&["dapnorm", "show"], Job::Show),
+    (
+        &["dapnorm", "mask", "lldb.mask"],
+        Job::Mask { rules: "lldb.mask" },
+    ),
+    (&["dapnorm", "rows"], Job::Rows { number: None }),
+    (&["dapnorm", "rows", "62"], Job::Rows { number: Some("62") }),
     (&["dapnorm", "check"], Job::Check { complete: false }),
     (
         &["dapnorm", "check", "--complete"],
@@ -69,7 +75,7 @@ fn fault_of(rt: &impl Abort, alloc: Global, words: &[&str]) -> UsageFault {
 }
 
 /// No subcommand, wrong ones, and words that one does not take.
-const NO_JOBS: [&[&str]; 7] = [
+const NO_JOBS: [&[&str]; 8] = [
     &["dapnorm"],
     &["dapnorm", "compacted"],
     &["dapnorm", "compact", "file"],
@@ -77,6 +83,7 @@ const NO_JOBS: [&[&str]; 7] = [
     &["dapnorm", "compact", "--complete"],
     &["dapnorm", "check", "file"],
     &["dapnorm", "compare", "a.rec"],
+    &["dapnorm", "mask"],
 ];
 
 /// Whether these are lines that tell of an error.
@@ -95,9 +102,10 @@ fn words_that_are_no_job(rt: HostRuntime) {
     }
 }
 
-/// Words that ask for help, and what it contains.
-const HELP: [(&[&str], &str); 4] = [
+/// Words that ask for help or the version, and what is told.
+const HELP: [(&[&str], &str); 5] = [
     (&["dapnorm", "--help"], "Usage: dapnorm"),
+    (&["dapnorm", "--version"], "dapnorm 0.1.0 "),
     (&["dapnorm", "compact", "--help"], "Usage: dapnorm"),
     (
         &["dapnorm", "check", "--help"],

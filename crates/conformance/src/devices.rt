@@ -127,6 +127,7 @@ pub struct TestSink {
     output: Output,
     /// How often it was flushed.
     pub flushes: u64,
+    unflushed: bool,
     failures: u64,
 }
 
@@ -139,6 +140,7 @@ impl TestSink {
             bytes: Vec::with_capacity(alloc, output.room)?,
             output,
             flushes: 0,
+            unflushed: false,
             failures: 0,
         })
     }
@@ -151,6 +153,8 @@ impl TestSink {
 
 impl Sink for TestSink {
     ghost out = { λ s. None };
+
+    ghost unflushed = { λ s. s.unflushed };
 
     ghost failures = { λ s. s.failures };
 
@@ -168,6 +172,9 @@ impl Sink for TestSink {
             self.failures += 1;
             return Err(DeviceFault {});
         }
+        if count > 0 {
+            self.unflushed = true;
+        }
         Ok(count)
     }
 
@@ -177,6 +184,7 @@ impl Sink for TestSink {
             return Err(DeviceFault {});
         }
         self.flushes = self.flushes.saturating_add(1);
+        self.unflushed = false;
         Ok(())
     }
 

@@ -1,6 +1,7 @@
 -- What the loop of `compact` over the records of its input keeps, and what it may answer.
 use Rattle.std.proofs.Common.{◌≡◌, ℕ, ◌+◌, ◌-◌, ◌<◌, ◌^◌, List, [], ◌∷◌, ◌++◌, length, Option}
 use Rattle.std.proofs.Common.{Some, None, Result, Ok, Err, refl}
+use Rattle.dap_device.specs.declared.device.Source.{Ghosts as Source}
 use Rattle.dap_tree.specs.Doc.{Doc}
 use Rattle.dap_frame.specs.Reading.{Reading}
 use Rattle.dap_input.specs.InputSteps.{AcceptsAll, RefusesOne}
@@ -31,59 +32,56 @@ reads_frames limits sound = record {
 }
 
 -- The records before the next one are judged, and the text of their values is made.
-pub record Compacting {R : Type 0} (limits : Limits) (left : R → Option (List ℕ))
-    (given failures : R → ℕ) (start reader : R) (records : Records Reading)
+pub record Compacting {R : Type 0} (limits : Limits) (source : Source R) (start reader : R) (records : Records Reading)
     (out : List ℕ) : Type 0 where
   pub values : List Doc
-  pub going : Going (compacting limits) (StandsForFrame limits.frame) left given failures start
+  pub going : Going (compacting limits) (StandsForFrame limits.frame) source start
       reader records values
   pub fits : Fits limits values
   pub text_is : out ≡ text values
 
-module _ {R : Type 0} (limits : Limits) (sound : AreSound limits) (left : R → Option (List ℕ))
-    (given failures : R → ℕ) where
+module _ {R : Type 0} (limits : Limits) (sound : AreSound limits) (source : Source R) where
   pub none_read : (reader : R) (records : Records Reading)
       → IsAtStart (StandsForFrame limits.frame) limits.input records
-      → Compacting limits left given failures reader reader records []
+      → Compacting limits source reader reader records []
   none_read reader records start = record {
     values = [];
     going = at_start (compacting limits) (frame_items limits.frame) (λ content. content)
-        (reads_frames limits sound) (StandsForFrame limits.frame) left given failures reader records
+        (reads_frames limits sound) (StandsForFrame limits.frame) source reader records
         start;
     fits = fits_none limits;
     text_is = refl;
   }
 
   module _ (start reader : R) (records : Records Reading) (out : List ℕ)
-      (was : Compacting limits left given failures start reader records out) where
+      (was : Compacting limits source start reader records out) where
     pub few_records : records.number < 2 ^ 63
     few_records =
         small_number (compacting limits) (frame_items limits.frame) (λ content. content)
-        (reads_frames limits sound) (StandsForFrame limits.frame) left given failures start reader
+        (reads_frames limits sound) (StandsForFrame limits.frame) source start reader
         records was.values was.going sound.input
 
-    pub few_given : given start < 2 ^ 62
-        → given reader + (records.pieces.limit - records.pieces.taken) < 2 ^ 63
+    pub few_given : source.given start < 2 ^ 62
+        → source.given reader + (records.pieces.limit - records.pieces.taken) < 2 ^ 63
     few_given =
         small_count (compacting limits) (frame_items limits.frame) (λ content. content)
-        (reads_frames limits sound) (StandsForFrame limits.frame) left given failures start reader
+        (reads_frames limits sound) (StandsForFrame limits.frame) source start reader
         records was.values was.going sound.input
 
-    pub few_failed : failures start < 2 ^ 62 → failures reader < 2 ^ 63
+    pub few_failed : source.failures start < 2 ^ 62 → source.failures reader < 2 ^ 63
     few_failed =
         few_failures (compacting limits) (frame_items limits.frame) (λ content. content)
-        (reads_frames limits sound) (StandsForFrame limits.frame) left given failures start reader
+        (reads_frames limits sound) (StandsForFrame limits.frame) source start reader
         records was.values was.going
 
   module _ (start reader : R) (records : Records Reading) (out : List ℕ)
-      (was : Compacting limits left given failures start reader records out)
+      (was : Compacting limits source start reader records out)
       (new : Records Reading) (after : R) where
     abbrev Reads : Result (Option (List ℕ)) Refused → Type 0
-    Reads answer = ReadsNext (frame_items limits.frame) (StandsForFrame limits.frame) left given
-        failures records new reader after answer
+    Reads answer = ReadsNext (frame_items limits.frame) (StandsForFrame limits.frame) source records new reader after answer
 
     abbrev Refuses : Refused → Type 0
-    Refuses because = RefusesOne (compacting limits) left given failures start after new because
+    Refuses because = RefusesOne (compacting limits) source start after new because
 
     abbrev Appends : {U : Type 0} → List ℕ → Result U Refused → List ℕ → Type 0
     Appends content answer written = (values : List Doc) → Fits limits values → out ≡ text values
@@ -92,17 +90,17 @@ module _ {R : Type 0} (limits : Limits) (sound : AreSound limits) (left : R → 
     pub not_read : (because : Refused) → Reads (Err because) → Refuses because
     not_read =
         refuses_read (compacting limits) (frame_items limits.frame) (λ content. content)
-        (reads_frames limits sound) (StandsForFrame limits.frame) left given failures start reader
+        (reads_frames limits sound) (StandsForFrame limits.frame) source start reader
         records was.values was.going new after
 
     pub all_compacted : Reads (Ok None)
         → (values : List Doc)
-        × AcceptsAll (compacting limits) left given failures start after values
+        × AcceptsAll (compacting limits) source start after values
         × (out ≡ text values)
     all_compacted read = (
       was.values,
       accepts_all (compacting limits) (frame_items limits.frame) (λ content. content)
-          (reads_frames limits sound) (StandsForFrame limits.frame) left given failures start reader
+          (reads_frames limits sound) (StandsForFrame limits.frame) source start reader
           records was.values was.going new after read,
       was.text_is,
     )
@@ -112,19 +110,19 @@ module _ {R : Type 0} (limits : Limits) (sound : AreSound limits) (left : R → 
         → Refuses because
     not_appended content written because read appended =
         refuses_held (compacting limits) (frame_items limits.frame) (λ content. content)
-        (reads_frames limits sound) (StandsForFrame limits.frame) left given failures start reader
+        (reads_frames limits sound) (StandsForFrame limits.frame) source start reader
         records was.values was.going new after content read because
         (appended was.values was.fits was.text_is)
 
     pub one_more : {U : Type 0} (done : U) (content written : List ℕ)
         → Reads (Ok (Some content)) → Appends content (Ok done) written
-        → Compacting limits left given failures start after new written
+        → Compacting limits source start after new written
     one_more done content written read appended =
         let added = appended was.values was.fits was.text_is in
         record {
           values = was.values ++ added.value ∷ [];
           going = on (compacting limits) (frame_items limits.frame) (λ content. content)
-              (reads_frames limits sound) (StandsForFrame limits.frame) left given failures start
+              (reads_frames limits sound) (StandsForFrame limits.frame) source start
               reader records was.values was.going new after content read added.value
               (added.is_read, added.fits);
           fits = added.fits;
@@ -136,5 +134,5 @@ module _ {R : Type 0} (limits : Limits) (sound : AreSound limits) (left : R → 
         < (records.pieces.limit - records.pieces.taken) + length records.pieces.unread
     fewer =
         fewer_left (compacting limits) (frame_items limits.frame) (λ content. content)
-        (reads_frames limits sound) (StandsForFrame limits.frame) left given failures start reader
+        (reads_frames limits sound) (StandsForFrame limits.frame) source start reader
         records was.values was.going new after

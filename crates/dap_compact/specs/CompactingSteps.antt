@@ -1,7 +1,8 @@
 -- What the steps of `compact` do.
-use Rattle.std.specs.Prelude.{◌≡◌, ℕ, List, [], ◌∷◌, ◌++◌, Option, Result, Ok, Err}
+use Rattle.std.specs.Prelude.{◌≡◌, ℕ, List, [], ◌∷◌, ◌++◌, Result, Ok, Err}
 use Rattle.std.specs.declared.vec.Vec.{Vec}
 use Rattle.std.specs.declared.alloc.Global.{Global}
+use Rattle.dap_device.specs.declared.device.Source.{Ghosts as Source}
 use Rattle.dap_tree.specs.Doc.{Doc}
 use Rattle.dap_tree.specs.Json.{IsRead}
 use Rattle.dap_input.specs.declared.limits.Limits.{Limits}
@@ -27,7 +28,7 @@ Appended limits values n content (Err because) new =
     RefusesHeld (Objects limits values content) n because
 
 -- The text of all records is made, or one is refused.
-module _ {R : Type 0} (limits : Limits) (left : R → Option (List ℕ)) (given failures : R → ℕ) where
+module _ {R : Type 0} (limits : Limits) (source : Source R) where
   abbrev pub JudgesInput : R → R → Records Reading → Result (Vec ℕ Global) Refused → Type 0
   JudgesInput =
-      JudgesAll (compacting limits) left given failures text (λ (out : Vec ℕ Global). out.items)
+      JudgesAll (compacting limits) source text (λ (out : Vec ℕ Global). out.items)

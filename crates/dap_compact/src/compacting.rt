@@ -68,7 +68,7 @@ fn compact_records<R: Source>(
     requires start { IsAtStart (StandsForFrame limits.frame) limits.input records.old }
     requires given { R.given reader.old < 2 ^ 62 }
     requires failures { R.failures reader.old < 2 ^ 62 }
-    ensures { JudgesInput limits R.left R.given R.failures reader.old reader.new records.new
+    ensures { JudgesInput limits R.Source reader.old reader.new records.new
         result }
 {
     let mut room = Room {
@@ -96,8 +96,8 @@ fn compact_records<R: Source>(
 ///
 /// A canonical content is its JSON value without spaces, the members of each object in the byte
 /// order of their names. It reads its whole input, at most one byte past `limits.input`, judges it,
-/// and writes last: nothing is written where it is refused. One record is held at a time, and the
-/// text that is made. Records are counted from 1 in the order of the input.
+/// and writes and flushes last: nothing is written where it is refused. One record is held at a
+/// time, and the text that is made. Records are counted from 1 in the order of the input.
 ///
 /// # Errors
 ///
@@ -114,9 +114,9 @@ pub fn compact<R: Source, W: Sink>(
     requires read_failures { R.failures reader.old < 2 ^ 62 }
     requires write_failures { W.failures writer.old < 2 ^ 62 }
 
-    // The compact text of the input goes out, or its first refusal is answered and nothing goes
-    // out. A fault of a device is answered exactly where that device failed.
-    ensures answer { Answers R.left R.failures W.out W.failures limits.input (Compacts limits)
+    // The compact text of the input goes out and is flushed, or its first refusal is answered and
+    // nothing goes out. A fault of a device is answered exactly where that device failed.
+    ensures answer { Answers R.Source W.Sink limits.input (Compacts limits)
         (IsRefused (compacting limits)) reader.old reader.new writer.old writer.new result }
 
     // It takes at most one byte past the limit.

@@ -5,6 +5,7 @@ use Rattle.std.proofs.Common.{length, Option, Some, None, Ok, Err, refl, sym, �
 use Rattle.std.proofs.Common.{append_assoc, append-nil}
 use Rattle.std.proofs.lemmas.Bool.{true≢false}
 use Rattle.std.proofs.lemmas.List.{length_push}
+use Rattle.dap_device.specs.declared.device.Source.{Ghosts as Source}
 use Rattle.dap_device.specs.Pieces.{HasComeSoFar}
 use Rattle.dap_device.specs.declared.reading.Stop.{Stop}
 use Rattle.dap_device.specs.declared.reading.Stop.TheVariants.{End}
@@ -50,28 +51,24 @@ use Rattle.dap_normal.proofs.StreamLoop.{Going, before_in, next_in}
 use Rattle.dap_compare.proofs.Verdicts.{same_lengths}
 
 -- What is answered of the next record is that memory was refused, or a refusal there.
-pub as_told : {T R : Type 0} {numbers : T → List ℤ} {table_limit : T → ℕ} (left : R
-    → Option (List ℕ)) (given failures : R
-    → ℕ) (limits : Limits) (bytes : List ℕ) (messages normal : List Sent)
+pub as_told : {T R : Type 0} {numbers : T → List ℤ} {table_limit : T → ℕ} (source : Source R) (limits : Limits) (bytes : List ℕ) (messages normal : List Sent)
     (old new : NormalRecords T) (before after : R) (refused : Refused)
-    → (stopped : HasStoppedAt numbers table_limit left given failures limits bytes messages normal
+    → (stopped : HasStoppedAt numbers table_limit source limits bytes messages normal
     old new before after refused)
     → (refused ≡ why.Memory)
     ⊎ ((refused ≡ why.Memory → ⊥)
     × RefusesAt (accepting limits) (so_far (bytes ++ stopped.more) stopped.stop)
     old.records.number refused)
-as_told left given failures limits bytes messages normal old new before after why.Memory stopped =
+as_told source limits bytes messages normal old new before after why.Memory stopped =
     inl refl
-as_told left given failures limits bytes messages normal old new before after refused stopped =
+as_told source limits bytes messages normal old new before after refused stopped =
     inr ((λ same. absurd (let e = same in cc)), stopped.says)
 
-module _ {T R S : Type 0} {numbers : T → List ℤ} {table_limit : T → ℕ} (left_a : R
-    → Option (List ℕ)) (given_a failures_a : R → ℕ) (left_b : S
-    → Option (List ℕ)) (given_b failures_b : S → ℕ) (limits : Limits)
+module _ {T R S : Type 0} {numbers : T → List ℤ} {table_limit : T → ℕ} (source_a : Source R) (source_b : Source S) (limits : Limits)
     (start_a reader_a : R) (records_a : NormalRecords T)
-    (a : Going numbers table_limit left_a given_a failures_a limits start_a reader_a records_a)
+    (a : Going numbers table_limit source_a limits start_a reader_a records_a)
     (start_b reader_b : S) (records_b : NormalRecords T)
-    (b : Going numbers table_limit left_b given_b failures_b limits start_b reader_b records_b)
+    (b : Going numbers table_limit source_b limits start_b reader_b records_b)
     (alike : a.normal ≡ b.normal) where
   abbrev pub number : ℕ
   number = records_a.records.number
@@ -106,13 +103,13 @@ module _ {T R S : Type 0} {numbers : T → List ℤ} {table_limit : T → ℕ} (
 
     before : AreSameBefore (accepting limits) (AreSame in_whole) x y number
     before = record {
-      of_a = before_in left_a given_a failures_a limits start_a reader_a records_a a x (more_a
+      of_a = before_in source_a limits start_a reader_a records_a a x (more_a
           ++ beyond_x) split_x;
       of_b = record {
         values = b.messages;
         front = b.stands.front;
         rest = records_b.records.pieces.unread ++ (more_b ++ beyond_y);
-        split = (before_in left_b given_b failures_b limits start_b reader_b records_b b y (more_b
+        split = (before_in source_b limits start_b reader_b records_b b y (more_b
             ++ beyond_y) split_y).split;
         accepted = b.stands.accepted;
         is_number = sym one_number ∙ b.stands.number_is;
@@ -123,16 +120,16 @@ module _ {T R S : Type 0} {numbers : T → List ℤ} {table_limit : T → ℕ} (
   -- ---- a refusal
 
   pub refused_by_a : (new : NormalRecords T) (after : R) (refused : Refused)
-      (stopped : HasStoppedAt numbers table_limit left_a given_a failures_a limits a.bytes
+      (stopped : HasStoppedAt numbers table_limit source_a limits a.bytes
       a.messages a.normal records_a new reader_a after refused)
       → RefusesAt (accepting limits) (so_far (a.bytes ++ stopped.more) stopped.stop) number refused
-      → HasCompared left_a given_a failures_a left_b given_b failures_b limits start_a after start_b
+      → HasCompared source_a source_b limits start_a after start_b
       reader_b (Err (because.Input A refused))
   refused_by_a new after refused stopped said = record {
     number = number;
     bytes_a = a.bytes ++ stopped.more;
     stop_a = stopped.stop;
-    came_a = came_on left_a given_a failures_a start_a reader_a after a.bytes stopped.more
+    came_a = came_on source_a start_a reader_a after a.bytes stopped.more
         stopped.stop a.came stopped.came;
     read_a = stopped.read_to;
     bytes_b = b.bytes;
@@ -157,7 +154,7 @@ module _ {T R S : Type 0} {numbers : T → List ℤ} {table_limit : T → ℕ} (
 
   -- what is known of the record of the one where that of the other is asked for
   pub record Passed (after : R) (more : List ℕ) (stop : Option Stop) : Type 0 where
-    pub came : HasComeSoFar left_a given_a failures_a reader_a after more stop
+    pub came : HasComeSoFar source_a reader_a after more stop
     pub read_to : IsReadTo (accepting limits) (a.bytes ++ more) number
     pub passes : (x : Input) → IsOf (a.bytes ++ more) stop x
         → IsNotRefusedAt (accepting limits) x number
@@ -165,22 +162,22 @@ module _ {T R S : Type 0} {numbers : T → List ℤ} {table_limit : T → ℕ} (
   pub refused_by_b : (passed_to : R) (more : List ℕ) (stop : Option Stop)
       → Passed passed_to more stop
       → (new : NormalRecords T) (after : S) (refused : Refused)
-      (stopped : HasStoppedAt numbers table_limit left_b given_b failures_b limits b.bytes
+      (stopped : HasStoppedAt numbers table_limit source_b limits b.bytes
       b.messages b.normal records_b new reader_b after refused)
       → RefusesAt (accepting limits) (so_far (b.bytes ++ stopped.more) stopped.stop)
       records_b.records.number refused
-      → HasCompared left_a given_a failures_a left_b given_b failures_b limits start_a passed_to
+      → HasCompared source_a source_b limits start_a passed_to
       start_b after (Err (because.Input B refused))
   refused_by_b passed_to more stop passed new after refused stopped said = record {
     number = number;
     bytes_a = a.bytes ++ more;
     stop_a = stop;
-    came_a = came_on left_a given_a failures_a start_a reader_a passed_to a.bytes more stop a.came
+    came_a = came_on source_a start_a reader_a passed_to a.bytes more stop a.came
         passed.came;
     read_a = passed.read_to;
     bytes_b = b.bytes ++ stopped.more;
     stop_b = stopped.stop;
-    came_b = came_on left_b given_b failures_b start_b reader_b after b.bytes stopped.more
+    came_b = came_on source_b start_b reader_b after b.bytes stopped.more
         stopped.stop b.came stopped.came;
     read_b = subst (IsReadTo (accepting limits) (b.bytes ++ stopped.more)) one_number
         stopped.read_to;
@@ -205,35 +202,35 @@ module _ {T R S : Type 0} {numbers : T → List ℤ} {table_limit : T → ℕ} (
   -- What is told of a refusal, as its two clauses say.
   pub told_by_a : (new : NormalRecords T) (after : R) (refused : Refused) (refusal : CompareRefused)
       → IsRefusalOf A refused refusal
-      → HasStoppedAt numbers table_limit left_a given_a failures_a limits a.bytes a.messages
+      → HasStoppedAt numbers table_limit source_a limits a.bytes a.messages
       a.normal records_a new reader_a after refused
-      → Compares left_a given_a failures_a left_b given_b failures_b limits start_a after start_b
+      → Compares source_a source_b limits start_a after start_b
       reader_b (Err refusal)
   told_by_a new after refused refusal of_it stopped =
       ⊎_elim (λ is. rw (of_it.0 is) tt)
       (λ told. rw (of_it.1 told.0) (refused_by_a new after refused stopped told.1))
-      (as_told left_a given_a failures_a limits a.bytes a.messages a.normal records_a new reader_a
+      (as_told source_a limits a.bytes a.messages a.normal records_a new reader_a
       after refused stopped)
 
   pub told_by_b : (passed_to : R) (more : List ℕ) (stop : Option Stop)
       → Passed passed_to more stop
       → (new : NormalRecords T) (after : S) (refused : Refused) (refusal : CompareRefused)
       → IsRefusalOf B refused refusal
-      → HasStoppedAt numbers table_limit left_b given_b failures_b limits b.bytes b.messages
+      → HasStoppedAt numbers table_limit source_b limits b.bytes b.messages
       b.normal records_b new reader_b after refused
-      → Compares left_a given_a failures_a left_b given_b failures_b limits start_a passed_to
+      → Compares source_a source_b limits start_a passed_to
       start_b after (Err refusal)
   told_by_b passed_to more stop passed new after refused refusal of_it stopped =
       ⊎_elim (λ is. rw (of_it.0 is) tt)
       (λ told. rw (of_it.1 told.0)
       (refused_by_b passed_to more stop passed new after refused stopped told.1))
-      (as_told left_b given_b failures_b limits b.bytes b.messages b.normal records_b new reader_b
+      (as_told source_b limits b.bytes b.messages b.normal records_b new reader_b
       after refused stopped)
 
   -- ---- the record of the one
 
   module _ (new_a : NormalRecords T) (after_a : R) (text_a longer_a : List ℕ) where
-    pub gone_passed : (gone : HasGone numbers table_limit left_a given_a failures_a limits a.bytes
+    pub gone_passed : (gone : HasGone numbers table_limit source_a limits a.bytes
         a.messages a.normal records_a new_a reader_a after_a text_a longer_a)
         → Passed after_a gone.more None
     gone_passed gone = record {
@@ -241,11 +238,11 @@ module _ {T R S : Type 0} {numbers : T → List ℤ} {table_limit : T → ℕ} (
       read_to = gone.read_to;
       passes = λ x is_x.
           goes_on limits number x
-          (next_in left_a given_a failures_a limits start_a reader_a records_a a new_a after_a
+          (next_in source_a limits start_a reader_a records_a a new_a after_a
           text_a longer_a gone x is_x.0 is_x.1);
     }
 
-    pub ended_passed : (ended : HasEnded numbers table_limit left_a given_a failures_a limits
+    pub ended_passed : (ended : HasEnded numbers table_limit source_a limits
         a.bytes a.messages a.normal records_a new_a reader_a after_a text_a longer_a)
         → Passed after_a ended.more (Some End)
     ended_passed ended = record {
@@ -257,7 +254,7 @@ module _ {T R S : Type 0} {numbers : T → List ℤ} {table_limit : T → ℕ} (
 
     -- whether a record has come, or none is left
     pub passed_by : (some : Bool)
-        → HasNext numbers table_limit left_a given_a failures_a limits a.bytes a.messages a.normal
+        → HasNext numbers table_limit source_a limits a.bytes a.messages a.normal
         records_a new_a reader_a after_a text_a longer_a (Ok some)
         → (more : List ℕ) × (stop : Option Stop) × Passed after_a more stop
     passed_by true gone = (gone.more, None, gone_passed gone)
@@ -268,26 +265,26 @@ module _ {T R S : Type 0} {numbers : T → List ℤ} {table_limit : T → ℕ} (
   module _ (new_a : NormalRecords T) (after_a : R) (text_a longer_a : List ℕ)
       (new_b : NormalRecords T) (after_b : S) (text_b longer_b : List ℕ) where
     abbrev pub Gone_a : Type 0
-    Gone_a = HasGone numbers table_limit left_a given_a failures_a limits a.bytes a.messages
+    Gone_a = HasGone numbers table_limit source_a limits a.bytes a.messages
         a.normal records_a new_a reader_a after_a text_a longer_a
 
     abbrev pub Ended_a : Type 0
-    Ended_a = HasEnded numbers table_limit left_a given_a failures_a limits a.bytes a.messages
+    Ended_a = HasEnded numbers table_limit source_a limits a.bytes a.messages
         a.normal records_a new_a reader_a after_a text_a longer_a
 
     abbrev pub Gone_b : Type 0
-    Gone_b = HasGone numbers table_limit left_b given_b failures_b limits b.bytes b.messages
+    Gone_b = HasGone numbers table_limit source_b limits b.bytes b.messages
         b.normal records_b new_b reader_b after_b text_b longer_b
 
     abbrev pub Ended_b : Type 0
-    Ended_b = HasEnded numbers table_limit left_b given_b failures_b limits b.bytes b.messages
+    Ended_b = HasEnded numbers table_limit source_b limits b.bytes b.messages
         b.normal records_b new_b reader_b after_b text_b longer_b
 
     next_y : (gone : Gone_b) (y : Input) → IsOf (b.bytes ++ gone.more) None y
         → AcceptedBefore (accepting limits) y (number + 1)
     next_y gone y is_y =
         subst (λ n. AcceptedBefore (accepting limits) y (n + 1)) one_number
-        (next_in left_b given_b failures_b limits start_b reader_b records_b b new_b after_b text_b
+        (next_in source_b limits start_b reader_b records_b b new_b after_b text_b
         longer_b gone y is_y.0 is_y.1)
 
     number_of_a : number ≡ length a.messages + 1
@@ -298,34 +295,34 @@ module _ {T R S : Type 0} {numbers : T → List ℤ} {table_limit : T → ℕ} (
 
     -- so much has come of both, and this is the verdict
     module _ (more_a : List ℕ) (stop_a : Option Stop)
-        (came_a : HasComeSoFar left_a given_a failures_a reader_a after_a more_a stop_a)
+        (came_a : HasComeSoFar source_a reader_a after_a more_a stop_a)
         (read_a : IsReadTo (accepting limits) (a.bytes ++ more_a) number)
         (more_b : List ℕ) (stop_b : Option Stop)
-        (came_b : HasComeSoFar left_b given_b failures_b reader_b after_b more_b stop_b)
+        (came_b : HasComeSoFar source_b reader_b after_b more_b stop_b)
         (read_b : IsReadTo (accepting limits) (b.bytes ++ more_b) records_b.records.number)
       where
         differs : (n : ℕ) → n ≡ number
             → ((x y : Input) → IsOf (a.bytes ++ more_a) stop_a x → IsOf (b.bytes ++ more_b) stop_b y
             → IsRecordingVerdict limits x y (differ number))
-            → HasCompared left_a given_a failures_a left_b given_b failures_b limits start_a after_a
+            → HasCompared source_a source_b limits start_a after_a
             start_b after_b (Ok (code.Differ n))
         differs n is verdict = record {
           number = number;
           bytes_a = a.bytes ++ more_a;
           stop_a = stop_a;
-          came_a = came_on left_a given_a failures_a start_a reader_a after_a a.bytes more_a stop_a
+          came_a = came_on source_a start_a reader_a after_a a.bytes more_a stop_a
               a.came came_a;
           read_a = read_a;
           bytes_b = b.bytes ++ more_b;
           stop_b = stop_b;
-          came_b = came_on left_b given_b failures_b start_b reader_b after_b b.bytes more_b stop_b
+          came_b = came_on source_b start_b reader_b after_b b.bytes more_b stop_b
               b.came came_b;
           read_b = subst (IsReadTo (accepting limits) (b.bytes ++ more_b)) one_number read_b;
           tells = λ x y is_x is_y. (is, verdict x y is_x is_y);
         }
 
     pub some_and_none : (n : ℕ) → n ≡ number → Gone_a → Ended_b
-        → HasCompared left_a given_a failures_a left_b given_b failures_b limits start_a after_a
+        → HasCompared source_a source_b limits start_a after_a
         start_b after_b (Ok (code.Differ n))
     some_and_none n is gone ended =
         differs gone.more None gone.came gone.read_to ended.more (Some End) ended.came ended.read_to
@@ -335,11 +332,11 @@ module _ {T R S : Type 0} {numbers : T → List ℤ} {table_limit : T → ℕ} (
         (before (a.bytes ++ gone.more) (b.bytes ++ ended.more) gone.more ended.more refl refl
         None (Some End) x y is_x is_y) b.messages
         (taken_in limits (b.bytes ++ ended.more) y b.messages is_y ended.accepted) number_of_b
-        (next_in left_a given_a failures_a limits start_a reader_a records_a a new_a after_a text_a
+        (next_in source_a limits start_a reader_a records_a a new_a after_a text_a
         longer_a gone x is_x.0 is_x.1))
 
     pub none_and_some : (n : ℕ) → n ≡ number → Ended_a → Gone_b
-        → HasCompared left_a given_a failures_a left_b given_b failures_b limits start_a after_a
+        → HasCompared source_a source_b limits start_a after_a
         start_b after_b (Ok (code.Differ n))
     none_and_some n is ended gone =
         differs ended.more (Some End) ended.came ended.read_to gone.more None gone.came gone.read_to
@@ -359,7 +356,7 @@ module _ {T R S : Type 0} {numbers : T → List ℤ} {table_limit : T → ℕ} (
           (sym alike) went.stands.stands.is_normal
 
       pub texts_apart : text_a ≡ [] → text_b ≡ [] → (n : ℕ) → n ≡ number → (longer_a ≡ longer_b → ⊥)
-          → HasCompared left_a given_a failures_a left_b given_b failures_b limits start_a after_a
+          → HasCompared source_a source_b limits start_a after_a
           start_b after_b (Ok (code.Differ n))
       texts_apart none nothing n is apart =
           differs gone.more None gone.came gone.read_to went.more None went.came went.read_to n is
@@ -367,7 +364,7 @@ module _ {T R S : Type 0} {numbers : T → List ℤ} {table_limit : T → ℕ} (
           are_apart limits x y number
           (before (a.bytes ++ gone.more) (b.bytes ++ went.more) gone.more went.more refl refl
           None None x y is_x is_y)
-          (next_in left_a given_a failures_a limits start_a reader_a records_a a new_a after_a
+          (next_in source_a limits start_a reader_a records_a a new_a after_a
           text_a longer_a gone x is_x.0 is_x.1) (in_y y is_y)
           (not_the_same limits a.normal (a.messages ++ gone.message ∷ []) (b.messages
           ++ went.message ∷ []) gone.named went.named gone.stands.stands.is_normal is_normal_b
@@ -380,7 +377,7 @@ module _ {T R S : Type 0} {numbers : T → List ℤ} {table_limit : T → ℕ} (
             values = b.messages ++ went.message ∷ [];
             front = went.stands.front;
             rest = new_b.records.pieces.unread ++ is_y.0;
-            split = (next_in left_b given_b failures_b limits start_b reader_b records_b b new_b
+            split = (next_in source_b limits start_b reader_b records_b b new_b
                 after_b text_b longer_b went y is_y.0 is_y.1).split;
             accepted = went.stands.accepted;
             is_number =
@@ -400,16 +397,16 @@ module _ {T R S : Type 0} {numbers : T → List ℤ} {table_limit : T → ℕ} (
 
     -- what is told where the next records are apart
     abbrev pub Next_a : Bool → Type 0
-    Next_a some = HasNext numbers table_limit left_a given_a failures_a limits a.bytes a.messages
+    Next_a some = HasNext numbers table_limit source_a limits a.bytes a.messages
         a.normal records_a new_a reader_a after_a text_a longer_a (Ok some)
 
     abbrev pub Next_b : Bool → Type 0
-    Next_b some = HasNext numbers table_limit left_b given_b failures_b limits b.bytes b.messages
+    Next_b some = HasNext numbers table_limit source_b limits b.bytes b.messages
         b.normal records_b new_b reader_b after_b text_b longer_b (Ok some)
 
     pub told_apart : (some_a some_b : Bool) → Next_a some_a → Next_b some_b → text_a ≡ []
         → text_b ≡ [] → AreNext some_a some_b longer_a longer_b Apart → (n : ℕ) → n ≡ number
-        → HasCompared left_a given_a failures_a left_b given_b failures_b limits start_a after_a
+        → HasCompared source_a source_b limits start_a after_a
         start_b after_b (Ok (code.Differ n))
     told_apart true false gone ended none nothing apart n is = some_and_none n is gone ended
     told_apart false true ended gone none nothing apart n is = none_and_some n is ended gone
@@ -452,18 +449,18 @@ module _ {T R S : Type 0} {numbers : T → List ℤ} {table_limit : T → ℕ} (
 
       pub both_ended : (renaming : Renaming)
           → entries (pairs_of renaming) ≡ equal_places a.messages b.messages
-          → HasCompared left_a given_a failures_a left_b given_b failures_b limits start_a after_a
+          → HasCompared source_a source_b limits start_a after_a
           start_b after_b (Ok (code.Same renaming))
       both_ended renaming pairs = record {
         number = number;
         bytes_a = a.bytes ++ end_a.more;
         stop_a = Some End;
-        came_a = came_on left_a given_a failures_a start_a reader_a after_a a.bytes end_a.more
+        came_a = came_on source_a start_a reader_a after_a a.bytes end_a.more
             (Some End) a.came end_a.came;
         read_a = end_a.read_to;
         bytes_b = b.bytes ++ end_b.more;
         stop_b = Some End;
-        came_b = came_on left_b given_b failures_b start_b reader_b after_b b.bytes end_b.more
+        came_b = came_on source_b start_b reader_b after_b b.bytes end_b.more
             (Some End) b.came end_b.came;
         read_b = subst (IsReadTo (accepting limits) (b.bytes ++ end_b.more)) one_number
             end_b.read_to;

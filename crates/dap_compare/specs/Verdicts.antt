@@ -1,6 +1,7 @@
 -- The verdict on two recordings: how they are the same, the first record where they differ, or the
 -- first that is refused of one. Source: own.
 use Rattle.std.specs.Prelude.{◌≡◌, ℕ, ℤ, ◌-◌, List, Option, Result, Ok, Err}
+use Rattle.dap_device.specs.declared.device.Source.{Ghosts as Source}
 use Rattle.dap_message.specs.Message.{Sent}
 use Rattle.dap_rename.specs.Messages.{Class, IsProperId, AreSame, Carries, in_whole, equal_places}
 use Rattle.dap_rename.specs.Pairs.{entries}
@@ -62,8 +63,7 @@ read_of_b number (Err (because.Input A why)) = number - 1
 read_of_b number answer = number
 
 -- Two readers, by what they tell of their bytes, and by their counts.
-module _ {R S : Type 0} (left_a : R → Option (List ℕ)) (given_a failures_a : R → ℕ) (left_b : S
-    → Option (List ℕ)) (given_b failures_b : S → ℕ) (limits : Limits) where
+module _ {R S : Type 0} (source_a : Source R) (source_b : Source S) (limits : Limits) where
   -- So much came from the readers, no more than this record asked for, and the verdict on the
   -- inputs, whatever else they hold, is answered.
   pub record HasCompared (old_a new_a : R) (old_b new_b : S)
@@ -71,11 +71,11 @@ module _ {R S : Type 0} (left_a : R → Option (List ℕ)) (given_a failures_a :
     pub number : ℕ
     pub bytes_a : List ℕ
     pub stop_a : Option Stop
-    pub came_a : HasComeSoFar left_a given_a failures_a old_a new_a bytes_a stop_a
+    pub came_a : HasComeSoFar source_a old_a new_a bytes_a stop_a
     pub read_a : IsReadTo (accepting limits) bytes_a number
     pub bytes_b : List ℕ
     pub stop_b : Option Stop
-    pub came_b : HasComeSoFar left_b given_b failures_b old_b new_b bytes_b stop_b
+    pub came_b : HasComeSoFar source_b old_b new_b bytes_b stop_b
     pub read_b : IsReadTo (accepting limits) bytes_b (read_of_b number answer)
     pub tells : (a b : Input) → IsOf bytes_a stop_a a → IsOf bytes_b stop_b b
         → TellsVerdict limits a b number answer

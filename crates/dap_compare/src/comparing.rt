@@ -39,7 +39,7 @@ fn next_text<R: Source, T: NameTable + Drop>(
     requires failures { R.failures reader.old < 2 ^ 63 }
     ensures { (limits : Limits) (bytes : List ℕ) (messages normal : List Sent)
         → StandsBefore T.numbers T.limit limits bytes records.old messages normal
-        → TellsNext T.numbers T.limit R.left R.given R.failures limits bytes messages normal
+        → TellsNext T.numbers T.limit R.Source limits bytes messages normal
         records.old records.new reader.old reader.new which text.new.items result }
 {
     text.clear();
@@ -99,8 +99,8 @@ pub fn compare<A: Source, B: Source>(
 
     // The one verdict on the two inputs is answered. That a reader failed is answered only where it
     // did.
-    ensures answer { Compares A.left A.given A.failures B.left B.given B.failures limits
-        reader_a.old reader_a.new reader_b.old reader_b.new result }
+    ensures answer { Compares A.Source B.Source limits reader_a.old reader_a.new reader_b.old
+        reader_b.new result }
 
     // It takes at most one byte past the limit of each.
     ensures taken_a { A.given reader_a.new ≤ A.given reader_a.old + limits.input + 1 }
@@ -139,8 +139,8 @@ pub fn compare_with<A: Source, B: Source, T: NameTable + Drop>(
     requires failures_b { B.failures reader_b.old < 2 ^ 62 }
 
     // What `compare` promises, whatever the tables are.
-    ensures answer { Compares A.left A.given A.failures B.left B.given B.failures limits
-        reader_a.old reader_a.new reader_b.old reader_b.new result }
+    ensures answer { Compares A.Source B.Source limits reader_a.old reader_a.new reader_b.old
+        reader_b.new result }
     ensures taken_a { A.given reader_a.new ≤ A.given reader_a.old + limits.input + 1 }
     ensures taken_b { B.given reader_b.new ≤ B.given reader_b.old + limits.input + 1 }
 {
@@ -176,8 +176,8 @@ fn compare_records<A: Source, B: Source, T: NameTable + Drop>(
     requires given_b { B.given reader_b.old < 2 ^ 62 }
     requires failures_a { A.failures reader_a.old < 2 ^ 62 }
     requires failures_b { B.failures reader_b.old < 2 ^ 62 }
-    ensures answer { Compares A.left A.given A.failures B.left B.given B.failures limits
-        reader_a.old reader_a.new reader_b.old reader_b.new result }
+    ensures answer { Compares A.Source B.Source limits reader_a.old reader_a.new reader_b.old
+        reader_b.new result }
     ensures taken_a { A.given reader_a.new ≤ A.given reader_a.old + limits.input + 1 }
     ensures taken_b { B.given reader_b.new ≤ B.given reader_b.old + limits.input + 1 }
 {

@@ -1,5 +1,5 @@
 -- Texts that go out one behind the other, and are flushed.
-use Rattle.std.proofs.Common.{◌≡◌, ℕ, ◌+◌, ◌<◌, List, [], ◌∷◌, ◌++◌, length, take, drop, get_or}
+use Rattle.std.proofs.Common.{◌≡◌, ℕ, zero, suc, ◌+◌, ◌<◌, ◌≤◌, Bool, List, [], ◌∷◌, ◌++◌, length, take, drop, get_or}
 use Rattle.std.proofs.Common.{Option, Some, None, Result, Ok, Err, sym, ◌∙◌, ap, subst, arith}
 use Rattle.std.proofs.Common.{append-nil, length-append, take-append-drop}
 use Rattle.std.specs.Io.KnownBytes.{Appends, Keeps}
@@ -9,7 +9,9 @@ use Rattle.std.proofs.lemmas.List.{take-append-le, take_all, take_more}
 use Rattle.std.proofs.lemmas.List.Concat.{flat_map-append}
 use Rattle.std.proofs.Math.Seq.{take-append-add}
 use Rattle.dap_device.specs.declared.device.DeviceFault.{DeviceFault}
-use Rattle.dap_device.specs.Device.{AllWritten, FrontWritten, HasFlushed, HasWrittenAll}
+use Rattle.dap_device.specs.declared.device.Sink.{Ghosts as Sink}
+use Rattle.dap_device.specs.Device.{AwaitFlush, HasFlushed, HasTaken, HasTakenNothing}
+use Rattle.dap_device.specs.Written.{AllWritten, FrontWritten, HasSentAll}
 
 -- What stays as it was behind an append has grown by the same.
 pub kept : (old mid new : Option (List ℕ)) (bs : List ℕ) → Appends old mid bs → Keeps mid new
@@ -19,53 +21,120 @@ kept (Some xs) None new bs first same = absurd first
 kept (Some xs) (Some ys) None bs first same = absurd same
 kept (Some xs) (Some ys) (Some zs) bs first same = same ∙ first
 
-module _ {S : Type 0} (out : S → Option (List ℕ)) (failures : S → ℕ) where
-  module _ (old mid new : S) (xs ys : List ℕ) (first : AllWritten out failures old mid xs) where
-    pub all_then_all : AllWritten out failures mid new ys
-        → AllWritten out failures old new (xs ++ ys)
+-- ---- what awaits a flush
+
+module _ {S : Type 0} (unflushed : S → Bool) where
+  -- Where nothing was taken, as much awaits a flush as before.
+  pub nothing_awaits : (old new : S) → unflushed new ≡ unflushed old
+      → AwaitFlush unflushed old new 0
+  nothing_awaits old new same = record { some = λ some. absurd (omega arith); none = λ none. same }
+
+  -- It stays so behind a call that takes nothing.
+  pub awaits : (old mid new : S) (count : ℕ) → AwaitFlush unflushed old mid count
+      → unflushed new ≡ unflushed mid → AwaitFlush unflushed old new count
+  awaits old mid new count first same = record {
+    some = λ some. same ∙ first.some some;
+    none = λ none. same ∙ first.none none;
+  }
+
+  -- Of two texts some bytes are taken where some of either are.
+  pub some_of_both : (old mid new : S) (a b : ℕ) → AwaitFlush unflushed old mid a
+      → AwaitFlush unflushed mid new b → AwaitFlush unflushed old new (a + b)
+  some_of_both old mid new a zero first second = record {
+    some = λ some. second.none (omega arith) ∙ first.some (omega arith);
+    none = λ none. second.none (omega arith) ∙ first.none (omega arith);
+  }
+  some_of_both old mid new a (suc b) first second = record {
+    some = λ some. second.some (omega arith);
+    none = λ none. absurd (omega arith);
+  }
+
+module _ {S : Type 0} (sink : Sink S) where
+  module _ (old mid new : S) (xs ys : List ℕ) (first : AllWritten sink old mid xs) where
+    pub all_then_all : AllWritten sink mid new ys
+        → AllWritten sink old new (xs ++ ys)
     all_then_all second =
         record {
           appended = Appends-trans _ _ _ _ _ first.appended second.appended;
+          awaits = subst (AwaitFlush sink.unflushed old new) (sym (length-append xs ys))
+              (some_of_both sink.unflushed old mid new (length xs) (length ys) first.awaits
+              second.awaits);
           no_failure = second.no_failure ∙ first.no_failure;
         }
 
-    pub all_then_front : FrontWritten out failures mid new ys
-        → FrontWritten out failures old new (xs ++ ys)
+    pub all_then_front : FrontWritten sink mid new ys
+        → FrontWritten sink old new (xs ++ ys)
     all_then_front second = record {
       count = length xs + second.count;
       within = (let fits = second.within in omega (arith, fits, length-append xs ys));
-      appended = subst (Appends (out old) (out new)) (sym (take-append-add xs ys second.count))
+      appended = subst (Appends (sink.out old) (sink.out new))
+          (sym (take-append-add xs ys second.count))
           (Appends-trans _ _ _ _ _ first.appended second.appended);
+      awaits = some_of_both sink.unflushed old mid new (length xs) second.count first.awaits
+          second.awaits;
       failure = second.failure ∙ ap (λ n. n + 1) first.no_failure;
     }
 
   -- A front of a text is one of a longer text.
-  pub front_of_longer : (old new : S) (xs ys : List ℕ) → FrontWritten out failures old new xs
-      → FrontWritten out failures old new (xs ++ ys)
+  pub front_of_longer : (old new : S) (xs ys : List ℕ) → FrontWritten sink old new xs
+      → FrontWritten sink old new (xs ++ ys)
   front_of_longer old new xs ys front = record {
     count = front.count;
     within = (let fits = front.within in omega (arith, fits, length-append xs ys));
-    appended = subst (Appends (out old) (out new))
+    appended = subst (Appends (sink.out old) (sink.out new))
         (sym (take-append-le front.count xs ys front.within)) front.appended;
+    awaits = front.awaits;
     failure = front.failure;
   }
 
+  -- A front of a text went out, and a call behind it takes nothing.
+  module _ (old mid new : S) (bytes : List ℕ) (count : ℕ) (within : count ≤ length bytes)
+      (front : Appends (sink.out old) (sink.out mid) (take count bytes))
+      (waiting : AwaitFlush sink.unflushed old mid count)
+      (good : sink.failures mid ≡ sink.failures old) where
+    pub front_then_fault : HasTakenNothing sink.out sink.unflushed sink.failures mid new
+        → FrontWritten sink old new bytes
+    front_then_fault nothing = record {
+      count = count;
+      within = within;
+      appended = kept (sink.out old) (sink.out mid) (sink.out new) (take count bytes) front
+          nothing.kept;
+      awaits = awaits sink.unflushed old mid new count waiting nothing.awaits;
+      failure = nothing.failure ∙ ap (λ n. n + 1) good;
+    }
+
+    pub front_then_none : (rest : List ℕ) (taken : ℕ) → taken ≡ 0 → 0 < length rest
+        → HasTaken sink.out sink.unflushed sink.failures mid new taken rest
+        → FrontWritten sink old new bytes
+    front_then_none rest taken none some took = record {
+      count = count;
+      within = within;
+      appended = subst (Appends (sink.out old) (sink.out new))
+          (ap (λ k. take count bytes ++ take k rest) none ∙ append-nil (take count bytes))
+          (Appends-trans _ _ _ _ _ front took.appended);
+      awaits = awaits sink.unflushed old mid new count waiting (took.awaits.none none);
+      failure = took.nothing none some ∙ ap (λ n. n + 1) good;
+    }
+
   -- A text that went out is flushed.
   pub all_then_flush : {U : Type 0} (old mid new : S) (bytes : List ℕ)
-      (result : Result U DeviceFault) → AllWritten out failures old mid bytes
-      → HasFlushed out failures mid new result
-      → HasWrittenAll out failures old new result bytes
+      (result : Result U DeviceFault) → AllWritten sink old mid bytes
+      → HasFlushed sink.out sink.unflushed sink.failures mid new result
+      → HasSentAll sink old new result bytes
   all_then_flush old mid new bytes (Ok done) all flushed =
       record {
-        appended = kept (out old) (out mid) (out new) bytes all.appended flushed.0;
-        no_failure = flushed.1 ∙ all.no_failure;
+        appended = kept (sink.out old) (sink.out mid) (sink.out new) bytes all.appended
+            flushed.kept;
+        flushed = flushed.flushed;
+        no_failure = flushed.no_failure ∙ all.no_failure;
       }
   all_then_flush old mid new bytes (Err fault) all flushed = record {
     count = length bytes;
     within = omega arith;
-    appended = subst (Appends (out old) (out new))
+    appended = subst (Appends (sink.out old) (sink.out new))
         (sym (take_all (length bytes) bytes (omega arith)))
-        (kept (out old) (out mid) (out new) bytes all.appended flushed.kept);
+        (kept (sink.out old) (sink.out mid) (sink.out new) bytes all.appended flushed.kept);
+    awaits = awaits sink.unflushed old mid new (length bytes) all.awaits flushed.awaits;
     failure = flushed.failure ∙ ap (λ n. n + 1) all.no_failure;
   }
 
@@ -87,20 +156,20 @@ module _ {S : Type 0} (out : S → Option (List ℕ)) (failures : S → ℕ) whe
 
     module _ (old mid new : S) (bytes : List ℕ) (is : bytes
         ≡ line (get_or xs i d))
-        (before : AllWritten out failures old mid (flat_map line (take i xs))) where
-      pub line_sent : AllWritten out failures mid new bytes
-          → AllWritten out failures old new (flat_map line (take (i + 1) xs))
+        (before : AllWritten sink old mid (flat_map line (take i xs))) where
+      pub line_sent : AllWritten sink mid new bytes
+          → AllWritten sink old new (flat_map line (take (i + 1) xs))
       line_sent all =
-          subst (AllWritten out failures old new) (sym lines_more)
+          subst (AllWritten sink old new) (sym lines_more)
           (all_then_all old mid new (flat_map line (take i xs)) (line (get_or xs i d)) before
-          (subst (AllWritten out failures mid new) is all))
+          (subst (AllWritten sink mid new) is all))
 
-      pub line_not_sent : FrontWritten out failures mid new bytes
-          → FrontWritten out failures old new (flat_map line xs)
+      pub line_not_sent : FrontWritten sink mid new bytes
+          → FrontWritten sink old new (flat_map line xs)
       line_not_sent front =
           let some = all_then_front old mid new (flat_map line (take i xs)) (line (get_or xs i d))
-          before (subst (FrontWritten out failures mid new) is front) in
-          subst (FrontWritten out failures old new) (sym lines_all)
+          before (subst (FrontWritten sink mid new) is front) in
+          subst (FrontWritten sink old new) (sym lines_all)
           (front_of_longer old new (flat_map line (take (i + 1) xs))
           (flat_map line (drop (i + 1) xs))
-          (subst (FrontWritten out failures old new) (sym lines_more) some))
+          (subst (FrontWritten sink old new) (sym lines_more) some))

@@ -1,6 +1,9 @@
--- What one call of a device does to its bytes and its counts. Source: own.
+-- What one call of a device does to its bytes, its counts and what awaits a flush. Source: own.
 -- Bytes are `None` where a device does not tell them, and a statement on them then claims nothing.
-use Rattle.std.specs.Prelude.{◌≡◌, ℕ, ◌+◌, ◌<◌, ◌≤◌, List, length, take, Option, Result, Ok, Err}
+-- The traits' own clauses name these with the members of a device one by one; what follows from
+-- them for a whole text is stated over the record of its members (`Reading`, `Pieces`, `Written`).
+use Rattle.std.specs.Prelude.{◌≡◌, ℕ, ◌+◌, ◌<◌, ◌≤◌, Bool, true, false, List, length, take}
+use Rattle.std.specs.Prelude.{Option, Result, Ok, Err}
 use Rattle.std.specs.Io.KnownBytes.{Consumes, Keeps, Appends, IsAtEnd}
 use Rattle.dap_device.specs.declared.device.DeviceFault.{DeviceFault}
 
@@ -23,42 +26,41 @@ module _ {S : Type 0} (left : S → Option (List ℕ)) (given failures : S → �
   HasRead old new (Ok count) buffer = HasGiven old new count buffer
   HasRead old new (Err fault) buffer = HasGivenNothing old new
 
-module _ {S : Type 0} (out : S → Option (List ℕ)) (failures : S → ℕ) where
+-- Where some bytes were taken, they await a flush; where none were, as much does as before.
+pub record AwaitFlush {S : Type 0} (unflushed : S → Bool) (old new : S) (count : ℕ) : Type 0 where
+  pub some : 0 < count → unflushed new ≡ true
+  pub none : count ≡ 0 → unflushed new ≡ unflushed old
+
+-- Nothing awaits a flush.
+abbrev pub IsFlushed : {S : Type 0} → (S → Bool) → S → Type 0
+IsFlushed unflushed sink = unflushed sink ≡ false
+
+module _ {S : Type 0} (out : S → Option (List ℕ)) (unflushed : S → Bool) (failures : S → ℕ) where
   -- So many bytes went out; where none of some bytes did, that is counted as a failure.
   pub record HasTaken (old new : S) (count : ℕ) (bytes : List ℕ) : Type 0 where
     pub fits : count ≤ length bytes
     pub appended : Appends (out old) (out new) (take count bytes)
+    pub awaits : AwaitFlush unflushed old new count
     pub nothing : count ≡ 0 → 0 < length bytes → failures new ≡ failures old + 1
     pub something : 0 < count → failures new ≡ failures old
     pub none_wanted : length bytes ≡ 0 → failures new ≡ failures old
 
-  -- Nothing went out, and the failure is counted.
+  -- Nothing went out, as much awaits a flush as before, and the failure is counted.
   pub record HasTakenNothing (old new : S) : Type 0 where
     pub kept : Keeps (out old) (out new)
+    pub awaits : unflushed new ≡ unflushed old
     pub failure : failures new ≡ failures old + 1
 
   abbrev pub HasWritten : S → S → Result ℕ DeviceFault → List ℕ → Type 0
   HasWritten old new (Ok count) bytes = HasTaken old new count bytes
   HasWritten old new (Err fault) bytes = HasTakenNothing old new
 
-  abbrev pub HasFlushed : {U : Type 0} → S → S → Result U DeviceFault → Type 0
-  HasFlushed old new (Ok done) = Keeps (out old) (out new) × (failures new ≡ failures old)
-  HasFlushed old new (Err fault) = HasTakenNothing old new
-
-  -- All of the bytes went out.
-  pub record AllWritten (old new : S) (bytes : List ℕ) : Type 0 where
-    pub appended : Appends (out old) (out new) bytes
+  -- What went out stays, and nothing awaits a flush.
+  pub record HasFlushedAll (old new : S) : Type 0 where
+    pub kept : Keeps (out old) (out new)
+    pub flushed : IsFlushed unflushed new
     pub no_failure : failures new ≡ failures old
 
-  -- A front of the bytes went out, and then the device failed.
-  pub record FrontWritten (old new : S) (bytes : List ℕ) : Type 0 where
-    pub count : ℕ
-    pub within : count ≤ length bytes
-    pub appended : Appends (out old) (out new) (take count bytes)
-    pub failure : failures new ≡ failures old + 1
-
-  -- All of the bytes went out, and were flushed where that is asked for; or a front of them, and
-  -- the device failed.
-  abbrev pub HasWrittenAll : {U : Type 0} → S → S → Result U DeviceFault → List ℕ → Type 0
-  HasWrittenAll old new (Ok done) bytes = AllWritten old new bytes
-  HasWrittenAll old new (Err fault) bytes = FrontWritten old new bytes
+  abbrev pub HasFlushed : {U : Type 0} → S → S → Result U DeviceFault → Type 0
+  HasFlushed old new (Ok done) = HasFlushedAll old new
+  HasFlushed old new (Err fault) = HasTakenNothing old new

@@ -3,3 +3,4 @@ pub mod Device
 pub mod Memory
 pub mod Pieces
 pub mod Reading
+pub mod Written

@@ -2,6 +2,7 @@
 use Rattle.std.specs.Prelude.{◌≡◌, ◌⊎◌, ℕ, ◌+◌, ◌<◌, ◌≤◌, List, [], ◌∷◌, ◌++◌, length, Option, Some}
 use Rattle.std.specs.Prelude.{None, Result, Ok, Err}
 use Rattle.std.specs.Io.KnownBytes.{Consumes}
+use Rattle.dap_device.specs.declared.device.Source.{Ghosts as Source}
 use Rattle.dap_device.specs.declared.reading.Stop.{Stop}
 use Rattle.dap_device.specs.declared.reading.Stop.TheVariants.{End, Full, Failed}
 use Rattle.dap_device.specs.Reading.{HasStopped}
@@ -13,16 +14,16 @@ pub record Window : Type 0 where
   pub taken : ℕ
   pub limit : ℕ
 
-module _ {S : Type 0} (left : S → Option (List ℕ)) (given failures : S → ℕ) where
+module _ {S : Type 0} (source : Source S) where
   -- why no more was read; where nothing is said, more may come
   abbrev pub HasPaused : S → S → Option Stop → Type 0
-  HasPaused old new None = failures new ≡ failures old
-  HasPaused old new (Some stop) = HasStopped left failures old new stop
+  HasPaused old new None = source.failures new ≡ source.failures old
+  HasPaused old new (Some stop) = HasStopped source old new stop
 
   -- These bytes came from the source, are counted, and for this reason no more came so far.
   pub record HasComeSoFar (old new : S) (bytes : List ℕ) (stop : Option Stop) : Type 0 where
-    pub came : Consumes (left old) (left new) bytes
-    pub counted : given new ≡ given old + length bytes
+    pub came : Consumes (source.left old) (source.left new) bytes
+    pub counted : source.given new ≡ source.given old + length bytes
     pub paused : HasPaused old new stop
 
   -- Something is unread: it was before, or it is the piece that came.

@@ -1,6 +1,7 @@
 -- What reading a whole input takes of a source. Source: own.
-use Rattle.std.specs.Prelude.{◌≡◌, ℕ, ◌+◌, ◌<◌, ◌≤◌, List, length, Option}
+use Rattle.std.specs.Prelude.{◌≡◌, ℕ, ◌+◌, ◌<◌, ◌≤◌, List, length}
 use Rattle.std.specs.Io.KnownBytes.{Consumes, IsAtEnd}
+use Rattle.dap_device.specs.declared.device.Source.{Ghosts as Source}
 use Rattle.dap_device.specs.declared.reading.Stop.{Stop}
 use Rattle.dap_device.specs.declared.reading.Stop.TheVariants.{End, Full, Failed}
 
@@ -16,15 +17,16 @@ FitsStop limit bytes End = length bytes ≤ limit
 FitsStop limit bytes Full = limit < length bytes
 FitsStop limit bytes Failed = length bytes ≤ limit
 
-module _ {S : Type 0} (left : S → Option (List ℕ)) (failures : S → ℕ) (old new : S) where
+module _ {S : Type 0} (source : Source S) (old new : S) where
   -- why no more was read: nothing is left; a byte past the limit has come; the source failed
   abbrev pub HasStopped : Stop → Type 0
-  HasStopped End = IsAtEnd (left new) × (failures new ≡ failures old)
-  HasStopped Full = failures new ≡ failures old
-  HasStopped Failed = failures new ≡ failures old + 1
+  HasStopped End = IsAtEnd (source.left new) × (source.failures new ≡ source.failures old)
+  HasStopped Full = source.failures new ≡ source.failures old
+  HasStopped Failed = source.failures new ≡ source.failures old + 1
 
-  -- These bytes came from the source, and for this reason no more.
+  -- These bytes came from the source, are counted, and for this reason no more came.
   pub record HasCome (limit : ℕ) (bytes : List ℕ) (stop : Stop) : Type 0 where
-    pub came : Consumes (left old) (left new) bytes
+    pub came : Consumes (source.left old) (source.left new) bytes
+    pub counted : source.given new ≡ source.given old + length bytes
     pub has_length : HasLength limit bytes stop
     pub stopped : HasStopped stop

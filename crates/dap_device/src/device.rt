@@ -1,5 +1,5 @@
 //! What an engine reads from and writes to.
-ghost use Rattle.std.specs.Prelude.{◌≡◌, ℕ, ◌<◌, ◌≤◌, ◌^◌, List, Option, length};
+ghost use Rattle.std.specs.Prelude.{◌≡◌, ℕ, Bool, ◌<◌, ◌≤◌, ◌^◌, List, Option, length};
 ghost use Rattle.dap_device.specs.Device.{HasRead, HasWritten, HasFlushed};
 
 /// A device failed. Why it did is not told: an engine gives up all the same.
@@ -41,10 +41,14 @@ pub trait Source {
 /// What bytes are written to.
 ///
 /// A write of nothing into a sink that was given some bytes counts as a failure, beside a write or
-/// a flush that answers `Err`. Nothing but `write` changes the bytes that went out.
+/// a flush that answers `Err`. Nothing but `write` changes the bytes that went out, and nothing but
+/// `write` and `flush` whether some of them await a flush.
 pub trait Sink {
     /// The bytes that went out, where the sink tells them.
     ghost out: { Self → Option (List ℕ) };
+
+    /// Bytes were taken since the last flush that answered `Ok`.
+    ghost unflushed: { Self → Bool };
 
     /// How often it failed.
     ghost failures: { Self → ℕ };
@@ -52,12 +56,12 @@ pub trait Sink {
     /// Sends a front of `bytes` out and answers its length.
     fn write(&mut self, bytes: &[u8]) -> Result<usize, DeviceFault>
         requires { failures self.old < 2 ^ 63 }
-        ensures written { HasWritten out failures self.old self.new result bytes.now };
+        ensures written { HasWritten out unflushed failures self.old self.new result bytes.now };
 
     /// Sees that what went out stays out.
     fn flush(&mut self) -> Result<(), DeviceFault>
         requires { failures self.old < 2 ^ 63 }
-        ensures flushed { HasFlushed out failures self.old self.new result };
+        ensures flushed { HasFlushed out unflushed failures self.old self.new result };
 
     /// How often it failed since it was made.
     fn failures(&self) -> u64

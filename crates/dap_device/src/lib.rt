@@ -1,5 +1,6 @@
 //! What engines read from and write to: readers and writers that count what they gave and how often
-//! they failed, over memory, which tell their bytes, and over those of std.
+//! they failed, and tell whether bytes await a flush; over memory, which tell their bytes, and over
+//! those of std.
 //!
 //! An engine reads its input as a whole with [`read_all`] or a piece at a time with [`Pieces`], and
 //! sends a text out with [`write_all`] or [`write_and_flush`].

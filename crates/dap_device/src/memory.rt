@@ -1,7 +1,7 @@
 //! Devices over memory, which tell their bytes.
-ghost use Rattle.std.specs.Prelude.{◌≡◌, ◌<◌, ◌^◌, ◌↔◌, Some, length, [], IfOk, IsErr};
-ghost use Rattle.dap_device.specs.Device.{HasWritten};
-ghost use Rattle.dap_device.specs.Memory.{TakenBytes};
+ghost use Rattle.std.specs.Prelude.{◌≡◌, ◌<◌, ◌^◌, ◌↔◌, Some, false, length, [], IfOk, IsErr, IsOk};
+ghost use Rattle.dap_device.specs.Device.{HasFlushed, HasWritten};
+ghost use Rattle.dap_device.specs.Memory.{TakenBytes, count_that_fits};
 
 use crate::device::{DeviceFault, Sink, Source};
 use std::alloc::{AllocError, Global};
@@ -64,6 +64,7 @@ impl Source for MemorySource<'_> {
 pub struct MemorySink {
     bytes: Vec<u8>,
     room: usize,
+    unflushed: bool,
     failures: u64,
 }
 
@@ -72,7 +73,12 @@ impl Model for MemorySink {
 
     ghost Value = { TakenBytes };
 
-    ghost view = { λ s. record { out = s.bytes.items; room = s.room; failures = s.failures } };
+    ghost view = { λ s. record {
+      out = s.bytes.items;
+      room = s.room;
+      unflushed = s.unflushed;
+      failures = s.failures;
+    } };
 
     ghost use Rattle.std.specs.Prelude.{◌≤◌, vec_len, vec_capacity};
 
@@ -82,11 +88,13 @@ impl Model for MemorySink {
 impl MemorySink {
     /// A sink with room for so many bytes, and no more.
     pub fn new(alloc: Global, room: usize) -> Result<MemorySink, AllocError>
-        ensures { IfOk result (λ s. s ≡ record { out = []; room = room; failures = 0 }) }
+        ensures { IfOk result (λ s. s
+            ≡ record { out = []; room = room; unflushed = false; failures = 0 }) }
     {
         Ok(MemorySink {
             bytes: Vec::with_capacity(alloc, room)?,
             room,
+            unflushed: false,
             failures: 0,
         })
     }
@@ -102,16 +110,20 @@ impl MemorySink {
 impl Sink for MemorySink {
     ghost out = { λ s. Some s.out };
 
+    ghost unflushed = { λ s. s.unflushed };
+
     ghost failures = { λ s. s.failures };
 
-    /// Takes what there is room for. Only a write of some bytes into a full sink fails.
+    /// Takes all that there is room for. Only a write of some bytes into a full sink fails.
     fn write(&mut self, bytes: &[u8]) -> Result<usize, DeviceFault>
         requires { self.old.failures < 2 ^ 63 }
         ensures written { HasWritten (λ (s : TakenBytes). Some s.out)
-            (λ (s : TakenBytes). s.failures) self.old self.new result bytes.now }
+            (λ (s : TakenBytes). s.unflushed) (λ (s : TakenBytes). s.failures) self.old self.new
+            result bytes.now }
         ensures room { self.new.room ≡ self.old.room }
         ensures full { IsErr result
             ↔ ((0 < length bytes.now) × (length self.old.out ≡ self.old.room)) }
+        ensures most { IfOk result (λ count. count ≡ count_that_fits self.old bytes.now) }
     {
         let room = self.room - self.bytes.len();
         if room == 0 && !bytes.is_empty() {
@@ -120,10 +132,22 @@ impl Sink for MemorySink {
         }
         let count = bytes.len().min(room);
         self.bytes.extend_from_slice(&bytes[..count]).unwrap();
+        if count > 0 {
+            self.unflushed = true;
+        }
         Ok(count)
     }
 
-    fn flush(&mut self) -> Result<(), DeviceFault> {
+    /// It never fails.
+    fn flush(&mut self) -> Result<(), DeviceFault>
+        requires { self.old.failures < 2 ^ 63 }
+        ensures flushed { HasFlushed (λ (s : TakenBytes). Some s.out)
+            (λ (s : TakenBytes). s.unflushed) (λ (s : TakenBytes). s.failures) self.old self.new
+            result }
+        ensures room { self.new.room ≡ self.old.room }
+        ensures always { IsOk result }
+    {
+        self.unflushed = false;
         Ok(())
     }
 

@@ -96,7 +96,7 @@ impl Pieces {
     pub fn fill<R: Source>(&mut self, reader: &mut R) -> Result<(), Stop>
         requires given { R.given reader.old < 2 ^ 63 }
         requires failures { R.failures reader.old < 2 ^ 63 }
-        ensures { HasFilled R.left R.given R.failures self.old self.new reader.old reader.new result }
+        ensures { HasFilled R.Source self.old self.new reader.old reader.new result }
     {
         if self.start < self.end {
             return Ok(());

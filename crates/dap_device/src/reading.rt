@@ -33,8 +33,7 @@ pub fn read_all<R: Source>(alloc: Global, reader: &mut R, limit: u64) -> Result<
     requires failures { R.failures reader.old < 2 ^ 62 }
     ensures given { R.given reader.new ≤ R.given reader.old + limit + 1 }
     ensures came { IfOk result
-        (λ input. HasCome R.left R.failures reader.old reader.new limit input.bytes.items
-        input.stop) }
+        (λ input. HasCome R.Source reader.old reader.new limit input.bytes.items input.stop) }
 {
     let most = limit as usize + 1;
     let mut bytes = Vec::new(alloc);

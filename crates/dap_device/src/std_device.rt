@@ -1,5 +1,5 @@
 //! Devices over the readers and writers of std, which tell no bytes.
-ghost use Rattle.std.specs.Prelude.{◌≡◌, None};
+ghost use Rattle.std.specs.Prelude.{◌≡◌, None, false};
 
 use crate::device::{DeviceFault, Sink, Source};
 use std::io::{ErrorKind, Read, Write};
@@ -69,6 +69,7 @@ impl<R: Read> Source for StdSource<R> {
 #[derive(Drop)]
 pub struct StdSink<W> {
     writer: W,
+    unflushed: bool,
     failures: u64,
 }
 
@@ -77,21 +78,27 @@ impl<W> Model for StdSink<W> {
 
     ghost Value = { SinkCounts };
 
-    ghost view = { λ s. record { failures = s.failures } };
+    ghost view = { λ s. record { unflushed = s.unflushed; failures = s.failures } };
 }
 
 impl<W: Write> StdSink<W> {
     /// A sink that has taken nothing yet. It takes no memory.
     pub fn new(writer: W) -> StdSink<W>
-        ensures { result ≡ record { failures = 0 } }
+        ensures { result ≡ record { unflushed = false; failures = 0 } }
     {
         let failures = 0;
-        StdSink { writer, failures }
+        StdSink {
+            writer,
+            unflushed: false,
+            failures,
+        }
     }
 }
 
 impl<W: Write> Sink for StdSink<W> {
     ghost out = { λ s. None };
+
+    ghost unflushed = { λ s. s.unflushed };
 
     ghost failures = { λ s. s.failures };
 
@@ -99,7 +106,9 @@ impl<W: Write> Sink for StdSink<W> {
         for _ in 0..u64::MAX {
             match self.writer.write(bytes) {
                 Ok(count) => {
-                    if count == 0 && !bytes.is_empty() {
+                    if count > 0 {
+                        self.unflushed = true;
+                    } else if !bytes.is_empty() {
                         self.failures += 1;
                     }
                     return Ok(count);
@@ -117,6 +126,7 @@ impl<W: Write> Sink for StdSink<W> {
             self.failures += 1;
             return Err(DeviceFault {});
         }
+        self.unflushed = false;
         Ok(())
     }
 

@@ -1,13 +1,13 @@
 //! Writes a whole text.
 ghost use Rattle.std.specs.Prelude.{◌<◌, ◌^◌};
-ghost use Rattle.dap_device.specs.Device.{HasWrittenAll};
+ghost use Rattle.dap_device.specs.Written.{HasSentAll, HasWrittenAll};
 
 use crate::device::{DeviceFault, Sink};
 
 /// Sends all of the bytes out. Where the sink fails, a front of them went out.
 pub fn write_all<W: Sink>(writer: &mut W, bytes: &[u8]) -> Result<(), DeviceFault>
     requires { W.failures writer.old < 2 ^ 63 }
-    ensures { HasWrittenAll W.out W.failures writer.old writer.new result bytes.now }
+    ensures { HasWrittenAll W.Sink writer.old writer.new result bytes.now }
 {
     let mut at = 0;
     while at < bytes.len() {
@@ -24,7 +24,7 @@ pub fn write_all<W: Sink>(writer: &mut W, bytes: &[u8]) -> Result<(), DeviceFaul
 /// out.
 pub fn write_and_flush<W: Sink>(writer: &mut W, bytes: &[u8]) -> Result<(), DeviceFault>
     requires { W.failures writer.old < 2 ^ 63 }
-    ensures { HasWrittenAll W.out W.failures writer.old writer.new result bytes.now }
+    ensures { HasSentAll W.Sink writer.old writer.new result bytes.now }
 {
     write_all(writer, bytes)?;
     writer.flush()

@@ -1,8 +1,9 @@
 -- What reading on to the end of an input keeps, and what has come in the end.
-use Rattle.std.proofs.Common.{◌≡◌, ℕ, ◌+◌, ◌≤◌, List, [], ◌∷◌, ◌++◌, length, Option, Some}
-use Rattle.std.proofs.Common.{None, Bool, true, false, Result, Ok, Err, refl, ◌∙◌, ap, subst}
+use Rattle.std.proofs.Common.{◌≡◌, ℕ, ◌+◌, ◌≤◌, List, [], ◌∷◌, ◌++◌, length, Some}
+use Rattle.std.proofs.Common.{None, true, false, Result, Ok, Err, refl, ◌∙◌, ap, subst}
 use Rattle.std.proofs.Common.{arith, append-nil, length-append}
 use Rattle.std.specs.Result.{is_ok}
+use Rattle.dap_device.specs.declared.device.Source.{Ghosts as Source}
 use Rattle.dap_device.specs.Pieces.{HasComeSoFar, HasFilled, HasNextPiece, HasNoPiece, Window}
 use Rattle.dap_device.specs.declared.reading.Stop.{Stop}
 use Rattle.dap_device.specs.declared.reading.Stop.TheVariants.{End, Full, Failed}
@@ -11,50 +12,48 @@ use Rattle.dap_input.specs.declared.records.Records.{Records}
 use Rattle.dap_input.proofs.Coming.{came_on, nothing_came}
 
 -- So much more has come, and may have.
-pub record Draining {I R : Type 0} (left : R → Option (List ℕ)) (given failures : R
-    → ℕ) (old now : Records I) (before mid : R) : Type 0 where
+pub record Draining {I R : Type 0} (source : Source R) (old now : Records I) (before mid : R) : Type 0 where
   pub more : List ℕ
-  pub came : HasComeSoFar left given failures before mid more None
+  pub came : HasComeSoFar source before mid more None
   pub taken : now.pieces.taken ≡ old.pieces.taken + length more
   pub limit_is : now.pieces.limit ≡ old.pieces.limit
   pub within : old.pieces.taken ≤ old.pieces.limit → now.pieces.taken ≤ now.pieces.limit
 
 -- What the test of a loop over the pieces says.
-module _ {R U : Type 0} (left : R → Option (List ℕ)) (given failures : R → ℕ)
+module _ {R U : Type 0} (source : Source R)
     (before after : Window) (mid end : R) where
   pub some_piece : (filled : Result U Stop) → is_ok filled ≡ true
-      → HasFilled left given failures before after mid end filled
-      → HasNextPiece left given failures before after mid end
+      → HasFilled source before after mid end filled
+      → HasNextPiece source before after mid end
   some_piece (Ok done) is got = got
   some_piece (Err stop) is got = absurd (let e : false ≡ true = is in cc)
 
   pub no_piece : (filled : Result U Stop) → is_ok filled ≡ false
-      → HasFilled left given failures before after mid end filled
-      → (stop : Stop) × HasNoPiece left given failures before mid end stop
+      → HasFilled source before after mid end filled
+      → (stop : Stop) × HasNoPiece source before mid end stop
   no_piece (Ok done) is got = absurd (let e : true ≡ false = is in cc)
   no_piece (Err stop) is got = (stop, got.2)
 
-module _ {I R : Type 0} (left : R → Option (List ℕ)) (given failures : R
-    → ℕ) (old : Records I) (before : R) where
-  pub drain_start : Draining left given failures old old before before
+module _ {I R : Type 0} (source : Source R) (old : Records I) (before : R) where
+  pub drain_start : Draining source old old before before
   drain_start = record {
     more = [];
-    came = nothing_came left given failures before;
+    came = nothing_came source before;
     taken = omega arith;
     limit_is = refl;
     within = λ le. le;
   }
 
   module _ (now : Records I) (mid : R)
-      (was : Draining left given failures old now before mid) where
+      (was : Draining source old now before mid) where
     -- A piece came, and is dropped.
     pub drain_on : (next : Records I) (filled : Window) (after : R)
-        → HasNextPiece left given failures now.pieces filled mid after
+        → HasNextPiece source now.pieces filled mid after
         → next.pieces.taken ≡ filled.taken → next.pieces.limit ≡ filled.limit
-        → Draining left given failures old next before after
+        → Draining source old next before after
     drain_on next filled after got taken limit = record {
       more = was.more ++ got.piece;
-      came = came_on left given failures before mid after was.more got.piece None was.came got.came;
+      came = came_on source before mid after was.more got.piece None was.came got.came;
       taken = taken ∙ ap (λ (w : Window). w.taken) got.window
           ∙ omega (arith, was.taken, length-append was.more got.piece);
       limit_is = limit ∙ ap (λ (w : Window). w.limit) got.window ∙ was.limit_is;
@@ -66,21 +65,21 @@ module _ {I R : Type 0} (left : R → Option (List ℕ)) (given failures : R
     at_most le = let within = was.within le in omega (arith, within, was.taken, was.limit_is)
 
     came_none : (after : R) (stop : Stop)
-        → HasComeSoFar left given failures mid after [] (Some stop)
-        → HasComeSoFar left given failures before after was.more (Some stop)
+        → HasComeSoFar source mid after [] (Some stop)
+        → HasComeSoFar source before after was.more (Some stop)
     came_none after stop next =
-        subst (λ more. HasComeSoFar left given failures before after more (Some stop))
+        subst (λ more. HasComeSoFar source before after more (Some stop))
         (append-nil was.more)
-        (came_on left given failures before mid after was.more [] (Some stop) was.came next)
+        (came_on source before mid after was.more [] (Some stop) was.came next)
 
     -- None comes any more.
     pub drained : (after : R) (stop : Stop)
-        → HasNoPiece left given failures now.pieces mid after stop
-        → old.pieces.taken ≤ old.pieces.limit → ReadsRest left given failures old before after
+        → HasNoPiece source now.pieces mid after stop
+        → old.pieces.taken ≤ old.pieces.limit → ReadsRest source old before after
     drained after Full next le = record {
       more = was.more ++ next.byte ∷ [];
       stop = Full;
-      came = came_on left given failures before mid after was.more (next.byte ∷ []) (Some Full)
+      came = came_on source before mid after was.more (next.byte ∷ []) (Some Full)
           was.came next.came;
       within = omega (
         arith,

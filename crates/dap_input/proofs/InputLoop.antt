@@ -8,7 +8,6 @@ use Rattle.dap_device.specs.Pieces.{Window}
 use Rattle.dap_items.specs.Items.{Items, IsItem, Shows}
 use Rattle.dap_items.proofs.Ends.{IsReadable, open_shorter, shown_inside, shown_later}
 use Rattle.dap_recording.specs.declared.record_fault.RecordCause.{RecordCause}
-use Rattle.dap_recording.specs.declared.record_fault.RecordCause.TheVariants as cause
 use Rattle.dap_input.specs.Inputs.{EndsAt}
 use Rattle.dap_input.specs.Judging.{Judging, Objection, Reason, faulty, input_too_long, cut}
 use Rattle.dap_input.specs.Judging.{objected, Refuses, IsFirstRefusal}
@@ -16,7 +15,6 @@ use Rattle.dap_input.specs.ReadTo.{IsReadTo}
 use Rattle.dap_input.specs.RecordSteps.{IsAtStart, StandsBetween}
 use Rattle.dap_input.specs.declared.records.Records.{Records}
 use Rattle.dap_input.proofs.Outcomes.{first_of_stop}
-use Rattle.dap_input.proofs.Refusals.{IsShownCause}
 use Rattle.dap_input.proofs.Runs.{ValueLaws, AcceptedFacts, Run, run_none, run_push}
 use Rattle.dap_input.proofs.Runs.{some_bytes as some_record}
 

@@ -1,8 +1,9 @@
 -- What the next record of an input makes of the judging of those before.
-use Rattle.std.proofs.Common.{◌≡◌, ◌≢◌, ◌⊎◌, inl, inr, ℕ, ◌+◌, ◌-◌, ◌<◌, ◌≤◌, true, false, List, []}
+use Rattle.std.proofs.Common.{◌≡◌, ◌≢◌, inl, inr, ℕ, ◌+◌, ◌-◌, ◌<◌, ◌≤◌, true, false, List, []}
 use Rattle.std.proofs.Common.{◌∷◌, ◌++◌, length, Option, Some, None, Result, Ok, Err, refl, sym}
 use Rattle.std.proofs.Common.{◌∙◌, ap, subst, arith, append_assoc, append-nil, length-append}
 use Rattle.std.proofs.lemmas.List.{length_push}
+use Rattle.dap_device.specs.declared.device.Source.{Ghosts as Source}
 use Rattle.dap_device.specs.declared.reading.Stop.{Stop}
 use Rattle.dap_device.specs.declared.reading.Stop.TheVariants.{End, Full, Failed}
 use Rattle.dap_items.specs.Items.{Items, Shows}
@@ -10,7 +11,7 @@ use Rattle.dap_recording.specs.declared.record_fault.RecordCause.{RecordCause}
 use Rattle.dap_recording.specs.declared.record_fault.RecordCause.TheVariants as cause
 use Rattle.dap_input.specs.InputSteps.{Says}
 use Rattle.dap_input.specs.Inputs.{refused, read_fault}
-use Rattle.dap_input.specs.Judging.{Judging, Objection, faulty, cut, input_too_long, objected}
+use Rattle.dap_input.specs.Judging.{Judging, faulty, cut, input_too_long, objected}
 use Rattle.dap_input.specs.ReadTo.{IsReadTo, has_failed, so_far}
 use Rattle.dap_input.specs.RecordSteps.{Finds, HasWhole, IsNeeded, IsTooLong, IsWithin, ReadsNext}
 use Rattle.dap_input.specs.Refusals.{RefusesAt, RefusesHeld, reason_of}
@@ -25,11 +26,10 @@ use Rattle.dap_input.proofs.Refusals.{IsShownCause, faulty_told, objected_not_cu
 use Rattle.dap_input.proofs.Refusals.{objection_told}
 
 module _ {I A R : Type 0} (j : Judging) (g : Items A RecordCause) (held_of : A → j.Held)
-    (facts : ReadsAs j g held_of) (stands : I → List ℕ → Type 0) (left : R → Option (List ℕ))
-    (given failures : R → ℕ) (bytes : List ℕ) (old : Records I) (values : List j.Value)
+    (facts : ReadsAs j g held_of) (stands : I → List ℕ → Type 0) (source : Source R) (bytes : List ℕ) (old : Records I) (values : List j.Value)
     (was : StandsBehind j stands bytes old values) (new : Records I) (before after : R) where
   module _ (answer : Result (Option A) Refused)
-      (read : ReadsNext g stands left given failures old new before after answer) where
+      (read : ReadsNext g stands source old new before after answer) where
     abbrev pub all : List ℕ
     all = bytes ++ read.more
 
@@ -164,7 +164,7 @@ module _ {I A R : Type 0} (j : Judging) (g : Items A RecordCause) (held_of : A �
 
   -- What the refusal says, and that a cut is told only at the end.
   pub refused_read : (because : Refused)
-      → (read : ReadsNext g stands left given failures old new before after (Err because))
+      → (read : ReadsNext g stands source old new before after (Err because))
       → Says j (all (Err because) read) read.stop old.number because
       × ((n : ℕ) → because ≡ Record n cause.Cut → read.stop ≡ Some End)
   refused_read because read = told because read.finds
@@ -198,7 +198,7 @@ module _ {I A R : Type 0} (j : Judging) (g : Items A RecordCause) (held_of : A �
       told other is = absurd is
 
   -- All records have come, and the input is accepted.
-  pub none_left : (read : ReadsNext g stands left given failures old new before after (Ok None))
+  pub none_left : (read : ReadsNext g stands source old new before after (Ok None))
       → (read.stop ≡ Some End) × j.IsAccepted (all (Ok None) read) values
       × (new.number ≡ old.number)
   none_left read = (
@@ -211,7 +211,7 @@ module _ {I A R : Type 0} (j : Judging) (g : Items A RecordCause) (held_of : A �
   -- ---- a record has come
 
   module _ (whole : A)
-      (read : ReadsNext g stands left given failures old new before after (Ok (Some whole))) where
+      (read : ReadsNext g stands source old new before after (Ok (Some whole))) where
     abbrev pub come : List ℕ
     come = all (Ok (Some whole)) read
 

@@ -11,4 +11,5 @@ pub mod RecordLoop
 pub mod Refusals
 pub mod RunFronts
 pub mod Runs
+pub mod Streams
 pub mod WholeInputs

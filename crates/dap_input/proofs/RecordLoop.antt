@@ -1,11 +1,12 @@
 -- What the reading of the next record keeps, and what it may answer, whatever a record is.
-use Rattle.std.proofs.Common.{◌≡◌, ◌≢◌, ◌⊎◌, inl, inr, ℕ, ◌+◌, ◌-◌, ◌≤◌, Bool, true, false}
+use Rattle.std.proofs.Common.{◌≡◌, ◌≢◌, ◌⊎◌, inl, inr, ℕ, ◌+◌, ◌-◌, ◌≤◌, true, false}
 use Rattle.std.proofs.Common.{List, [], ◌∷◌, ◌++◌, length, take, drop, Option, Some, None}
 use Rattle.std.proofs.Common.{Result, Ok, Err, refl, sym, ◌∙◌, ap, subst, arith, append_assoc}
 use Rattle.std.proofs.Common.{append-nil, length-append, take-append-drop}
 use Rattle.std.proofs.lemmas.Bool.{true≢false}
 use Rattle.std.proofs.lemmas.List.{drop_all}
 use Rattle.std.specs.Prelude.{MatchOption, is_some}
+use Rattle.dap_device.specs.declared.device.Source.{Ghosts as Source}
 use Rattle.dap_device.specs.Pieces.{HasComeSoFar, HasNextPiece, HasNoPiece, HasPassedLimit}
 use Rattle.dap_device.specs.Pieces.{Window}
 use Rattle.dap_device.specs.declared.reading.Stop.{Stop}
@@ -23,21 +24,19 @@ use Rattle.dap_input.specs.declared.refused.Refused.TheVariants.{Memory}
 use Rattle.dap_input.proofs.Coming.{came_on, nothing_came}
 
 -- What is kept of a reader and of counts, whatever the records stand for.
-pub record AreCounted {I R : Type 0} (given failures : R
-    → ℕ) (old now : Records I) (before mid : R) : Type 0 where
-  pub room : given mid + (now.pieces.limit - now.pieces.taken)
-      ≤ given before + (old.pieces.limit - old.pieces.taken)
-  pub no_failure : failures mid ≡ failures before
+pub record AreCounted {I R : Type 0} (source : Source R) (old now : Records I) (before mid : R) : Type 0 where
+  pub room : source.given mid + (now.pieces.limit - now.pieces.taken)
+      ≤ source.given before + (old.pieces.limit - old.pieces.taken)
+  pub no_failure : source.failures mid ≡ source.failures before
   pub number_is : now.number ≡ old.number
 
 -- A piece came, and some of it was read.
-pub counted_on : {I R : Type 0} (left : R → Option (List ℕ)) (given failures : R
-    → ℕ) (old now next : Records I) (before mid after : R) (filled : Window)
-    → AreCounted given failures old now before mid
-    → HasNextPiece left given failures now.pieces filled mid after
+pub counted_on : {I R : Type 0} (source : Source R) (old now next : Records I) (before mid after : R) (filled : Window)
+    → AreCounted source old now before mid
+    → HasNextPiece source now.pieces filled mid after
     → next.pieces.taken ≡ filled.taken → next.pieces.limit ≡ filled.limit → next.number ≡ now.number
-    → AreCounted given failures old next before after
-counted_on left given failures old now next before mid after filled was got taken limit number_is =
+    → AreCounted source old next before after
+counted_on source old now next before mid after filled was got taken limit number_is =
     record {
       room =
           (let is_taken = ap (λ (w : Window). w.taken) got.window in
@@ -58,10 +57,9 @@ nothing (Some whole) is = absurd (true≢false is)
 -- The next record is looked for: so much has come, no more than was needed, and of it the reader
 -- stands for what is not unread.
 pub record Looking {I A R : Type 0} (g : Items A RecordCause) (stands : I → List ℕ
-    → Type 0) (left : R → Option (List ℕ)) (given failures : R
-    → ℕ) (old now : Records I) (before mid : R) : Type 0 where
+    → Type 0) (source : Source R) (old now : Records I) (before mid : R) : Type 0 where
   pub more : List ℕ
-  pub came : HasComeSoFar left given failures before mid more None
+  pub came : HasComeSoFar source before mid more None
   pub needed : IsNeeded g old.pieces.unread more
   pub taken : now.pieces.taken ≡ old.pieces.taken + length more
   pub within : now.pieces.taken ≤ now.pieces.limit
@@ -74,17 +72,17 @@ pub record Looking {I A R : Type 0} (g : Items A RecordCause) (stands : I → Li
 
 module _ {I A R : Type 0} (g : Items A RecordCause) (stands : I → List ℕ
     → Type 0) (opens : (reader : I) (bytes : List ℕ) → stands reader bytes → g.IsOpen bytes)
-    (left : R → Option (List ℕ)) (given failures : R → ℕ) (old : Records I) (before : R) where
+    (source : Source R) (old : Records I) (before : R) where
   abbrev pub At : Records I → R → Type 0
-  At now mid = Looking g stands left given failures old now before mid
+  At now mid = Looking g stands source old now before mid
 
   abbrev pub Gives : Records I → R → Result (Option A) Refused → Type 0
-  Gives new after answer = ReadsNext g stands left given failures old new before after answer
+  Gives new after answer = ReadsNext g stands source old new before after answer
 
   pub at_start : StandsBetween stands old → At old before
   at_start between = record {
     more = [];
-    came = nothing_came left given failures before;
+    came = nothing_came source before;
     needed = inl refl;
     taken = omega arith;
     within = between.within;
@@ -108,16 +106,16 @@ module _ {I A R : Type 0} (g : Items A RecordCause) (stands : I → List ℕ
     all_open none = subst (λ t. g.IsOpen t) (sym (all_held none)) open_held
 
     came_more : (after : R) (piece : List ℕ) (stop : Option Stop)
-        → HasComeSoFar left given failures mid after piece stop
-        → HasComeSoFar left given failures before after (was.more ++ piece) stop
+        → HasComeSoFar source mid after piece stop
+        → HasComeSoFar source before after (was.more ++ piece) stop
     came_more after piece stop next =
-        came_on left given failures before mid after was.more piece stop was.came next
+        came_on source before mid after was.more piece stop was.came next
 
     came_none : (after : R) (stop : Option Stop)
-        → HasComeSoFar left given failures mid after [] stop
-        → HasComeSoFar left given failures before after was.more stop
+        → HasComeSoFar source mid after [] stop
+        → HasComeSoFar source before after was.more stop
     came_none after stop next =
-        subst (λ more. HasComeSoFar left given failures before after more stop)
+        subst (λ more. HasComeSoFar source before after more stop)
         (append-nil was.more) (came_more after [] stop next)
 
     taken_within : old.pieces.taken + length was.more ≤ old.pieces.limit
@@ -126,7 +124,7 @@ module _ {I A R : Type 0} (g : Items A RecordCause) (stands : I → List ℕ
     -- ---- more has come, or none comes
 
     pub filled : (next : Records I) (after : R)
-        → HasNextPiece left given failures now.pieces next.pieces mid after
+        → HasNextPiece source now.pieces next.pieces mid after
         → next.reader ≡ now.reader → next.number ≡ now.number → next.is_over ≡ now.is_over
         → At next after
     filled next after got reader_is number_is over_is = record {
@@ -173,7 +171,7 @@ module _ {I A R : Type 0} (g : Items A RecordCause) (stands : I → List ℕ
       same_number : new.number ≡ old.number
       same_number = number_is ∙ was.number_is
 
-      has_failed : HasComeSoFar left given failures mid after [] (Some Failed)
+      has_failed : HasComeSoFar source mid after [] (Some Failed)
           → Gives new after (Err ReadFault)
       has_failed next = record {
         more = was.more;
@@ -187,7 +185,7 @@ module _ {I A R : Type 0} (g : Items A RecordCause) (stands : I → List ℕ
         finds = (refl, all_open none);
       }
 
-      is_too_long : HasPassedLimit left given failures now.pieces mid after
+      is_too_long : HasPassedLimit source now.pieces mid after
           → Gives new after (Err (InputTooLong new.number))
       is_too_long next = record {
         more = was.more ++ next.byte ∷ [];
@@ -216,7 +214,7 @@ module _ {I A R : Type 0} (g : Items A RecordCause) (stands : I → List ℕ
         );
       }
 
-      has_ended : HasComeSoFar left given failures mid after [] (Some End) → was.held ≡ []
+      has_ended : HasComeSoFar source mid after [] (Some End) → was.held ≡ []
           → Gives new after (Ok None)
       has_ended next nothing = record {
         more = was.more;
@@ -230,7 +228,7 @@ module _ {I A R : Type 0} (g : Items A RecordCause) (stands : I → List ℕ
         finds = (refl, all_held none ∙ nothing, same_number);
       }
 
-      is_cut : HasComeSoFar left given failures mid after [] (Some End) → was.held ≢ []
+      is_cut : HasComeSoFar source mid after [] (Some End) → was.held ≢ []
           → Gives new after (Err (Record new.number cause.Cut))
       is_cut next some = record {
         more = was.more;
@@ -245,7 +243,7 @@ module _ {I A R : Type 0} (g : Items A RecordCause) (stands : I → List ℕ
       }
 
       pub stopped : (stop : Stop) (answer : Result (Option A) Refused)
-          → HasNoPiece left given failures now.pieces mid after stop → Stops stands new stop answer
+          → HasNoPiece source now.pieces mid after stop → Stops stands new stop answer
           → Gives new after answer
       stopped Full answer next told = subst (Gives new after) (sym told) (is_too_long next)
       stopped Failed answer next told = subst (Gives new after) (sym told) (has_failed next)

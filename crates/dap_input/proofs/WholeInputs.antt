@@ -1,9 +1,11 @@
 -- An engine that judges its whole input record by record before it writes: what it keeps, and what
 -- it answers.
 use Rattle.std.proofs.Common.{◌≡◌, ◌≢◌, ◌⊎◌, inl, inr, ℕ, ◌+◌, ◌-◌, ◌<◌, ◌≤◌, ◌^◌, true, false}
-use Rattle.std.proofs.Common.{List, [], ◌∷◌, ◌++◌, length, take, Option, Some, None, Result, Ok}
+use Rattle.std.proofs.Common.{List, [], ◌∷◌, ◌++◌, length, Option, Some, None, Result, Ok}
 use Rattle.std.proofs.Common.{Err, refl, sym, ◌∙◌, ap, subst, arith, length-append}
 use Rattle.std.specs.Prelude.{is_some}
+use Rattle.dap_device.specs.declared.device.Sink.{Ghosts as Sink}
+use Rattle.dap_device.specs.declared.device.Source.{Ghosts as Source}
 use Rattle.dap_device.specs.Pieces.{HasComeSoFar}
 use Rattle.dap_device.specs.Reading.{HasCome, HasLength}
 use Rattle.dap_device.specs.declared.reading.Stop.{Stop}
@@ -28,26 +30,24 @@ use Rattle.dap_input.proofs.InputSteps as steps
 use Rattle.dap_input.proofs.Refusals.{refused_as, refused_in, untold}
 
 -- So much has come, and the records before the next one are judged as these values.
-pub record Going {I R : Type 0} (j : Judging) (stands : I → List ℕ → Type 0) (left : R
-    → Option (List ℕ)) (given failures : R → ℕ) (start reader : R) (records : Records I)
+pub record Going {I R : Type 0} (j : Judging) (stands : I → List ℕ → Type 0) (source : Source R) (start reader : R) (records : Records I)
     (values : List j.Value) : Type 0 where
   pub bytes : List ℕ
-  pub came : HasComeSoFar left given failures start reader bytes None
+  pub came : HasComeSoFar source start reader bytes None
   pub behind : StandsBehind j stands bytes records values
 
 module _ {I A R : Type 0} (j : Judging) (g : Items A RecordCause) (held_of : A → j.Held)
-    (facts : ReadsAs j g held_of) (stands : I → List ℕ → Type 0) (left : R → Option (List ℕ))
-    (given failures : R → ℕ) where
+    (facts : ReadsAs j g held_of) (stands : I → List ℕ → Type 0) (source : Source R) where
   pub at_start : (reader : R) (records : Records I) → IsAtStart stands j.input records
-      → Going j stands left given failures reader reader records []
+      → Going j stands source reader reader records []
   at_start reader records start = record {
     bytes = [];
-    came = nothing_came left given failures reader;
+    came = nothing_came source reader;
     behind = none_read j stands records facts.accepted start;
   }
 
   module _ (start reader : R) (records : Records I) (values : List j.Value)
-      (was : Going j stands left given failures start reader records values) where
+      (was : Going j stands source start reader records values) where
     taken_within : length was.bytes ≤ j.input
     taken_within = let taken = was.behind.taken in let limit = was.behind.limit_is in let within =
         was.behind.between.within in omega (arith, taken, limit, within)
@@ -66,23 +66,23 @@ module _ {I A R : Type 0} (j : Judging) (g : Items A RecordCause) (held_of : A �
           length-append was.behind.front records.pieces.unread,
         )
 
-    pub small_count : j.input ≤ 2 ^ 62 → given start < 2 ^ 62
-        → given reader + (records.pieces.limit - records.pieces.taken) < 2 ^ 63
+    pub small_count : j.input ≤ 2 ^ 62 → source.given start < 2 ^ 62
+        → source.given reader + (records.pieces.limit - records.pieces.taken) < 2 ^ 63
     small_count most small =
         let came = was.came.counted in
         let taken = was.behind.taken in
         let limit = was.behind.limit_is in
         omega (arith, small, most, came, taken, limit, taken_within)
 
-    pub few_failures : failures start < 2 ^ 62 → failures reader < 2 ^ 63
+    pub few_failures : source.failures start < 2 ^ 62 → source.failures reader < 2 ^ 63
     few_failures small = let same = was.came.paused in omega (arith, small, same)
 
     module _ (new : Records I) (after : R) where
       abbrev pub Reads : Result (Option A) Refused → Type 0
-      Reads answer = ReadsNext g stands left given failures records new reader after answer
+      Reads answer = ReadsNext g stands source records new reader after answer
 
       abbrev Refuses : Refused → Type 0
-      Refuses because = RefusesOne j left given failures start after new because
+      Refuses because = RefusesOne j source start after new because
 
       refuses : (answer : Result (Option A) Refused) (read : Reads answer) (because : Refused)
           → Says j (was.bytes ++ read.more) read.stop records.number because
@@ -90,9 +90,9 @@ module _ {I A R : Type 0} (j : Judging) (g : Items A RecordCause) (held_of : A �
       refuses answer read because told = record {
         bytes = was.bytes ++ read.more;
         stop = read.stop;
-        came = came_on left given failures start reader after was.bytes read.more read.stop was.came
+        came = came_on source start reader after was.bytes read.more read.stop was.came
             read.came;
-        within = steps.within j g held_of facts stands left given failures was.bytes records values
+        within = steps.within j g held_of facts stands source was.bytes records values
             was.behind new reader after answer read;
         over = read.over;
         taken = λ same.
@@ -109,21 +109,21 @@ module _ {I A R : Type 0} (j : Judging) (g : Items A RecordCause) (held_of : A �
       pub refuses_read : (because : Refused) → Reads (Err because) → Refuses because
       refuses_read because read =
           refuses (Err because) read because
-          (steps.refused_read j g held_of facts stands left given failures was.bytes records values
+          (steps.refused_read j g held_of facts stands source was.bytes records values
           was.behind new reader after because read)
 
-      pub accepts_all : Reads (Ok None) → AcceptsAll j left given failures start after values
+      pub accepts_all : Reads (Ok None) → AcceptsAll j source start after values
       accepts_all read =
-          let end = steps.none_left j g held_of facts stands left given failures was.bytes records
+          let end = steps.none_left j g held_of facts stands source was.bytes records
           values was.behind new reader after read in
           record {
             whole = was.bytes ++ read.more;
-            came = subst (HasComeSoFar left given failures start after (was.bytes ++ read.more))
+            came = subst (HasComeSoFar source start after (was.bytes ++ read.more))
                 end.0
-                (came_on left given failures start reader after was.bytes read.more read.stop
+                (came_on source start reader after was.bytes read.more read.stop
                 was.came read.came);
             within = subst (IsWithin (length (was.bytes ++ read.more)) j.input) end.0
-                (steps.within j g held_of facts stands left given failures was.bytes records values
+                (steps.within j g held_of facts stands source was.bytes records values
                 was.behind new reader after (Ok None) read);
             accepted = end.1;
           }
@@ -134,19 +134,19 @@ module _ {I A R : Type 0} (j : Judging) (g : Items A RecordCause) (held_of : A �
           → Refuses because
       refuses_held whole read because h =
           refuses (Ok (Some whole)) read because
-          (steps.refused_held j g held_of facts stands left given failures was.bytes records values
+          (steps.refused_held j g held_of facts stands source was.bytes records values
           was.behind new reader after whole read because h)
 
       pub on : (whole : A) → Reads (Ok (Some whole)) → (value : j.Value)
           → j.IsNext values (held_of whole) value
-          → Going j stands left given failures start after new (values ++ value ∷ [])
+          → Going j stands source start after new (values ++ value ∷ [])
       on whole read value is_next = record {
         bytes = was.bytes ++ read.more;
-        came = subst (HasComeSoFar left given failures start after (was.bytes ++ read.more))
+        came = subst (HasComeSoFar source start after (was.bytes ++ read.more))
             read.finds.0
-            (came_on left given failures start reader after was.bytes read.more read.stop was.came
+            (came_on source start reader after was.bytes read.more read.stop was.came
             read.came);
-        behind = steps.gone_on j g held_of facts stands left given failures was.bytes records values
+        behind = steps.gone_on j g held_of facts stands source was.bytes records values
             was.behind new reader after whole read value is_next;
       }
 
@@ -154,24 +154,23 @@ module _ {I A R : Type 0} (j : Judging) (g : Items A RecordCause) (held_of : A �
           → (new.pieces.limit - new.pieces.taken) + length new.pieces.unread
           < (records.pieces.limit - records.pieces.taken) + length records.pieces.unread
       fewer_left whole read =
-          steps.shorter j g held_of facts stands left given failures was.bytes records values
+          steps.shorter j g held_of facts stands source was.bytes records values
           was.behind new reader after whole read
 
 -- ---- what the engine answers
 
 -- The source has stopped, and what it gave is refused.
-pub record RefusesRead {R : Type 0} (j : Judging) (left : R → Option (List ℕ))
-    (given failures : R → ℕ) (old new : R) (because : Refused) : Type 0 where
+pub record RefusesRead {R : Type 0} (j : Judging) (source : Source R) (old new : R) (because : Refused) : Type 0 where
   pub bytes : List ℕ
   pub stop : Stop
-  pub came : HasComeSoFar left given failures old new bytes (Some stop)
+  pub came : HasComeSoFar source old new bytes (Some stop)
   pub within : IsWithin (length bytes) j.input (Some stop)
   pub number : ℕ
   pub says : Says j bytes (Some stop) number because
   pub cut : (n : ℕ) → because ≡ Record n Cut → stop ≡ End
 
 module _ {A R : Type 0} (j : Judging) (g : Items A RecordCause) (held_of : A → j.Held)
-    (facts : ReadsAs j g held_of) (left : R → Option (List ℕ)) (given failures : R → ℕ) where
+    (facts : ReadsAs j g held_of) (source : Source R) where
   -- What is refused of a front stays refused when the rest is read.
   stays_said : (bytes more : List ℕ) (stop : Stop) (number : ℕ) (because : Refused)
       → ((n : ℕ) → because ≡ Record n Cut → None ≡ Some End) → Says j bytes None number because
@@ -182,20 +181,20 @@ module _ {A R : Type 0} (j : Judging) (g : Items A RecordCause) (held_of : A →
       (so_far (bytes ++ more) (Some stop)) None (more, refl) said ended
 
   module _ {I : Type 0} (old mid new : R) (records : Records I) (because : Refused)
-      (one : RefusesOne j left given failures old mid records because)
+      (one : RefusesOne j source old mid records because)
       (over : records.is_over ≡ true → new ≡ mid)
       (rest : records.is_over ≡ false → records.pieces.taken ≤ records.pieces.limit
-      → ReadsRest left given failures records mid new) where
+      → ReadsRest source records mid new) where
     -- Where the source has stopped, no more is read.
     at_stop : (stop : Stop) → one.stop ≡ Some stop
-        → RefusesRead j left given failures old new because
+        → RefusesRead j source old new because
     at_stop stop is =
         let same : new ≡ mid = over (one.over ∙ ap is_some is) in
         record {
           bytes = one.bytes;
           stop = stop;
-          came = subst (λ r. HasComeSoFar left given failures old r one.bytes (Some stop))
-              (sym same) (subst (HasComeSoFar left given failures old mid one.bytes) is one.came);
+          came = subst (λ r. HasComeSoFar source old r one.bytes (Some stop))
+              (sym same) (subst (HasComeSoFar source old mid one.bytes) is one.came);
           within = subst (IsWithin (length one.bytes) j.input) is one.within;
           number = one.number;
           says = subst (λ s. Says j one.bytes s one.number because) is one.says;
@@ -203,7 +202,7 @@ module _ {A R : Type 0} (j : Judging) (g : Items A RecordCause) (held_of : A →
         }
 
     -- Else all that is left of the input is.
-    read_on : one.stop ≡ None → RefusesRead j left given failures old new because
+    read_on : one.stop ≡ None → RefusesRead j source old new because
     read_on is =
         let taken = one.taken is in
         let limit = one.limit_is in
@@ -214,8 +213,8 @@ module _ {A R : Type 0} (j : Judging) (g : Items A RecordCause) (held_of : A →
         record {
           bytes = one.bytes ++ more.more;
           stop = more.stop;
-          came = came_on left given failures old mid new one.bytes more.more (Some more.stop)
-              (subst (HasComeSoFar left given failures old mid one.bytes) is one.came) more.came;
+          came = came_on source old mid new one.bytes more.more (Some more.stop)
+              (subst (HasComeSoFar source old mid one.bytes) is one.came) more.came;
           within = subst (λ n. IsWithin n j.input (Some more.stop)) all_taken
               (subst (λ n. IsWithin (records.pieces.taken + length more.more) n (Some more.stop))
               limit more.within);
@@ -226,11 +225,11 @@ module _ {A R : Type 0} (j : Judging) (g : Items A RecordCause) (held_of : A →
           cut = λ n told. absurd (let e : None ≡ Some End = sym is ∙ one.cut n told in cc);
         }
 
-    pub drained : RefusesRead j left given failures old new because
+    pub drained : RefusesRead j source old new because
     drained = by_stop one.stop refl
       where
         by_stop : (stop : Option Stop) → one.stop ≡ stop
-            → RefusesRead j left given failures old new because
+            → RefusesRead j source old new because
         by_stop None is = read_on is
         by_stop (Some stop) is = at_stop stop is
 
@@ -239,7 +238,7 @@ abbrev pub Gives : (j : Judging) → (List j.Value → List ℕ) → List ℕ �
 Gives j text bytes written = (values : List j.Value) × j.IsAccepted bytes values
     × (written ≡ text values)
 
-module _ {R : Type 0} (j : Judging) (left : R → Option (List ℕ)) (given failures : R → ℕ)
+module _ {R : Type 0} (j : Judging) (source : Source R)
     (text : List j.Value → List ℕ) (old new : R) where
   module _ (bytes : List ℕ) where
     has_length : (stop : Stop) → IsWithin (length bytes) j.input (Some stop)
@@ -248,14 +247,19 @@ module _ {R : Type 0} (j : Judging) (left : R → Option (List ℕ)) (given fail
     has_length Full within = within
     has_length Failed within = within
 
-    has_come : (stop : Stop) → HasComeSoFar left given failures old new bytes (Some stop)
+    has_come : (stop : Stop) → HasComeSoFar source old new bytes (Some stop)
         → IsWithin (length bytes) j.input (Some stop)
-        → HasCome left failures old new j.input bytes stop
+        → HasCome source old new j.input bytes stop
     has_come stop came within =
-        record { came = came.came; has_length = has_length stop within; stopped = came.paused }
+        record {
+          came = came.came;
+          counted = came.counted;
+          has_length = has_length stop within;
+          stopped = came.paused;
+        }
 
   module _ (bytes : List ℕ) (stop : Stop)
-      (came : HasComeSoFar left given failures old new bytes (Some stop))
+      (came : HasComeSoFar source old new bytes (Some stop))
       (within : IsWithin (length bytes) j.input (Some stop)) (number : ℕ) where
     abbrev There : Input
     There = so_far bytes (Some stop)
@@ -273,13 +277,13 @@ module _ {R : Type 0} (j : Judging) (left : R → Option (List ℕ)) (given fail
     failed_stop Failed is = refl
 
     fails : (fault : Fault) → Tells ReadFault number fault → IsRefusedAt j There number fault
-        → FailsToRead left failures j.input (Gives j text) (IsRefused j) old new
+        → FailsToRead source j.input (Gives j text) (IsRefused j) old new
     fails (refused why) tells is = absurd (let e = tells in cc)
     fails read_fault tells is =
         let failed = failed_stop stop is.0 in
         record {
           bytes = bytes;
-          came = subst (HasCome left failures old new j.input bytes) failed
+          came = subst (HasCome source old new j.input bytes) failed
               (has_come bytes stop came within);
           not_refused = ends_there is.1;
         }
@@ -293,7 +297,7 @@ module _ {R : Type 0} (j : Judging) (left : R → Option (List ℕ)) (given fail
     refuses_input : (because : Refused) → because ≢ ReadFault → (fault : Fault)
         → Tells because number fault → IsRefusedAt j There number fault
         → ((n : ℕ) → because ≡ Record n Cut → stop ≡ End)
-        → RefusesInput left failures j.input (IsRefused j) old new because
+        → RefusesInput source j.input (IsRefused j) old new because
     refuses_input because other fault tells is cut = record {
       bytes = bytes;
       stop = stop;
@@ -302,20 +306,20 @@ module _ {R : Type 0} (j : Judging) (left : R → Option (List ℕ)) (given fail
       cut = cut;
     }
 
-  pub refused_answer : {W : Type 0} (out : W → Option (List ℕ)) (write_failures : W → ℕ)
-      (writer : W) (because : Refused) → RefusesRead j left given failures old new because
-      → Answers left failures out write_failures j.input (Gives j text) (IsRefused j)
+  pub refused_answer : {W : Type 0} (sink : Sink W)
+      (writer : W) (because : Refused) → RefusesRead j source old new because
+      → Answers source sink j.input (Gives j text) (IsRefused j)
       {U = Unit {0}} old new writer writer (Err because)
-  refused_answer out write_failures writer Memory read = refl
-  refused_answer out write_failures writer ReadFault read = (
+  refused_answer sink writer Memory read = refl
+  refused_answer sink writer ReadFault read = (
     fails read.bytes read.stop read.came read.within read.number read.says.fault read.says.tells
         read.says.is_refused,
     refl,
   )
-  refused_answer out write_failures writer WriteFault read =
+  refused_answer sink writer WriteFault read =
       absurd (untold WriteFault read.number read.says.fault refl
       (λ same. absurd (let e = same in cc)) read.says.tells)
-  refused_answer out write_failures writer because read = (
+  refused_answer sink writer because read = (
     refuses_input read.bytes read.stop read.came read.within read.number because
         (λ same. absurd (let e = same in cc)) read.says.fault read.says.tells read.says.is_refused
         read.cut,

@@ -1,8 +1,9 @@
 -- What an engine that reads its whole input before it writes answers, and what its devices then
 -- hold. Source: own. `Gives` says what an input gives, and `IsRefused` what an input is refused
 -- for; one of the two alone can hold.
-use Rattle.std.specs.Prelude.{◌≡◌, ◌⊎◌, ℕ, ◌+◌, ◌≤◌, List, length, take, Option, Result, Ok, Err}
-use Rattle.std.specs.Io.KnownBytes.{Appends}
+use Rattle.std.specs.Prelude.{◌≡◌, ◌⊎◌, ℕ, List, Result, Ok, Err}
+use Rattle.dap_device.specs.declared.device.Source.{Ghosts as Source}
+use Rattle.dap_device.specs.declared.device.Sink.{Ghosts as Sink}
 use Rattle.dap_recording.specs.declared.record_fault.RecordCause.TheVariants.{Cut}
 use Rattle.dap_device.specs.declared.reading.Stop.{Stop}
 use Rattle.dap_device.specs.declared.reading.Stop.TheVariants.{End, Failed}
@@ -10,12 +11,13 @@ use Rattle.dap_input.specs.declared.refused.Refused.{Refused}
 use Rattle.dap_input.specs.declared.refused.Refused.TheVariants.{Record, ReadFault, WriteFault}
 use Rattle.dap_input.specs.declared.refused.Refused.TheVariants.{Memory}
 use Rattle.dap_device.specs.Reading.{HasCome}
+use Rattle.dap_device.specs.Written.{AllSent, FrontWritten}
 
 -- An engine over a reader, by what this tells of its bytes and its failures.
-module _ {R : Type 0} (left : R → Option (List ℕ)) (failures : R → ℕ) (input : ℕ) where
+module _ {R : Type 0} (source : Source R) (input : ℕ) where
   -- These bytes came from the reader, and no more for this reason.
   abbrev pub Came : R → R → List ℕ → Stop → Type 0
-  Came old new bytes stop = HasCome left failures old new input bytes stop
+  Came old new bytes stop = HasCome source old new input bytes stop
 
   module _ {T : Type 0} (Gives : List ℕ → T → Type 0) where
     -- The reader came to its end, and what it gave gives this.
@@ -42,31 +44,26 @@ module _ {R : Type 0} (left : R → Option (List ℕ)) (failures : R → ℕ) (i
     pub cut : (n : ℕ) → refused ≡ Record n Cut → stop ≡ End
 
 -- An engine over a reader and a writer, which writes the text that its input gives.
-module _ {R W : Type 0} (left : R → Option (List ℕ)) (read_failures : R → ℕ) (out : W
-    → Option (List ℕ)) (write_failures : W → ℕ)
+module _ {R W : Type 0} (source : Source R) (sink : Sink W)
     (input : ℕ) (Gives : List ℕ → List ℕ → Type 0) (IsRefused : List ℕ → Refused → Type 0) where
-  -- All of the text went out, and neither device failed.
+  -- All of the text went out and was flushed, and neither device failed.
   pub record HasFinished (old new : R) (before after : W) : Type 0 where
     pub text : List ℕ
-    pub accepts : Accepts left read_failures input Gives old new text
-    pub written : Appends (out before) (out after) text
-    pub no_failure : write_failures after ≡ write_failures before
+    pub accepts : Accepts source input Gives old new text
+    pub written : AllSent sink before after text
 
   -- The writer failed, and a front of the text, perhaps all of it, went out.
   pub record HasNotWritten (old new : R) (before after : W) : Type 0 where
     pub text : List ℕ
-    pub accepts : Accepts left read_failures input Gives old new text
-    pub count : ℕ
-    pub within : count ≤ length text
-    pub written : Appends (out before) (out after) (take count text)
-    pub failure : write_failures after ≡ write_failures before + 1
+    pub accepts : Accepts source input Gives old new text
+    pub written : FrontWritten sink before after text
 
   -- On every other answer nothing was written.
   abbrev pub Answers : {U : Type 0} → R → R → W → W → Result U Refused → Type 0
   Answers old new before after (Ok done) = HasFinished old new before after
   Answers old new before after (Err ReadFault) =
-      FailsToRead left read_failures input Gives IsRefused old new × (after ≡ before)
+      FailsToRead source input Gives IsRefused old new × (after ≡ before)
   Answers old new before after (Err WriteFault) = HasNotWritten old new before after
   Answers old new before after (Err Memory) = after ≡ before
   Answers old new before after (Err refused) =
-      RefusesInput left read_failures input IsRefused old new refused × (after ≡ before)
+      RefusesInput source input IsRefused old new refused × (after ≡ before)

@@ -1,5 +1,6 @@
 -- What an engine has read and found that judges an input record by record. Source: own.
 use Rattle.std.specs.Prelude.{◌≡◌, ℕ, List, length, Option, Some, None, is_some, Result, Ok, Err}
+use Rattle.dap_device.specs.declared.device.Source.{Ghosts as Source}
 use Rattle.dap_device.specs.Pieces.{HasComeSoFar}
 use Rattle.dap_device.specs.declared.reading.Stop.{Stop}
 use Rattle.dap_device.specs.declared.reading.Stop.TheVariants.{End}
@@ -18,11 +19,11 @@ abbrev pub Says : Judging → List ℕ → Option Stop → ℕ → Refused → T
 Says j bytes stop number Memory = Unit {0}
 Says j bytes stop number refused = RefusesAt j (so_far bytes stop) number refused
 
-module _ {R : Type 0} (j : Judging) (left : R → Option (List ℕ)) (given failures : R → ℕ) where
+module _ {R : Type 0} (j : Judging) (source : Source R) where
   -- The source came to its end, and what it gave is accepted as these values.
   pub record AcceptsAll (old new : R) (values : List j.Value) : Type 0 where
     pub whole : List ℕ
-    pub came : HasComeSoFar left given failures old new whole (Some End)
+    pub came : HasComeSoFar source old new whole (Some End)
     pub within : IsWithin (length whole) j.input (Some End)
     pub accepted : j.IsAccepted whole values
 
@@ -32,7 +33,7 @@ module _ {R : Type 0} (j : Judging) (left : R → Option (List ℕ)) (given fail
       (refused : Refused) : Type 0 where
     pub bytes : List ℕ
     pub stop : Option Stop
-    pub came : HasComeSoFar left given failures old new bytes stop
+    pub came : HasComeSoFar source old new bytes stop
     pub within : IsWithin (length bytes) j.input stop
     pub over : records.is_over ≡ is_some stop
     pub taken : stop ≡ None → records.pieces.taken ≡ length bytes

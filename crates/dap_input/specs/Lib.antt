@@ -7,3 +7,4 @@ pub mod Limits
 pub mod ReadTo
 pub mod RecordSteps
 pub mod Refusals
+pub mod Streaming

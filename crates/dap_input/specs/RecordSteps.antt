@@ -1,6 +1,7 @@
 -- What reading the next record of an input gives, whatever a record is.
 use Rattle.std.specs.Prelude.{◌≡◌, ◌≢◌, ◌⊎◌, ℕ, ◌+◌, ◌<◌, ◌≤◌, false, List, [], ◌∷◌, ◌++◌, length}
 use Rattle.std.specs.Prelude.{Option, Some, None, is_some, Result, Ok, Err}
+use Rattle.dap_device.specs.declared.device.Source.{Ghosts as Source}
 use Rattle.dap_device.specs.Pieces.{HasComeSoFar}
 use Rattle.dap_device.specs.declared.reading.Stop.{Stop}
 use Rattle.dap_device.specs.declared.reading.Stop.TheVariants.{End, Full, Failed}
@@ -75,14 +76,14 @@ module _ {I A : Type 0} (g : Items A RecordCause) (stands : I → List ℕ → T
   Finds old new bytes more stop (Err Memory) = stop ≡ None
   Finds old new bytes more stop (Err refused) = ⊥
 
-  module _ {R : Type 0} (left : R → Option (List ℕ)) (given failures : R → ℕ) where
+  module _ {R : Type 0} (source : Source R) where
     -- The next record was looked for behind those before: so much has come, no more than was
     -- needed, and this is found.
     pub record ReadsNext (old new : Records I) (before after : R)
         (answer : Result (Option A) Refused) : Type 0 where
       pub more : List ℕ
       pub stop : Option Stop
-      pub came : HasComeSoFar left given failures before after more stop
+      pub came : HasComeSoFar source before after more stop
       pub needed : IsNeeded g old.pieces.unread more
       pub within : IsWithin (old.pieces.taken + length more) old.pieces.limit stop
       pub taken : stop ≡ None → new.pieces.taken ≡ old.pieces.taken + length more
@@ -101,9 +102,9 @@ Stops stands records End answer =
     ⊎ ((held ≢ []) × (answer ≡ Err (Record records.number Cut)))
 
 -- All that is left of the input has come, up to a byte past the limit.
-pub record ReadsRest {I R : Type 0} (left : R → Option (List ℕ)) (given failures : R
-    → ℕ) (old : Records I) (before after : R) : Type 0 where
+pub record ReadsRest {I R : Type 0} (source : Source R) (old : Records I)
+    (before after : R) : Type 0 where
   pub more : List ℕ
   pub stop : Stop
-  pub came : HasComeSoFar left given failures before after more (Some stop)
+  pub came : HasComeSoFar source before after more (Some stop)
   pub within : IsWithin (old.pieces.taken + length more) old.pieces.limit (Some stop)

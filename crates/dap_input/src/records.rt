@@ -53,7 +53,7 @@ impl<I: ItemReader> Records<I> {
             < 2 ^ 63 }
         requires failures { R.failures reader.old < 2 ^ 63 }
         ensures { (limits : FrameLimits) → StandsBetween (I.stands limits) self.old
-            → ReadsNext (I.items limits) (I.stands limits) R.left R.given R.failures self.old
+            → ReadsNext (I.items limits) (I.stands limits) R.Source self.old
             self.new reader.old reader.new result }
     {
         loop {
@@ -98,7 +98,7 @@ impl<I: ItemReader> Records<I> {
         requires failures { self.old.is_over ≡ false → R.failures reader.old < 2 ^ 63 }
         ensures over { self.old.is_over ≡ true → reader.new ≡ reader.old }
         ensures rest { self.old.is_over ≡ false → self.old.pieces.taken ≤ self.old.pieces.limit
-            → ReadsRest R.left R.given R.failures self.old reader.old reader.new }
+            → ReadsRest R.Source self.old reader.old reader.new }
     {
         if self.is_over {
             return;

@@ -51,7 +51,7 @@ some_top : (d e : Doc) → Some (top d) ≡ Some (top e) → top d ≡ top e
 some_top d e h = cc
 
 mutual
-  told : (d e : Doc) → is_ordered d ≡ true → ((p : List Step) → Alike (at p e) (at p d))
+  pub told : (d e : Doc) → is_ordered d ≡ true → ((p : List Step) → Alike (at p e) (at p d))
       → top e ≡ top d → e ≡ d
   told null null o h t = refl
   told (boolean b) (boolean c) o h t = t

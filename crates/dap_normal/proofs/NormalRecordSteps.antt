@@ -1,6 +1,7 @@
 -- What the next record of an input may answer.
-use Rattle.std.proofs.Common.{◌≡◌, ℕ, ℤ, List, [], ◌∷◌, ◌++◌, length, Option, Some, None, Result}
+use Rattle.std.proofs.Common.{◌≡◌, ℕ, ℤ, List, [], ◌∷◌, ◌++◌, Option, Some, None, Result}
 use Rattle.std.proofs.Common.{Ok, Err, refl, ◌∙◌, subst}
+use Rattle.dap_device.specs.declared.device.Source.{Ghosts as Source}
 use Rattle.dap_device.specs.Pieces.{HasComeSoFar}
 use Rattle.dap_device.specs.declared.reading.Stop.TheVariants.{End}
 use Rattle.dap_message.specs.Message.{Sent}
@@ -71,9 +72,7 @@ none_read limits new start stands judge_limits_are =
     (accepted_facts limits) start)
     stands judge_limits_are
 
-module _ {T R : Type 0} {numbers : T → List ℤ} {table_limit : T → ℕ} (left : R
-    → Option (List ℕ)) (given failures : R
-    → ℕ) (limits : Limits) (bytes : List ℕ) (old : NormalRecords T) (messages normal : List Sent)
+module _ {T R : Type 0} {numbers : T → List ℤ} {table_limit : T → ℕ} (source : Source R) (limits : Limits) (bytes : List ℕ) (old : NormalRecords T) (messages normal : List Sent)
     (was : StandsBefore numbers table_limit limits bytes old messages normal)
     (new : Records RecordReading) (before after : R) where
   behind : StandsBehind (accepting limits) (StandsForRecord limits.frame) bytes old.records messages
@@ -90,24 +89,23 @@ module _ {T R : Type 0} {numbers : T → List ℤ} {table_limit : T → ℕ} (le
   }
 
   abbrev Reads : Result (Option WholeRecord) Refused → Type 0
-  Reads answer = ReadsNext (record_items limits.frame) (StandsForRecord limits.frame) left given
-      failures old.records new before after answer
+  Reads answer = ReadsNext (record_items limits.frame) (StandsForRecord limits.frame) source old.records new before after answer
 
   stopped_for : (judge : Judge T) (answer : Result (Option WholeRecord) Refused)
       (read : Reads answer) (because : Refused)
       → Says (accepting limits) (bytes ++ read.more) read.stop old.records.number because
       × ((n : ℕ) → because ≡ Record n Cut → read.stop ≡ Some End)
-      → HasStoppedAt numbers table_limit left given failures limits bytes messages normal old record
+      → HasStoppedAt numbers table_limit source limits bytes messages normal old record
       { records = new; judge = judge } before after because
   stopped_for judge answer read because told = record {
     more = read.more;
     stop = read.stop;
     came = read.came;
     within = steps.at_most (accepting limits) (record_items limits.frame) held_of
-        (reads_records limits) (StandsForRecord limits.frame) left given failures bytes old.records
+        (reads_records limits) (StandsForRecord limits.frame) source bytes old.records
         messages behind new before after answer read;
     read_to = steps.read_to (accepting limits) (record_items limits.frame) held_of
-        (reads_records limits) (StandsForRecord limits.frame) left given failures bytes old.records
+        (reads_records limits) (StandsForRecord limits.frame) source bytes old.records
         messages behind new before after answer read;
     says = told.0;
     cut = told.1;
@@ -116,27 +114,27 @@ module _ {T R : Type 0} {numbers : T → List ℤ} {table_limit : T → ℕ} (le
   -- ---- no record has come
 
   pub refused_read : (because : Refused) → Reads (Err because)
-      → HasStoppedAt numbers table_limit left given failures limits bytes messages normal old record
+      → HasStoppedAt numbers table_limit source limits bytes messages normal old record
       { records = new; judge = old.judge } before after because
   refused_read because read =
       stopped_for old.judge (Err because) read because
       (steps.refused_read (accepting limits) (record_items limits.frame) held_of
-      (reads_records limits) (StandsForRecord limits.frame) left given failures bytes old.records
+      (reads_records limits) (StandsForRecord limits.frame) source bytes old.records
       messages behind new before after because read)
 
   pub none_left : (text : List ℕ) → Reads (Ok None)
-      → HasEnded numbers table_limit left given failures limits bytes messages normal old record
+      → HasEnded numbers table_limit source limits bytes messages normal old record
       { records = new; judge = old.judge } before after text text
   none_left text read =
       let end = steps.none_left (accepting limits) (record_items limits.frame) held_of
-      (reads_records limits) (StandsForRecord limits.frame) left given failures bytes old.records
+      (reads_records limits) (StandsForRecord limits.frame) source bytes old.records
       messages behind new before after read in
       record {
         more = read.more;
-        came = subst (HasComeSoFar left given failures before after read.more) end.0 read.came;
+        came = subst (HasComeSoFar source before after read.more) end.0 read.came;
         accepted = end.1;
         read_to = steps.read_to (accepting limits) (record_items limits.frame) held_of
-            (reads_records limits) (StandsForRecord limits.frame) left given failures bytes
+            (reads_records limits) (StandsForRecord limits.frame) source bytes
             old.records messages behind new before after (Ok None) read;
         judge_is = refl;
         number_is = end.2;
@@ -153,19 +151,19 @@ module _ {T R : Type 0} {numbers : T → List ℤ} {table_limit : T → ℕ} (le
         text longer answer
 
     pub refused_judge : (because : Refused) → Judged (Err because)
-        → HasStoppedAt numbers table_limit left given failures limits bytes messages normal old
+        → HasStoppedAt numbers table_limit source limits bytes messages normal old
         record { records = new; judge = judge } before after because
     refused_judge because judged =
         stopped_for judge (Ok (Some whole)) read because
         (steps.refused_held (accepting limits) (record_items limits.frame) held_of
-        (reads_records limits) (StandsForRecord limits.frame) left given failures bytes old.records
+        (reads_records limits) (StandsForRecord limits.frame) source bytes old.records
         messages behind new before after whole read because
         (subst (λ l. RefusesHeld (Objects l messages (held_of whole)) old.records.number because)
         was.judge_limits_are (judged messages normal was.stands)))
 
     -- the record is accepted
     pub gone_on : judge_limits judge ≡ judge_limits old.judge → Judged (Ok tt)
-        → HasGone numbers table_limit left given failures limits bytes messages normal old record
+        → HasGone numbers table_limit source limits bytes messages normal old record
         { records = new; judge = judge } before after text longer
     gone_on same_judge judged =
         let added = judged messages normal was.stands in
@@ -173,11 +171,11 @@ module _ {T R : Type 0} {numbers : T → List ℤ} {table_limit : T → ℕ} (le
         let is_next =
         subst (λ l. IsNext l messages (held_of whole) added.message) limits_are added.is_next in
         let next = steps.gone_on (accepting limits) (record_items limits.frame) held_of
-        (reads_records limits) (StandsForRecord limits.frame) left given failures bytes old.records
+        (reads_records limits) (StandsForRecord limits.frame) source bytes old.records
         messages behind new before after whole read added.message is_next in
         record {
           more = read.more;
-          came = subst (HasComeSoFar left given failures before after read.more) read.finds.0
+          came = subst (HasComeSoFar source before after read.more) read.finds.0
               read.came;
           message = added.message;
           named = added.named;
@@ -185,10 +183,10 @@ module _ {T R : Type 0} {numbers : T → List ℤ} {table_limit : T → ℕ} (le
               (messages ++ added.message ∷ []) (normal ++ added.named ∷ []) next added.stands
               limits_are;
           read_to = steps.read_to (accepting limits) (record_items limits.frame) held_of
-              (reads_records limits) (StandsForRecord limits.frame) left given failures bytes
+              (reads_records limits) (StandsForRecord limits.frame) source bytes
               old.records messages behind new before after (Ok (Some whole)) read;
           shorter = steps.shorter (accepting limits) (record_items limits.frame) held_of
-              (reads_records limits) (StandsForRecord limits.frame) left given failures bytes
+              (reads_records limits) (StandsForRecord limits.frame) source bytes
               old.records messages behind new before after whole read;
           appended = added.appended;
         }

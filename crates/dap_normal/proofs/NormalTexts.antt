@@ -120,7 +120,7 @@ module _ (limits : Limits) where
       both (inr short) (inl rest) = inl (short, rest)
       both (inr short) (inr rest) = inr (λ all. rest all.1)
 
-  fits_or_not : (messages : List Sent) → Fits limits messages ⊎ (Fits limits messages → ⊥)
+  pub fits_or_not : (messages : List Sent) → Fits limits messages ⊎ (Fits limits messages → ⊥)
   fits_or_not messages =
       both (each_or_not messages) (cases_lt limits.input (length (text messages)))
     where

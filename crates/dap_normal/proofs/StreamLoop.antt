@@ -3,6 +3,7 @@ use Rattle.std.proofs.Common.{◌≡◌, ℕ, ℤ, ◌+◌, ◌-◌, ◌<◌, �
 use Rattle.std.proofs.Common.{◌∷◌, ◌++◌, length, Option, Some, None, refl, ◌∙◌, ap, arith}
 use Rattle.std.proofs.Common.{append_assoc, length-append}
 use Rattle.std.proofs.lemmas.List.{length_push}
+use Rattle.dap_device.specs.declared.device.Source.{Ghosts as Source}
 use Rattle.dap_device.specs.Pieces.{HasComeSoFar}
 use Rattle.dap_device.specs.Reading.{HasCome}
 use Rattle.dap_device.specs.declared.reading.Stop.{Stop}
@@ -20,40 +21,43 @@ use Rattle.dap_normal.specs.Streaming.{HasComeTo, RefusesNext}
 use Rattle.dap_input.specs.Refusals.{RefusesAt}
 use Rattle.dap_input.proofs.Coming.{came_on, nothing_came}
 
-module _ {R : Type 0} (left : R → Option (List ℕ)) (given failures : R → ℕ) where
+module _ {R : Type 0} (source : Source R) where
   -- A reader that came to its end gave a whole input.
   pub whole_came : (start end : R) (limit : ℕ) (bytes : List ℕ)
-      → HasComeSoFar left given failures start end bytes (Some End) → length bytes ≤ limit
-      → HasCome left failures start end limit bytes End
+      → HasComeSoFar source start end bytes (Some End) → length bytes ≤ limit
+      → HasCome source start end limit bytes End
   whole_came start end limit bytes came short =
-      record { came = came.came; has_length = short; stopped = came.paused }
+      record {
+        came = came.came;
+        counted = came.counted;
+        has_length = short;
+        stopped = came.paused;
+      }
 
-module _ {T R : Type 0} (numbers : T → List ℤ) (table_limit : T → ℕ) (left : R
-    → Option (List ℕ)) (given failures : R → ℕ) (limits : Limits) where
+module _ {T R : Type 0} (numbers : T → List ℤ) (table_limit : T → ℕ) (source : Source R) (limits : Limits) where
   -- So much has come, and the records before the next one are accepted.
   pub record Going (start reader : R) (records : NormalRecords T) : Type 0 where
     pub bytes : List ℕ
-    pub came : HasComeSoFar left given failures start reader bytes None
+    pub came : HasComeSoFar source start reader bytes None
     pub messages : List Sent
     pub normal : List Sent
     pub stands : StandsBefore numbers table_limit limits bytes records messages normal
 
-module _ {T R : Type 0} {numbers : T → List ℤ} {table_limit : T → ℕ} (left : R
-    → Option (List ℕ)) (given failures : R → ℕ) (limits : Limits) where
+module _ {T R : Type 0} {numbers : T → List ℤ} {table_limit : T → ℕ} (source : Source R) (limits : Limits) where
   abbrev pub at_start : (reader : R) (records : NormalRecords T)
       → StandsBefore numbers table_limit limits [] records [] []
-      → Going numbers table_limit left given failures limits reader reader records
+      → Going numbers table_limit source limits reader reader records
   at_start reader records stands =
       record {
         bytes = [];
-        came = nothing_came left given failures reader;
+        came = nothing_came source reader;
         messages = [];
         normal = [];
         stands = stands;
       }
 
   module _ (start reader : R) (records : NormalRecords T)
-      (was : Going numbers table_limit left given failures limits start reader records) where
+      (was : Going numbers table_limit source limits start reader records) where
     taken_within : length was.bytes ≤ limits.input
     taken_within = let taken = was.stands.taken in let limit = was.stands.limit_is in let within =
         was.stands.between.within in omega (arith, taken, limit, within)
@@ -68,8 +72,8 @@ module _ {T R : Type 0} {numbers : T → List ℤ} {table_limit : T → ℕ} (le
     small_number sound = let few = was.stands.few in let most =
         sound.input in omega (arith, few, most, taken_within, front_within)
 
-    pub small_count : AreSound limits → given start < 2 ^ 62
-        → given reader + (records.records.pieces.limit - records.records.pieces.taken) < 2 ^ 63
+    pub small_count : AreSound limits → source.given start < 2 ^ 62
+        → source.given reader + (records.records.pieces.limit - records.records.pieces.taken) < 2 ^ 63
     small_count sound small =
         let most = sound.input in
         let came = was.came.counted in
@@ -77,18 +81,18 @@ module _ {T R : Type 0} {numbers : T → List ℤ} {table_limit : T → ℕ} (le
         let limit = was.stands.limit_is in
         omega (arith, small, most, came, taken, limit, taken_within)
 
-    pub few_failures : failures start < 2 ^ 62 → failures reader < 2 ^ 63
+    pub few_failures : source.failures start < 2 ^ 62 → source.failures reader < 2 ^ 63
     few_failures small = let same = was.came.paused in omega (arith, small, same)
 
     -- ---- one more record
 
     abbrev pub on : (new : NormalRecords T) (after : R) (before longer : List ℕ)
-        → HasGone numbers table_limit left given failures limits was.bytes was.messages was.normal
+        → HasGone numbers table_limit source limits was.bytes was.messages was.normal
         records new reader after before longer
-        → Going numbers table_limit left given failures limits start after new
+        → Going numbers table_limit source limits start after new
     on new after before longer gone = record {
       bytes = was.bytes ++ gone.more;
-      came = came_on left given failures start reader after was.bytes gone.more None was.came
+      came = came_on source start reader after was.bytes gone.more None was.came
           gone.came;
       messages = was.messages ++ gone.message ∷ [];
       normal = was.normal ++ gone.named ∷ [];
@@ -96,9 +100,9 @@ module _ {T R : Type 0} {numbers : T → List ℤ} {table_limit : T → ℕ} (le
     }
 
     pub gone_taken : (new : NormalRecords T) (after : R) (before longer : List ℕ)
-        → HasGone numbers table_limit left given failures limits was.bytes was.messages was.normal
+        → HasGone numbers table_limit source limits was.bytes was.messages was.normal
         records new reader after before longer
-        → given after ≤ given start + limits.input + 1
+        → source.given after ≤ source.given start + limits.input + 1
     gone_taken new after before longer gone =
         let so_many = was.came.counted in
         let behind = gone.came.counted in
@@ -122,7 +126,7 @@ module _ {T R : Type 0} {numbers : T → List ℤ} {table_limit : T → ℕ} (le
     }
 
     abbrev pub next_in : (new : NormalRecords T) (after : R) (before longer : List ℕ)
-        (gone : HasGone numbers table_limit left given failures limits was.bytes was.messages
+        (gone : HasGone numbers table_limit source limits was.bytes was.messages
         was.normal records new reader after before longer)
         → (input : Input) (tail : List ℕ) → input.bytes ≡ (was.bytes ++ gone.more) ++ tail
         → AcceptedBefore (accepting limits) input (records.records.number + 1)
@@ -141,7 +145,7 @@ module _ {T R : Type 0} {numbers : T → List ℤ} {table_limit : T → ℕ} (le
     -- ---- so far
 
     module _ (after : R) (more : List ℕ) (stop : Option Stop)
-        (came : HasComeSoFar left given failures reader after more stop) where
+        (came : HasComeSoFar source reader after more stop) where
       abbrev pub records_before : AcceptedBefore (accepting limits)
           (so_far (was.bytes ++ more) stop) records.records.number
       records_before = record {
@@ -155,14 +159,14 @@ module _ {T R : Type 0} {numbers : T → List ℤ} {table_limit : T → ℕ} (le
       }
 
       abbrev pub come_to : IsReadTo (accepting limits) (was.bytes ++ more) records.records.number
-          → HasComeTo left given failures limits start after stop records.records.number
+          → HasComeTo source limits start after stop records.records.number
           (text was.normal)
       come_to read_to = record {
         bytes = was.bytes ++ more;
-        came = came_on left given failures start reader after was.bytes more stop was.came came;
+        came = came_on source start reader after was.bytes more stop was.came came;
         read_to = read_to;
         before = records_before;
-        normalised =
+        gives =
             record {
               messages = was.messages;
               accepts = was.stands.accepted;
@@ -173,15 +177,15 @@ module _ {T R : Type 0} {numbers : T → List ℤ} {table_limit : T → ℕ} (le
       }
 
     module _ (after : R) (new : NormalRecords T) (because : Refused)
-        (stopped : HasStoppedAt numbers table_limit left given failures limits was.bytes
+        (stopped : HasStoppedAt numbers table_limit source limits was.bytes
         was.messages was.normal records new reader after because) where
-      abbrev pub refused_to : HasComeTo left given failures limits start after stopped.stop
+      abbrev pub refused_to : HasComeTo source limits start after stopped.stop
           records.records.number (text was.normal)
       refused_to = come_to after stopped.more stopped.stop stopped.came stopped.read_to
 
       pub refuses_next : RefusesAt (accepting limits)
           (so_far (was.bytes ++ stopped.more) stopped.stop) records.records.number because
-          → RefusesNext left given failures limits start after because (text was.normal)
+          → RefusesNext source limits start after because (text was.normal)
       refuses_next says =
           record {
             number = records.records.number;
@@ -191,7 +195,7 @@ module _ {T R : Type 0} {numbers : T → List ℤ} {table_limit : T → ℕ} (le
             cut = stopped.cut;
           }
 
-      pub few_taken : given after ≤ given start + limits.input + 1
+      pub few_taken : source.given after ≤ source.given start + limits.input + 1
       few_taken =
           let before = was.came.counted in
           let behind = stopped.came.counted in
@@ -201,14 +205,14 @@ module _ {T R : Type 0} {numbers : T → List ℤ} {table_limit : T → ℕ} (le
     -- ---- at the end
 
     module _ (after : R) (new : NormalRecords T) (before longer : List ℕ)
-        (ended : HasEnded numbers table_limit left given failures limits was.bytes was.messages
+        (ended : HasEnded numbers table_limit source limits was.bytes was.messages
         was.normal records new reader after before longer) where
-      pub all_came : HasCome left failures start after limits.input (was.bytes ++ ended.more) End
-      all_came = whole_came left given failures start after limits.input (was.bytes ++ ended.more)
-          (came_on left given failures start reader after was.bytes ended.more (Some End) was.came
+      pub all_came : HasCome source start after limits.input (was.bytes ++ ended.more) End
+      all_came = whole_came source start after limits.input (was.bytes ++ ended.more)
+          (came_on source start reader after was.bytes ended.more (Some End) was.came
           ended.came) ended.accepted.short
 
-      pub all_taken : given after ≤ given start + limits.input + 1
+      pub all_taken : source.given after ≤ source.given start + limits.input + 1
       all_taken =
           let so_many = was.came.counted in
           let behind = ended.came.counted in
@@ -216,8 +220,8 @@ module _ {T R : Type 0} {numbers : T → List ℤ} {table_limit : T → ℕ} (le
           omega (arith, so_many, behind, within, length-append was.bytes ended.more)
 
     pub passed_taken : (new : NormalRecords T) (after : R) (before longer : List ℕ) (some : Bool)
-        → HasNext numbers table_limit left given failures limits was.bytes was.messages was.normal
+        → HasNext numbers table_limit source limits was.bytes was.messages was.normal
         records new reader after before longer (Ok some)
-        → given after ≤ given start + limits.input + 1
+        → source.given after ≤ source.given start + limits.input + 1
     passed_taken new after before longer true gone = gone_taken new after before longer gone
     passed_taken new after before longer false ended = all_taken after new before longer ended

@@ -1,16 +1,19 @@
 -- What `normalise` answers, and what it has then written.
-use Rattle.std.proofs.Common.{◌≡◌, inl, inr, ℕ, ℤ, ◌+◌, List, [], ◌∷◌, ◌++◌, Option, Some, None}
+use Rattle.std.proofs.Common.{◌≡◌, ◌≢◌, inl, inr, ℕ, ℤ, ◌+◌, List, [], ◌∷◌, ◌++◌, length, Option, Some, None}
 use Rattle.std.proofs.Common.{Result, Ok, Err, refl, sym, ◌∙◌, ap, subst, arith, append-nil}
 use Rattle.std.proofs.lemmas.Bool.{true≢false}
 use Rattle.std.proofs.lemmas.List.{length_push}
 use Rattle.std.specs.Prelude.{is_err, true, false}
-use Rattle.std.specs.Io.KnownBytes.{Appends, Keeps}
+use Rattle.std.specs.Io.KnownBytes.{Appends}
 use Rattle.std.proofs.KnownBytes.{Appends-nil, Appends-trans}
-use Rattle.dap_device.specs.Device.{AllWritten, FrontWritten, HasWrittenAll}
+use Rattle.dap_device.specs.declared.device.Source.{Ghosts as Source}
+use Rattle.dap_device.specs.declared.device.Sink.{Ghosts as Sink}
+use Rattle.dap_device.specs.Device.{HasFlushedAll, HasTakenNothing}
+use Rattle.dap_device.specs.Written.{AllSent, AllWritten, FrontWritten, HasWrittenAll}
 use Rattle.dap_device.specs.declared.device.DeviceFault.{DeviceFault}
 use Rattle.dap_device.specs.declared.reading.Stop.{Stop}
 use Rattle.dap_device.specs.declared.reading.Stop.TheVariants.{End}
-use Rattle.dap_device.proofs.Sending.{kept}
+use Rattle.dap_device.proofs.Sending.{all_then_all, kept, nothing_awaits, some_of_both}
 use Rattle.dap_input.specs.declared.limits.Limits.{Limits}
 use Rattle.dap_normal.specs.declared.normal_records.NormalRecords.{NormalRecords}
 use Rattle.dap_input.specs.declared.refused.Refused.{Refused}
@@ -33,24 +36,21 @@ use Rattle.dap_normal.proofs.StreamLoop.{Going, all_came, come_to, refused_to}
 use Rattle.dap_normal.proofs.StreamLoop.{refuses_next}
 
 -- What a text that was sent out made of the writer.
-pub all_written : {W U : Type 0} (out : W → Option (List ℕ)) (failures : W
-    → ℕ) (old new : W) (answer : Result U DeviceFault) (bytes : List ℕ)
-    → HasWrittenAll out failures old new answer bytes → is_err answer ≡ false
-    → AllWritten out failures old new bytes
-all_written out failures old new (Ok done) bytes sent none = sent
-all_written out failures old new (Err fault) bytes sent none = absurd (true≢false none)
+pub all_written : {W U : Type 0} (sink : Sink W) (old new : W) (answer : Result U DeviceFault) (bytes : List ℕ)
+    → HasWrittenAll sink old new answer bytes → is_err answer ≡ false
+    → AllWritten sink old new bytes
+all_written sink old new (Ok done) bytes sent none = sent
+all_written sink old new (Err fault) bytes sent none = absurd (true≢false none)
 
-pub front_written : {W U : Type 0} (out : W → Option (List ℕ)) (failures : W
-    → ℕ) (old new : W) (answer : Result U DeviceFault) (bytes : List ℕ)
-    → HasWrittenAll out failures old new answer bytes → is_err answer ≡ true
-    → FrontWritten out failures old new bytes
-front_written out failures old new (Ok done) bytes sent some = absurd (true≢false (sym some))
-front_written out failures old new (Err fault) bytes sent some = sent
+pub front_written : {W U : Type 0} (sink : Sink W) (old new : W) (answer : Result U DeviceFault) (bytes : List ℕ)
+    → HasWrittenAll sink old new answer bytes → is_err answer ≡ true
+    → FrontWritten sink old new bytes
+front_written sink old new (Ok done) bytes sent some = absurd (true≢false (sym some))
+front_written sink old new (Err fault) bytes sent some = sent
 
-module _ {R W : Type 0} (left : R → Option (List ℕ)) (given read_failures : R → ℕ) (out : W
-    → Option (List ℕ)) (write_failures : W → ℕ) (limits : Limits) (start : R) (before : W) where
+module _ {R W : Type 0} (source : Source R) (sink : Sink W) (limits : Limits) (start : R) (before : W) where
   -- Nothing has been read or written.
-  pub given_up : HasGivenUp left given read_failures out write_failures limits start start before
+  pub given_up : HasGivenUp source sink limits start start before
       before
   given_up =
       let accepted =
@@ -61,7 +61,7 @@ module _ {R W : Type 0} (left : R → Option (List ℕ)) (given read_failures : 
         text = [];
         to = record {
           bytes = [];
-          came = nothing_came left given read_failures start;
+          came = nothing_came source start;
           read_to = record
               { before = []; last = []; split = refl; few = omega arith; ends = inl refl };
           before = record {
@@ -72,7 +72,7 @@ module _ {R W : Type 0} (left : R → Option (List ℕ)) (given read_failures : 
             accepted = accepted;
             is_number = omega arith;
           };
-          normalised =
+          gives =
               record {
                 messages = [];
                 accepts = accepted;
@@ -81,43 +81,42 @@ module _ {R W : Type 0} (left : R → Option (List ℕ)) (given read_failures : 
                 text_is = refl;
               };
         };
-        written = Appends-nil (out before);
-        no_failure = refl;
+        written = record {
+          appended = Appends-nil (sink.out before);
+          awaits = nothing_awaits sink.unflushed before before refl;
+          no_failure = refl;
+        };
       }
 
   module _ {T : Type 0} {numbers : T → List ℤ} {table_limit : T
       → ℕ} (reader : R) (records : NormalRecords T)
-      (was : Going numbers table_limit left given read_failures limits start reader records)
+      (was : Going numbers table_limit source limits start reader records)
       (writer : W)
-      (written : Appends (out before) (out writer) (text was.normal))
-      (no_failure : write_failures writer
-      ≡ write_failures before) (new : NormalRecords T) (after : R) where
+      (written : AllWritten sink before writer (text was.normal))
+      (new : NormalRecords T) (after : R) where
     -- ---- one more record
 
     module _ (longer : List ℕ)
-        (gone : HasGone numbers table_limit left given read_failures limits was.bytes was.messages
+        (gone : HasGone numbers table_limit source limits was.bytes was.messages
         was.normal records new reader after [] longer) where
       next_text : text (was.normal ++ gone.named ∷ []) ≡ text was.normal ++ longer
       next_text =
           text_push was.normal gone.named ∙ ap (λ t. text was.normal ++ t) (sym gone.appended)
 
-      pub written_on : (end : W) → AllWritten out write_failures writer end longer
-          → Appends (out before) (out end) (text (was.normal ++ gone.named ∷ []))
-          × (write_failures end ≡ write_failures before)
-      written_on end all = (
-        subst (Appends (out before) (out end)) (sym next_text)
-            (Appends-trans _ _ _ _ _ written all.appended),
-        all.no_failure ∙ no_failure,
-      )
+      pub written_on : (end : W) → AllWritten sink writer end longer
+          → AllWritten sink before end (text (was.normal ++ gone.named ∷ []))
+      written_on end all =
+          subst (AllWritten sink before end) (sym next_text)
+          (all_then_all sink before writer end (text was.normal) longer written all)
 
-      pub failed_to_write : (end : W) → FrontWritten out write_failures writer end longer
-          → HasFailedToWrite left given read_failures out write_failures limits start after before
+      pub failed_to_write : (end : W) → FrontWritten sink writer end longer
+          → HasFailedToWrite source sink limits start after before
           end
       failed_to_write end front = record {
         number = records.records.number;
         stop = None;
         text = text was.normal;
-        to = come_to left given read_failures limits start reader records was after gone.more None
+        to = come_to source limits start reader records was after gone.more None
             gone.came gone.read_to;
         next = longer;
         is_next = inr (
@@ -141,20 +140,21 @@ module _ {R W : Type 0} (left : R → Option (List ℕ)) (given read_failures : 
         );
         count = front.count;
         within = front.within;
-        written = Appends-trans _ _ _ _ _ written front.appended;
-        failure = front.failure ∙ ap (λ n. n + 1) no_failure;
+        written = Appends-trans _ _ _ _ _ written.appended front.appended;
+        awaits = some_of_both sink.unflushed before writer end (length (text was.normal))
+            front.count written.awaits front.awaits;
+        failure = front.failure ∙ ap (λ n. n + 1) written.no_failure;
       }
 
     -- ---- no more
 
     -- a flush that fails
     failed_to_flush : (stop : Option Stop)
-        (to : HasComeTo left given read_failures limits start after stop records.records.number
+        (to : HasComeTo source limits start after stop records.records.number
         (text was.normal)) (end : W)
-        → Keeps (out writer) (out end) → write_failures end ≡ write_failures writer + 1
-        → HasFailedToWrite left given read_failures out write_failures limits start after before
-        end
-    failed_to_flush stop to end same failure = record {
+        → HasTakenNothing sink.out sink.unflushed sink.failures writer end
+        → HasFailedToWrite source sink limits start after before end
+    failed_to_flush stop to end nothing = record {
       number = records.records.number;
       stop = stop;
       text = text was.normal;
@@ -163,26 +163,40 @@ module _ {R W : Type 0} (left : R → Option (List ℕ)) (given read_failures : 
       is_next = inl refl;
       count = 0;
       within = omega arith;
-      written = subst (Appends (out before) (out end)) (sym (append-nil (text was.normal)))
-          (kept (out before) (out writer) (out end) (text was.normal) written same);
-      failure = failure ∙ ap (λ n. n + 1) no_failure;
+      written = subst (Appends (sink.out before) (sink.out end))
+          (sym (append-nil (text was.normal)))
+          (kept (sink.out before) (sink.out writer) (sink.out end) (text was.normal)
+          written.appended nothing.kept);
+      awaits = some_of_both sink.unflushed before writer end (length (text was.normal)) 0
+          written.awaits (nothing_awaits sink.unflushed writer end nothing.awaits);
+      failure = nothing.failure ∙ ap (λ n. n + 1) written.no_failure;
+    }
+
+    -- a flush that is done
+    flushed : (end : W) → HasFlushedAll sink.out sink.unflushed sink.failures writer end
+        → AllSent sink before end (text was.normal)
+    flushed end done = record {
+      appended = kept (sink.out before) (sink.out writer) (sink.out end) (text was.normal)
+          written.appended done.kept;
+      flushed = done.flushed;
+      no_failure = done.no_failure ∙ written.no_failure;
     }
 
     abbrev pub Answer : W → Result (Unit {0}) Refused → Type 0
     Answer end answer =
-        Streams left given read_failures out write_failures limits start after before end answer
+        Streams source sink limits start after before end answer
 
     pub has_streamed : AreSound limits → (text_before longer : List ℕ)
-        → HasEnded numbers table_limit left given read_failures limits was.bytes was.messages
+        → HasEnded numbers table_limit source limits was.bytes was.messages
         was.normal records new reader after text_before longer
         → (end : W) (answer : Result (Unit {0}) Refused)
-        → Flushes out write_failures writer end (Ok tt) answer → Answer end answer
+        → Flushes sink writer end (Ok tt) answer → Answer end answer
     has_streamed sound text_before longer ended end answer (inl done) =
         subst (Answer end) (sym done.0) (record {
           text = text was.normal;
           accepts = record {
             whole = was.bytes ++ ended.more;
-            came = all_came left given read_failures limits start reader records was after new
+            came = all_came source limits start reader records was after new
                 text_before longer ended;
             gives = canonical limits sound (was.bytes ++ ended.more) (text was.normal)
                 (record {
@@ -193,64 +207,57 @@ module _ {R W : Type 0} (left : R → Option (List ℕ)) (given read_failures : 
                   text_is = refl;
                 });
           };
-          written = kept (out before) (out writer) (out end) (text was.normal) written done.1;
-          no_failure = done.2 ∙ no_failure;
+          written = flushed end done.1;
         })
     has_streamed sound text_before longer ended end answer (inr failed) =
         subst (Answer end) (sym failed.0)
         (failed_to_flush (Some End)
-        (come_to left given read_failures limits start reader records was after ended.more
-        (Some End) ended.came ended.read_to) end failed.1.kept failed.1.failure)
+        (come_to source limits start reader records was after ended.more
+        (Some End) ended.came ended.read_to) end failed.1)
 
     module _ (because : Refused)
-        (stopped : HasStoppedAt numbers table_limit left given read_failures limits was.bytes
+        (stopped : HasStoppedAt numbers table_limit source limits was.bytes
         was.messages was.normal records new reader after because) where
-      pub given_up_at : (end : W) → Keeps (out writer) (out end)
-          → write_failures end ≡ write_failures writer
-          → HasGivenUp left given read_failures out write_failures limits start after before end
-      given_up_at end same failures = record {
+      pub given_up_at : HasGivenUp source sink limits start after before writer
+      given_up_at = record {
         number = records.records.number;
         stop = stopped.stop;
         text = text was.normal;
-        to = refused_to left given read_failures limits start reader records was after new because
-            stopped;
-        written = kept (out before) (out writer) (out end) (text was.normal) written same;
-        no_failure = failures ∙ no_failure;
+        to = refused_to source limits start reader records was after new because stopped;
+        written = written;
       }
 
       refused_at : RefusesAt (accepting limits) (so_far (was.bytes ++ stopped.more) stopped.stop)
-          records.records.number because → (end : W) → Keeps (out writer) (out end)
-          → write_failures end ≡ write_failures writer
-          → HasRefused left given read_failures out write_failures limits start after before end
-          because
-      refused_at says end same failures = record {
+          records.records.number because → (end : W)
+          → HasFlushedAll sink.out sink.unflushed sink.failures writer end
+          → HasRefused source sink limits start after before end because
+      refused_at says end done = record {
         text = text was.normal;
-        refuses = refuses_next left given read_failures limits start reader records was after new
-            because stopped says;
-        written = kept (out before) (out writer) (out end) (text was.normal) written same;
-        no_failure = failures ∙ no_failure;
+        refuses = refuses_next source limits start reader records was after new because stopped
+            says;
+        written = flushed end done;
       }
 
-    module _ (end : W) (same : Keeps (out writer) (out end)) (failures : write_failures end
-        ≡ write_failures writer) where
-      refused_for : (because : Refused)
-          → HasStoppedAt numbers table_limit left given read_failures limits was.bytes was.messages
-          was.normal records new reader after because → Answer end (Err because)
-      refused_for WriteFault stopped =
-          absurd (untold WriteFault records.records.number stopped.says.fault refl
-          (λ e. absurd (let same = e in cc)) stopped.says.tells)
-      refused_for Memory stopped = given_up_at Memory stopped end same failures
-      refused_for because stopped = refused_at because stopped stopped.says end same failures
+    refused_for : (because : Refused) → because ≢ Memory
+        → HasStoppedAt numbers table_limit source limits was.bytes was.messages was.normal records
+        new reader after because → (end : W)
+        → HasFlushedAll sink.out sink.unflushed sink.failures writer end
+        → Answer end (Err because)
+    refused_for WriteFault other stopped end done =
+        absurd (untold WriteFault records.records.number stopped.says.fault refl
+        (λ e. absurd (let same = e in cc)) stopped.says.tells)
+    refused_for Memory other stopped end done = absurd (other refl)
+    refused_for because other stopped end done = refused_at because stopped stopped.says end done
 
-    pub has_refused : (because : Refused)
-        → HasStoppedAt numbers table_limit left given read_failures limits was.bytes was.messages
+    pub has_refused : (because : Refused) → because ≢ Memory
+        → HasStoppedAt numbers table_limit source limits was.bytes was.messages
         was.normal records new reader after because
         → (end : W) (answer : Result (Unit {0}) Refused)
-        → Flushes out write_failures writer end (Err because) answer → Answer end answer
-    has_refused because stopped end answer (inl done) =
-        subst (Answer end) (sym done.0) (refused_for end done.1 done.2 because stopped)
-    has_refused because stopped end answer (inr failed) =
+        → Flushes sink writer end (Err because) answer → Answer end answer
+    has_refused because other stopped end answer (inl done) =
+        subst (Answer end) (sym done.0) (refused_for because other stopped end done.1)
+    has_refused because other stopped end answer (inr failed) =
         subst (Answer end) (sym failed.0)
         (failed_to_flush stopped.stop
-        (refused_to left given read_failures limits start reader records was after new because
-        stopped) end failed.1.kept failed.1.failure)
+        (refused_to source limits start reader records was after new because
+        stopped) end failed.1)

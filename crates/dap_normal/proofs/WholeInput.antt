@@ -2,6 +2,7 @@
 use Rattle.std.proofs.Common.{◌≡◌, ℕ, ℤ, false, List, [], ◌∷◌, ◌++◌, Option, Some, None, refl, sym}
 use Rattle.std.proofs.Common.{◌∙◌, ap, subst, arith, append-nil}
 use Rattle.std.proofs.lemmas.Bool.{true≢false}
+use Rattle.dap_device.specs.declared.device.Source.{Ghosts as Source}
 use Rattle.dap_device.specs.Memory.{GivenBytes}
 use Rattle.dap_device.specs.Pieces.{HasComeSoFar, HasPaused}
 use Rattle.dap_device.specs.declared.reading.Stop.{Stop}
@@ -49,14 +50,13 @@ holds_of limits bytes written is = (
   },
 )
 
-abbrev pub left_in : GivenBytes → Option (List ℕ)
-left_in source = Some source.left
-
-abbrev pub given_by : GivenBytes → ℕ
-given_by source = source.given
-
-abbrev pub no_failures : GivenBytes → ℕ
-no_failures source = 0
+-- bytes in memory as a source
+abbrev pub memory : Source GivenBytes
+memory = record {
+  left = λ source. Some source.left;
+  given = λ source. source.given;
+  failures = λ source. 0;
+}
 
 module _ (limits : Limits) (sound : AreSound limits) (bytes : List ℕ) where
   abbrev pub start : GivenBytes
@@ -64,18 +64,18 @@ module _ (limits : Limits) (sound : AreSound limits) (bytes : List ℕ) where
 
   module _ {T : Type 0} {numbers : T → List ℤ} {table_limit : T
       → ℕ} (reader : GivenBytes) (records : NormalRecords T)
-      (was : Going numbers table_limit left_in given_by no_failures limits start reader records)
+      (was : Going numbers table_limit memory limits start reader records)
       (after : GivenBytes) where
     -- What has come is a front of the bytes.
     split : (more : List ℕ) (stop : Option Stop)
-        → HasComeSoFar left_in given_by no_failures reader after more stop
+        → HasComeSoFar memory reader after more stop
         → bytes ≡ (was.bytes ++ more) ++ after.left
     split more stop came =
-        (came_on left_in given_by no_failures start reader after was.bytes more stop was.came
+        (came_on memory start reader after was.bytes more stop was.came
         came).came
 
     module _ (new : NormalRecords T) (text_before longer : List ℕ)
-        (end : HasEnded numbers table_limit left_in given_by no_failures limits was.bytes
+        (end : HasEnded numbers table_limit memory limits was.bytes
         was.messages was.normal records new reader after text_before longer) where
       whole : bytes ≡ was.bytes ++ end.more
       whole = split end.more (Some End) end.came
@@ -98,7 +98,7 @@ module _ (limits : Limits) (sound : AreSound limits) (bytes : List ℕ) where
           (canonical limits sound bytes (text was.normal) normalised_whole)
 
     module _ (new : NormalRecords T) (because : Refused)
-        (stopped : HasStoppedAt numbers table_limit left_in given_by no_failures limits was.bytes
+        (stopped : HasStoppedAt numbers table_limit memory limits was.bytes
         was.messages was.normal records new reader after because) where
       abbrev all : List ℕ
       all = was.bytes ++ stopped.more
@@ -108,7 +108,7 @@ module _ (limits : Limits) (sound : AreSound limits) (bytes : List ℕ) where
 
       -- The bytes are an input of which all has come that did; bytes in memory do not fail.
       is_of : (stop : Option Stop) → bytes ≡ all ++ after.left
-          → HasPaused left_in given_by no_failures reader after stop → IsOf all stop given_input
+          → HasPaused memory reader after stop → IsOf all stop given_input
       is_of None split paused = (after.left, split)
       is_of (Some End) split paused = (split ∙ ap (λ t. all ++ t) paused.0 ∙ append-nil all, refl)
       is_of (Some Full) split paused = (after.left, split)
@@ -131,7 +131,7 @@ module _ (limits : Limits) (sound : AreSound limits) (bytes : List ℕ) where
           told here.fault here.tells here.is_refused
 
     pub refuses_bytes : (new : NormalRecords T) (because : Refused)
-        → HasStoppedAt numbers table_limit left_in given_by no_failures limits was.bytes
+        → HasStoppedAt numbers table_limit memory limits was.bytes
         was.messages was.normal records new reader after because → RefusesBytes limits bytes because
     refuses_bytes new Memory stopped = tt
     refuses_bytes new because stopped = refuses_input new because stopped stopped.says

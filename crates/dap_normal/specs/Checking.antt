@@ -1,5 +1,6 @@
 -- What `check` answers. Source: own.
-use Rattle.std.specs.Prelude.{◌≡◌, ℕ, Bool, true, List, length, Option, Result, Ok, Err}
+use Rattle.std.specs.Prelude.{◌≡◌, ℕ, Bool, true, List, length, Result, Ok, Err}
+use Rattle.dap_device.specs.declared.device.Source.{Ghosts as Source}
 use Rattle.dap_tree.specs.declared.side.Side.TheVariants.{Client, Adapter}
 use Rattle.dap_message.specs.Message.{Sent}
 use Rattle.dap_session.specs.Rules.{open_requests}
@@ -20,13 +21,12 @@ pub record AreCounted (checked : Checked) (messages : List Sent) : Type 0 where
 
 -- `check` over a reader, by what this tells of its bytes and its failures, with limits, and with
 -- whether each request must have a response.
-module _ {R : Type 0} (left : R → Option (List ℕ)) (given failures : R
-    → ℕ) (limits : Limits) (complete : Bool) where
+module _ {R : Type 0} (source : Source R) (limits : Limits) (complete : Bool) where
   -- The input is accepted, with these numbers; where that is asked for, each request has a
   -- response.
   pub record HasChecked (old new : R) (checked : Checked) : Type 0 where
     pub messages : List Sent
-    pub accepts : Accepts left failures limits.input (IsAccepted limits) old new messages
+    pub accepts : Accepts source limits.input (IsAccepted limits) old new messages
     pub counted : AreCounted checked messages
     pub answered : complete ≡ true → (checked.client_open ≡ 0) × (checked.adapter_open ≡ 0)
 
@@ -35,7 +35,7 @@ module _ {R : Type 0} (left : R → Option (List ℕ)) (given failures : R
   pub record IsIncomplete (old new : R) (client adapter : ℕ) : Type 0 where
     pub asked : complete ≡ true
     pub messages : List Sent
-    pub accepts : Accepts left failures limits.input (IsAccepted limits) old new messages
+    pub accepts : Accepts source limits.input (IsAccepted limits) old new messages
     pub client_is : client ≡ open_requests Client messages
     pub adapter_is : adapter ≡ open_requests Adapter messages
     pub some : client ≡ 0 → adapter ≡ 0 → ⊥
@@ -46,4 +46,4 @@ module _ {R : Type 0} (left : R → Option (List ℕ)) (given failures : R
   Checks old new (Err WriteFault) = ⊥
   Checks old new (Err Memory) = Unit {0}
   Checks old new (Err refused) = (text : List ℕ)
-      × RefusesNext left given failures limits old new refused text
+      × RefusesNext source limits old new refused text

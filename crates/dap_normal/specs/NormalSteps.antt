@@ -1,6 +1,7 @@
 -- What the next record of an input makes of the records before it.
 use Rattle.std.specs.Prelude.{◌≡◌, ℕ, ◌+◌, ◌-◌, ◌<◌, ◌≤◌, ℤ, Bool, true, false, List, [], ◌∷◌, ◌++◌}
 use Rattle.std.specs.Prelude.{length, Option, Some, None, Result, Ok, Err}
+use Rattle.dap_device.specs.declared.device.Source.{Ghosts as Source}
 use Rattle.dap_device.specs.Pieces.{HasComeSoFar}
 use Rattle.dap_device.specs.declared.reading.Stop.{Stop}
 use Rattle.dap_device.specs.declared.reading.Stop.TheVariants.{End}
@@ -41,14 +42,13 @@ remaining records =
     (records.records.pieces.limit - records.records.pieces.taken) + length
     records.records.pieces.unread
 
-module _ {T R : Type 0} (numbers : T → List ℤ) (table_limit : T → ℕ) (left : R
-    → Option (List ℕ)) (given failures : R
-    → ℕ) (limits : Limits) (bytes : List ℕ) (messages normal : List Sent)
+module _ {T R : Type 0} (numbers : T → List ℤ) (table_limit : T → ℕ) (source : Source R)
+    (limits : Limits) (bytes : List ℕ) (messages normal : List Sent)
     (old new : NormalRecords T) (before after : R) where
   -- One more record is accepted, and the record of its normal form is appended.
   pub record HasGone (text longer : List ℕ) : Type 0 where
     pub more : List ℕ
-    pub came : HasComeSoFar left given failures before after more None
+    pub came : HasComeSoFar source before after more None
     pub message : Sent
     pub named : Sent
     pub stands : StandsBefore numbers table_limit limits (bytes ++ more) new (messages ++ message
@@ -60,7 +60,7 @@ module _ {T R : Type 0} (numbers : T → List ℤ) (table_limit : T → ℕ) (le
   -- The input has ended, and is accepted as a whole.
   pub record HasEnded (text longer : List ℕ) : Type 0 where
     pub more : List ℕ
-    pub came : HasComeSoFar left given failures before after more (Some End)
+    pub came : HasComeSoFar source before after more (Some End)
     pub accepted : IsAccepted limits (bytes ++ more) messages
     pub read_to : IsReadTo (accepting limits) (bytes ++ more) old.records.number
     pub judge_is : new.judge ≡ old.judge
@@ -71,7 +71,7 @@ module _ {T R : Type 0} (numbers : T → List ℤ) (table_limit : T → ℕ) (le
   pub record HasStoppedAt (refused : Refused) : Type 0 where
     pub more : List ℕ
     pub stop : Option Stop
-    pub came : HasComeSoFar left given failures before after more stop
+    pub came : HasComeSoFar source before after more stop
     pub within : length (bytes ++ more) ≤ limits.input + 1
     pub read_to : IsReadTo (accepting limits) (bytes ++ more) old.records.number
     pub says : Says (accepting limits) (bytes ++ more) stop old.records.number refused

@@ -39,7 +39,7 @@ pub fn check<R: Source>(
     // The numbers of an accepted recording are answered, or its first refusal. That it is
     // incomplete is answered exactly where that is asked for, and that the reader failed exactly
     // where it did.
-    ensures answer { Checks R.left R.given R.failures limits complete reader.old reader.new result }
+    ensures answer { Checks R.Source limits complete reader.old reader.new result }
 
     // It takes at most one byte past the limit.
     ensures taken { R.given reader.new ≤ R.given reader.old + limits.input + 1 }
@@ -66,7 +66,7 @@ pub fn check_with<R: Source, T: NameTable + Drop>(
     requires failures { R.failures reader.old < 2 ^ 62 }
 
     // What `check` promises, whatever the tables are.
-    ensures answer { Checks R.left R.given R.failures limits complete reader.old reader.new result }
+    ensures answer { Checks R.Source limits complete reader.old reader.new result }
     ensures taken { R.given reader.new ≤ R.given reader.old + limits.input + 1 }
 {
     let checked = count_records(alloc, reader, limits, tables)?;
@@ -87,7 +87,7 @@ fn count_records<R: Source, T: NameTable + Drop>(
     requires tables { AreReady T.numbers T.limit limits tables }
     requires given { R.given reader.old < 2 ^ 62 }
     requires failures { R.failures reader.old < 2 ^ 62 }
-    ensures answer { Checks R.left R.given R.failures limits false reader.old reader.new result }
+    ensures answer { Checks R.Source limits false reader.old reader.new result }
     ensures taken { R.given reader.new ≤ R.given reader.old + limits.input + 1 }
 {
     let Ok(mut records) = NormalRecords::new(alloc, limits, tables) else {
@@ -107,7 +107,7 @@ fn judge_records<R: Source, T: NameTable + Drop>(
     requires stands { StandsBefore T.numbers T.limit limits [] records.old [] [] }
     requires given { R.given reader.old < 2 ^ 62 }
     requires failures { R.failures reader.old < 2 ^ 62 }
-    ensures answer { Checks R.left R.given R.failures limits false reader.old reader.new result }
+    ensures answer { Checks R.Source limits false reader.old reader.new result }
     ensures taken { R.given reader.new ≤ R.given reader.old + limits.input + 1 }
 {
     let mut text = Vec::new(alloc);

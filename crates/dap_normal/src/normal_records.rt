@@ -77,7 +77,7 @@ impl<T: NameTable + Drop> NormalRecords<T> {
         requires failures { R.failures reader.old < 2 ^ 63 }
         ensures { (limits : Limits) (bytes : List ℕ) (messages normal : List Sent)
             → StandsBefore T.numbers T.limit limits bytes self.old messages normal
-            → HasNext T.numbers T.limit R.left R.given R.failures limits bytes messages normal
+            → HasNext T.numbers T.limit R.Source limits bytes messages normal
             self.old self.new reader.old reader.new text.old.items text.new.items result }
     {
         let number = self.records.number();

@@ -45,7 +45,7 @@ pub fn normalise_bytes(alloc: Global, bytes: &[u8], limits: Limits) -> Result<No
 /// Gives the answer once all that was written is flushed.
 fn flushed<W: Sink>(writer: &mut W, answer: Result<(), Refused>) -> Result<(), Refused>
     requires { W.failures writer.old < 2 ^ 63 }
-    ensures { Flushes W.out W.failures writer.old writer.new answer result }
+    ensures { Flushes W.Sink writer.old writer.new answer result }
 {
     match writer.flush() {
         Ok(()) => answer,
@@ -77,10 +77,11 @@ pub fn normalise<R: Source, W: Sink>(
     requires read_failures { R.failures reader.old < 2 ^ 62 }
     requires write_failures { W.failures writer.old < 2 ^ 62 }
 
-    // The normal text of the input goes out. Where a record is refused, the text of those before it
-    // does; where the writer fails, a front of the text does. A fault of a device is answered
-    // exactly where that device failed.
-    ensures answer { Streams R.left R.given R.failures W.out W.failures limits reader.old reader.new
+    // The normal text of the input goes out and is flushed. Where a record is refused, the text of
+    // those before it does and is; where memory is refused, no flush comes behind it; where the
+    // writer fails, a front of the text goes out. A fault of a device is answered exactly where
+    // that device failed.
+    ensures answer { Streams R.Source W.Sink limits reader.old reader.new
         writer.old writer.new result }
 
     // It takes at most one byte past the limit.
@@ -109,7 +110,7 @@ pub fn normalise_with<R: Source, W: Sink, T: NameTable + Drop>(
     requires write_failures { W.failures writer.old < 2 ^ 62 }
 
     // What `normalise` promises, whatever the tables are.
-    ensures answer { Streams R.left R.given R.failures W.out W.failures limits reader.old reader.new
+    ensures answer { Streams R.Source W.Sink limits reader.old reader.new
         writer.old writer.new result }
     ensures taken { R.given reader.new ≤ R.given reader.old + limits.input + 1 }
 {
@@ -132,7 +133,7 @@ fn write_records<R: Source, W: Sink, T: NameTable + Drop>(
     requires given { R.given reader.old < 2 ^ 62 }
     requires read_failures { R.failures reader.old < 2 ^ 62 }
     requires write_failures { W.failures writer.old < 2 ^ 62 }
-    ensures answer { Streams R.left R.given R.failures W.out W.failures limits reader.old reader.new
+    ensures answer { Streams R.Source W.Sink limits reader.old reader.new
         writer.old writer.new result }
     ensures taken { R.given reader.new ≤ R.given reader.old + limits.input + 1 }
 {
@@ -146,8 +147,10 @@ fn write_records<R: Source, W: Sink, T: NameTable + Drop>(
                 }
             }
             Ok(false) => return flushed(writer, Ok(())),
-            Err(Refused::Memory) => return Err(Refused::Memory),
-            Err(refused) => return flushed(writer, Err(refused)),
+            Err(refused) => match refused {
+                Refused::Memory => return Err(Refused::Memory),
+                _ => return flushed(writer, Err(refused)),
+            },
         }
     }
 }

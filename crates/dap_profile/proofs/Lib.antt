@@ -1,1 +1,2 @@
 pub mod AskedRows
+mod KindRows

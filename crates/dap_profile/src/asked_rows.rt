@@ -4,7 +4,7 @@ ghost use Rattle.dap_profile.specs.Stretches.{rows_in, rows_asked, rows_named, h
 ghost use Rattle.dap_profile.specs.Stretches.{together, leading};
 ghost use Rattle.dap_profile.specs.ProfileRows.{row_of};
 
-use crate::profile::{Kind, PROFILE, Row};
+use crate::profile::{Kind, Row, profile_rows};
 
 /// Rows of the profile in the order of their numbers, as stretches of it.
 pub type AskedRows = [&'static [Row]; 4];
@@ -17,26 +17,17 @@ pub type AskedRows = [&'static [Row]; 4];
 pub fn rows_of(kind: Kind, name: Option<&str>) -> AskedRows
     ensures { rows_in result ≡ rows_asked (Some kind) (option_map (λ s. s.now) name.entry) }
 {
-    let every = &PROFILE[..1];
+    let rows = profile_rows();
+    let every = &rows[..1];
     match kind {
-        Kind::Request => [
-            every,
-            &PROFILE[1..2],
-            rows_named(&PROFILE[7..49], name),
-            &[],
-        ],
-        Kind::Event => [
-            every,
-            &PROFILE[2..3],
-            rows_named(&PROFILE[87..104], name),
-            &[],
-        ],
+        Kind::Request => [every, &rows[1..2], rows_named(&rows[7..49], name), &[]],
+        Kind::Event => [every, &rows[2..3], rows_named(&rows[87..104], name), &[]],
         Kind::Response => {
             [
                 every,
-                &PROFILE[3..7],
-                rows_named(&PROFILE[49..87], name),
-                all_if_named(&PROFILE[104..], name),
+                &rows[3..7],
+                rows_named(&rows[49..87], name),
+                all_if_named(&rows[104..], name),
             ]
         }
     }

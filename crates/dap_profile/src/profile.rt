@@ -1,4 +1,7 @@
 //! The profile: which members of a message are looked at, as a flat table of numbered rows.
+ghost use Rattle.std.specs.Prelude.{◌≡◌, map};
+ghost use Rattle.dap_profile.specs.Profile.{profile};
+ghost use Rattle.dap_profile.specs.ProfileRows.{row_of};
 
 /// What sort of message it is (DAP specification, `ProtocolMessage.type`).
 #[derive(Clone, Copy, Debug, PartialEq, Eq, Drop)]
@@ -256,3 +259,10 @@ pub static PROFILE: [Row; 139] = profile_rows! {
     138 response("initialize") Inner("body", "supportsValueFormattingOptions") Bool optional;
     139 response("initialize") Inner("body", "supportsWriteMemoryRequest") Bool optional;
 };
+
+/// The rows of the table, in the order of their numbers.
+pub fn profile_rows() -> &'static [Row; 139]
+    ensures { map row_of result.now ≡ profile }
+{
+    &PROFILE
+}

@@ -1,6 +1,7 @@
 -- What the loop of `show` over the records of its input keeps, and what it may answer.
 use Rattle.std.proofs.Common.{◌≡◌, ℕ, ◌+◌, ◌-◌, ◌<◌, ◌≤◌, ◌^◌, List, [], ◌∷◌, ◌++◌, length, Option}
 use Rattle.std.proofs.Common.{Some, None, Result, Ok, Err, sym, ◌∙◌, ap}
+use Rattle.dap_device.specs.declared.device.Source.{Ghosts as Source}
 use Rattle.dap_message.specs.Message.{Sent}
 use Rattle.dap_recording.proofs.Records.{readable}
 use Rattle.dap_recording.specs.RecordReading.{RecordReading}
@@ -31,70 +32,68 @@ reads_records limits = record {
 }
 
 -- The records before the next one are messages, and their lines are made.
-pub record Showing {R : Type 0} (limits : Limits) (left : R → Option (List ℕ))
-    (given failures : R → ℕ) (start reader : R) (records : Records RecordReading)
+pub record Showing {R : Type 0} (limits : Limits) (source : Source R) (start reader : R) (records : Records RecordReading)
     (out : List ℕ) : Type 0 where
   pub messages : List Sent
-  pub going : Going (showing limits) (StandsForRecord limits.frame) left given failures start reader
+  pub going : Going (showing limits) (StandsForRecord limits.frame) source start reader
       records messages
   pub text_is : out ≡ lines_from 1 messages
 
-module _ {R : Type 0} (limits : Limits) (left : R → Option (List ℕ)) (given failures : R → ℕ) where
+module _ {R : Type 0} (limits : Limits) (source : Source R) where
   pub none_read : (reader : R) (records : Records RecordReading) (out : List ℕ) → out ≡ []
       → IsAtStart (StandsForRecord limits.frame) limits.input records
-      → Showing limits left given failures reader reader records out
+      → Showing limits source reader reader records out
   none_read reader records out none start = record {
     messages = [];
     going = at_start (showing limits) (record_items limits.frame) held_of (reads_records limits)
-        (StandsForRecord limits.frame) left given failures reader records start;
+        (StandsForRecord limits.frame) source reader records start;
     text_is = none;
   }
 
   module _ (start reader : R) (records : Records RecordReading) (out : List ℕ)
-      (was : Showing limits left given failures start reader records out) where
+      (was : Showing limits source start reader records out) where
     pub few_records : limits.input ≤ 2 ^ 62 → records.number < 2 ^ 63
     few_records =
         small_number (showing limits) (record_items limits.frame) held_of (reads_records limits)
-        (StandsForRecord limits.frame) left given failures start reader records was.messages
+        (StandsForRecord limits.frame) source start reader records was.messages
         was.going
 
-    pub few_given : limits.input ≤ 2 ^ 62 → given start < 2 ^ 62
-        → given reader + (records.pieces.limit - records.pieces.taken) < 2 ^ 63
+    pub few_given : limits.input ≤ 2 ^ 62 → source.given start < 2 ^ 62
+        → source.given reader + (records.pieces.limit - records.pieces.taken) < 2 ^ 63
     few_given =
         small_count (showing limits) (record_items limits.frame) held_of (reads_records limits)
-        (StandsForRecord limits.frame) left given failures start reader records was.messages
+        (StandsForRecord limits.frame) source start reader records was.messages
         was.going
 
-    pub few_failed : failures start < 2 ^ 62 → failures reader < 2 ^ 63
+    pub few_failed : source.failures start < 2 ^ 62 → source.failures reader < 2 ^ 63
     few_failed =
         few_failures (showing limits) (record_items limits.frame) held_of (reads_records limits)
-        (StandsForRecord limits.frame) left given failures start reader records was.messages
+        (StandsForRecord limits.frame) source start reader records was.messages
         was.going
 
   module _ (start reader : R) (records : Records RecordReading) (out : List ℕ)
-      (was : Showing limits left given failures start reader records out)
+      (was : Showing limits source start reader records out)
       (new : Records RecordReading) (after : R) where
     abbrev Reads : Result (Option WholeRecord) Refused → Type 0
-    Reads answer = ReadsNext (record_items limits.frame) (StandsForRecord limits.frame) left given
-        failures records new reader after answer
+    Reads answer = ReadsNext (record_items limits.frame) (StandsForRecord limits.frame) source records new reader after answer
 
     abbrev Refuses : Refused → Type 0
-    Refuses because = RefusesOne (showing limits) left given failures start after new because
+    Refuses because = RefusesOne (showing limits) source start after new because
 
     pub not_read : (because : Refused) → Reads (Err because) → Refuses because
     not_read =
         refuses_read (showing limits) (record_items limits.frame) held_of (reads_records limits)
-        (StandsForRecord limits.frame) left given failures start reader records was.messages
+        (StandsForRecord limits.frame) source start reader records was.messages
         was.going new after
 
     pub all_shown : Reads (Ok None)
         → (messages : List Sent)
-        × AcceptsAll (showing limits) left given failures start after messages
+        × AcceptsAll (showing limits) source start after messages
         × (out ≡ lines_from 1 messages)
     all_shown read = (
       was.messages,
       accepts_all (showing limits) (record_items limits.frame) held_of (reads_records limits)
-          (StandsForRecord limits.frame) left given failures start reader records was.messages
+          (StandsForRecord limits.frame) source start reader records was.messages
           was.going new after read,
       was.text_is,
     )
@@ -105,19 +104,19 @@ module _ {R : Type 0} (limits : Limits) (left : R → Option (List ℕ)) (given 
         → Refuses because
     not_appended whole longer because read appended =
         refuses_held (showing limits) (record_items limits.frame) held_of (reads_records limits)
-        (StandsForRecord limits.frame) left given failures start reader records was.messages
+        (StandsForRecord limits.frame) source start reader records was.messages
         was.going new after whole read because appended
 
     pub one_more : {U : Type 0} (done : U) (whole : WholeRecord) (longer : List ℕ)
         → Reads (Ok (Some whole)) → Appended records.number (held_of whole) out longer (Ok done)
-        → Showing limits left given failures start after new longer
+        → Showing limits source start after new longer
     one_more done whole longer read appended =
         let m : Sent = appended.0 in
         let number_is = was.going.behind.number_is in
         record {
           messages = was.messages ++ m ∷ [];
           going = on (showing limits) (record_items limits.frame) held_of (reads_records limits)
-              (StandsForRecord limits.frame) left given failures start reader records was.messages
+              (StandsForRecord limits.frame) source start reader records was.messages
               was.going new after whole read m appended.1;
           text_is = appended.2 ∙ ap (λ t. t ++ message_lines records.number m) was.text_is
               ∙ sym (lines_push 1 records.number was.messages m number_is);
@@ -128,5 +127,5 @@ module _ {R : Type 0} (limits : Limits) (left : R → Option (List ℕ)) (given 
         < (records.pieces.limit - records.pieces.taken) + length records.pieces.unread
     fewer =
         fewer_left (showing limits) (record_items limits.frame) held_of (reads_records limits)
-        (StandsForRecord limits.frame) left given failures start reader records was.messages
+        (StandsForRecord limits.frame) source start reader records was.messages
         was.going new after

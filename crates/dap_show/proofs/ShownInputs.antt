@@ -1,8 +1,9 @@
 -- What `show` answers of an input whose records are judged, and what it took of its reader.
-use Rattle.std.proofs.Common.{◌≡◌, ℕ, ◌+◌, ◌-◌, ◌<◌, ◌≤◌, ◌^◌, false, List, length, take, Option}
+use Rattle.std.proofs.Common.{◌≡◌, ℕ, ◌+◌, ◌-◌, ◌<◌, ◌≤◌, ◌^◌, false, List, length}
 use Rattle.std.proofs.Common.{Some, None, refl, sym, ◌∙◌, subst, arith}
-use Rattle.std.specs.Io.KnownBytes.{Appends}
-use Rattle.dap_device.specs.Device.{AllWritten, FrontWritten}
+use Rattle.dap_device.specs.declared.device.Sink.{Ghosts as Sink}
+use Rattle.dap_device.specs.declared.device.Source.{Ghosts as Source}
+use Rattle.dap_device.specs.Written.{AllSent, FrontWritten}
 use Rattle.dap_device.specs.Pieces.{HasComeSoFar}
 use Rattle.dap_device.specs.declared.reading.Stop.{Stop}
 use Rattle.dap_device.specs.declared.reading.Stop.TheVariants.{End, Full, Failed}
@@ -18,50 +19,46 @@ use Rattle.dap_input.specs.declared.records.Records.{Records}
 use Rattle.dap_input.specs.declared.refused.Refused.{Refused}
 use Rattle.dap_show.specs.Showing.{IsShownBy, lines_from, showing}
 
-module _ {R : Type 0} (limits : Limits) (left : R → Option (List ℕ)) (given failures : R → ℕ)
+module _ {R : Type 0} (limits : Limits) (source : Source R)
     (old : R) where
   -- ---- the input is accepted
 
   module _ (new : R) (messages : List Sent)
-      (all : AcceptsAll (showing limits) left given failures old new messages) where
-    accepts : Accepts left failures limits.input (IsShownBy limits) old new (lines_from 1 messages)
+      (all : AcceptsAll (showing limits) source old new messages) where
+    accepts : Accepts source limits.input (IsShownBy limits) old new (lines_from 1 messages)
     accepts = record {
       whole = all.whole;
       came = record {
         came = all.came.came;
+        counted = all.came.counted;
         has_length = all.within;
         stopped = all.came.paused;
       };
       gives = (messages, all.accepted, refl);
     }
 
-    pub accepted_taken : given new ≤ given old + limits.input + 1
+    pub accepted_taken : source.given new ≤ source.given old + limits.input + 1
     accepted_taken =
         let counted = all.came.counted in let within = all.within in omega (arith, counted, within)
 
-    module _ {W : Type 0} (out : W → Option (List ℕ)) (write_failures : W → ℕ)
+    module _ {W : Type 0} (sink : Sink W)
         (before after : W) (written : List ℕ) (text_is : written ≡ lines_from 1 messages) where
-      pub finished : AllWritten out write_failures before after written
-          → HasFinished left failures out write_failures limits.input (IsShownBy limits)
+      pub finished : AllSent sink before after written
+          → HasFinished source sink limits.input (IsShownBy limits)
           (IsRefused (showing limits)) old new before after
       finished done = record {
         text = lines_from 1 messages;
         accepts = accepts;
-        written = subst (Appends (out before) (out after)) text_is done.appended;
-        no_failure = done.no_failure;
+        written = subst (AllSent sink before after) text_is done;
       }
 
-      pub not_written : FrontWritten out write_failures before after written
-          → HasNotWritten left failures out write_failures limits.input (IsShownBy limits)
+      pub not_written : FrontWritten sink before after written
+          → HasNotWritten source sink limits.input (IsShownBy limits)
           (IsRefused (showing limits)) old new before after
       not_written front = record {
         text = lines_from 1 messages;
         accepts = accepts;
-        count = front.count;
-        within = subst (λ t. front.count ≤ length t) text_is front.within;
-        written = subst (λ t. Appends (out before) (out after) (take front.count t)) text_is
-            front.appended;
-        failure = front.failure;
+        written = subst (FrontWritten sink before after) text_is front;
       }
 
   -- ---- it is refused
@@ -73,21 +70,21 @@ module _ {R : Type 0} (limits : Limits) (left : R → Option (List ℕ)) (given 
   at_most bytes Failed within = omega (arith, within)
 
   pub refused_taken : (new : R) (because : Refused)
-      → RefusesRead (showing limits) left given failures old new because
-      → given new ≤ given old + limits.input + 1
+      → RefusesRead (showing limits) source old new because
+      → source.given new ≤ source.given old + limits.input + 1
   refused_taken new because read =
       let counted = read.came.counted in
       let most = at_most read.bytes read.stop read.within in omega (arith, counted, most)
 
   -- Where the source has not stopped, the rest may be read.
   module _ {I : Type 0} (mid : R) (records : Records I) (because : Refused)
-      (one : RefusesOne (showing limits) left given failures old mid records because)
+      (one : RefusesOne (showing limits) source old mid records because)
       (goes_on : records.is_over ≡ false) where
     not_stopped : one.stop ≡ None
     not_stopped = nothing one.stop (sym one.over ∙ goes_on)
 
-    pub rest_counts : limits.input ≤ 2 ^ 62 → given old < 2 ^ 62
-        → given mid + (records.pieces.limit - records.pieces.taken) < 2 ^ 63
+    pub rest_counts : limits.input ≤ 2 ^ 62 → source.given old < 2 ^ 62
+        → source.given mid + (records.pieces.limit - records.pieces.taken) < 2 ^ 63
     rest_counts most small =
         let came = one.came.counted in
         let taken = one.taken not_stopped in
@@ -95,8 +92,8 @@ module _ {R : Type 0} (limits : Limits) (left : R → Option (List ℕ)) (given 
         let within = subst (IsWithin (length one.bytes) limits.input) not_stopped one.within in
         omega (arith, most, small, came, taken, limit, within)
 
-    pub rest_failures : failures old < 2 ^ 62 → failures mid < 2 ^ 63
+    pub rest_failures : source.failures old < 2 ^ 62 → source.failures mid < 2 ^ 63
     rest_failures small =
         let came =
-        subst (HasComeSoFar left given failures old mid one.bytes) not_stopped one.came in
-        let same : failures mid ≡ failures old = came.paused in omega (arith, small, same)
+        subst (HasComeSoFar source old mid one.bytes) not_stopped one.came in
+        let same : source.failures mid ≡ source.failures old = came.paused in omega (arith, small, same)

@@ -1,6 +1,7 @@
 -- What the steps of `show` do.
-use Rattle.std.specs.Prelude.{◌≡◌, ℕ, List, ◌++◌, Option, Result, Ok, Err, String, string_bytes}
+use Rattle.std.specs.Prelude.{◌≡◌, ℕ, List, ◌++◌, Result, Ok, Err, String, string_bytes}
 use Rattle.std.specs.declared.alloc.Global.{Global}
+use Rattle.dap_device.specs.declared.device.Source.{Ghosts as Source}
 use Rattle.dap_message.specs.Message.{Sent}
 use Rattle.dap_recording.specs.RecordReading.{RecordReading}
 use Rattle.dap_recording.specs.declared.record.Record.{Record as WholeRecord}
@@ -35,8 +36,8 @@ AreReady records = (limits : Limits) × AreSound limits
     × IsAtStart (StandsForRecord limits.frame) limits.input records
 
 -- The lines of all records are made, or one is refused.
-module _ {R : Type 0} (limits : Limits) (left : R → Option (List ℕ)) (given failures : R → ℕ) where
+module _ {R : Type 0} (limits : Limits) (source : Source R) where
   abbrev pub JudgesInput : R → R → Records RecordReading → Result (String Global) Refused → Type 0
   JudgesInput =
-      JudgesAll (showing limits) left given failures (lines_from 1)
+      JudgesAll (showing limits) source (lines_from 1)
       (λ (out : String Global). string_bytes out)

@@ -46,7 +46,7 @@ fn show_records<R: Source>(
     requires failures { R.failures reader.old < 2 ^ 62 }
     ensures { (limits : Limits)
         → IsAtStart (StandsForRecord limits.frame) limits.input records.old
-        → JudgesInput limits R.left R.given R.failures reader.old reader.new records.new result }
+        → JudgesInput limits R.Source reader.old reader.new records.new result }
 {
     let mut scratch = Scratch::new(alloc);
     let mut out = String::new(alloc);
@@ -67,9 +67,9 @@ fn show_records<R: Source>(
 /// REFERENCE NAME`, `  variable REFERENCE NAME VALUE`. Names and values are JSON texts in quotes;
 /// ids are shown as they came. The rules of a session are not asked.
 ///
-/// It reads its whole input, at most one byte past `limits.input`, judges it, and writes last:
-/// nothing is written where it is refused. One record is held at a time, and the lines that are
-/// made. Records are counted from 1 in the order of the input.
+/// It reads its whole input, at most one byte past `limits.input`, judges it, and writes and
+/// flushes last: nothing is written where it is refused. One record is held at a time, and the
+/// lines that are made. Records are counted from 1 in the order of the input.
 ///
 /// # Errors
 ///
@@ -87,9 +87,9 @@ pub fn show<R: Source, W: Sink>(
     requires read_failures { R.failures reader.old < 2 ^ 62 }
     requires write_failures { W.failures writer.old < 2 ^ 62 }
 
-    // The lines of the input's messages go out, or its first refusal is answered and nothing goes
-    // out. A fault of a device is answered exactly where that device failed.
-    ensures answer { Answers R.left R.failures W.out W.failures limits.input (IsShownBy limits)
+    // The lines of the input's messages go out and are flushed, or its first refusal is answered
+    // and nothing goes out. A fault of a device is answered exactly where that device failed.
+    ensures answer { Answers R.Source W.Sink limits.input (IsShownBy limits)
         (IsRefused (showing limits)) reader.old reader.new writer.old writer.new result }
 
     // It takes at most one byte past the limit.

@@ -1,6 +1,8 @@
 -- What the loop of `record` over its input keeps, and what it may answer.
+use Rattle.dap_device.specs.declared.device.Sink.{Ghosts as Sink}
+use Rattle.dap_device.specs.declared.device.Source.{Ghosts as Source}
 use Rattle.dap_frame.specs.declared.fault.FrameFault.TheVariants as frame_fault
-use Rattle.std.proofs.Common.{◌≡◌, ◌≢◌, ◌⊎◌, inl, inr, ℕ, ◌+◌, ◌-◌, ◌^◌, ◌<◌, ◌≤◌, List, [], ◌∷◌}
+use Rattle.std.proofs.Common.{◌≡◌, ◌≢◌, ◌⊎◌, inl, inr, ℕ, ◌+◌, ◌^◌, ◌<◌, ◌≤◌, List, [], ◌∷◌}
 use Rattle.std.proofs.Common.{◌++◌, length, take, drop, Option, Some, None, MatchOption, Result, Ok}
 use Rattle.std.proofs.Common.{Err, refl, sym, ◌∙◌, ap, ap₂, subst, arith}
 use Rattle.std.proofs.lemmas.List.{append_assoc, append-nil, length-append, length-drop}
@@ -42,7 +44,7 @@ use Rattle.dap_input.specs.declared.refused.Refused.{Refused}
 use Rattle.dap_input.specs.declared.refused.Refused.TheVariants.{TraceTooLong, Trace, Recorder}
 use Rattle.dap_input.specs.declared.refused.Refused.TheVariants.{ReadFault, WriteFault}
 use Rattle.dap_input.specs.declared.refused.Refused.TheVariants.{Memory as NoMemory}
-use Rattle.dap_device.specs.Device.{AllWritten, FrontWritten}
+use Rattle.dap_device.specs.Written.{AllSent, FrontWritten}
 use Rattle.dap_input.specs.Limits.{AreSound}
 use Rattle.dap_device.specs.Reading.{HasCome}
 use Rattle.dap_trace.specs.Tracing.{EndsInside, IsInRaw, IsOfEnd, IsOpenWith, IsRecordedAs}
@@ -727,13 +729,12 @@ module _ (limits : Limits) (sound : AreSound limits) (whole rest : List ℕ) (re
 -- ---- the answer
 
 -- Where the records of a trace were sent, the trace is answered for.
-module _ {R W : Type 0} (U : Type 0) (left : R → Option (List ℕ)) (read_failures : R → ℕ) (out : W
-    → Option (List ℕ)) (write_failures : W → ℕ) (limits : Limits) (old new : R) (before after : W)
+module _ {R W : Type 0} (U : Type 0) (source : Source R) (sink : Sink W) (limits : Limits) (old new : R) (before after : W)
     (bytes : List ℕ) (stop : Stop)
-    (came : HasCome left read_failures old new limits.input bytes stop)
+    (came : HasCome source old new limits.input bytes stop)
     (recorder : RecorderReading) where
   abbrev judged : (answer : Result U Refused) → HasTraced limits bytes stop answer recorder
-      → HasJudgedTrace left read_failures out write_failures limits old new answer
+      → HasJudgedTrace source sink limits old new answer
   judged answer traced =
       record {
         bytes = bytes;
@@ -745,39 +746,39 @@ module _ {R W : Type 0} (U : Type 0) (left : R → Option (List ℕ)) (read_fail
 
   sent : (answer result : Result U Refused)
       → (HasTraced limits bytes stop answer recorder
-      → AllWritten out write_failures before after (text_of recorder)
-      → RecordsTrace left read_failures out write_failures limits old new before after answer)
+      → AllSent sink before after (text_of recorder)
+      → RecordsTrace source sink limits old new before after answer)
       → HasTraced limits bytes stop answer recorder
-      → ((result ≡ answer) × AllWritten out write_failures before after (text_of recorder))
+      → ((result ≡ answer) × AllSent sink before after (text_of recorder))
       ⊎ ((result ≡ Err WriteFault)
-      × FrontWritten out write_failures before after (text_of recorder))
-      → RecordsTrace left read_failures out write_failures limits old new before after result
+      × FrontWritten sink before after (text_of recorder))
+      → RecordsTrace source sink limits old new before after result
   sent answer result all traced (inl (same, written)) =
-      subst (RecordsTrace left read_failures out write_failures limits old new before after)
+      subst (RecordsTrace source sink limits old new before after)
       (sym same) (all traced written)
   sent answer result all traced (inr (same, written)) =
-      subst (RecordsTrace left read_failures out write_failures limits old new before after)
+      subst (RecordsTrace source sink limits old new before after)
       (sym same)
       (record {
         answer = answer;
         judged = judged answer traced;
-        written = subst (FrontWritten out write_failures before after) traced.text written;
+        written = subst (FrontWritten sink before after) traced.text written;
       })
 
   written_all : (answer : Result U Refused) → (traced : HasTraced limits bytes stop answer recorder)
-      → AllWritten out write_failures before after (text_of recorder)
-      → HasWrittenRecords left read_failures out write_failures limits old new before after answer
+      → AllSent sink before after (text_of recorder)
+      → HasWrittenRecords source sink limits old new before after answer
   written_all answer traced written =
       record {
         judged = judged answer traced;
-        written = subst (AllWritten out write_failures before after) traced.text written;
+        written = subst (AllSent sink before after) traced.text written;
       }
 
   pub answered : (answer result : Result U Refused) → Traces limits bytes stop answer recorder
-      → HasSentRecords out write_failures (text_of recorder) answer before after result
-      → RecordsTrace left read_failures out write_failures limits old new before after result
+      → HasSentRecords sink (text_of recorder) answer before after result
+      → RecordsTrace source sink limits old new before after result
   answered (Err NoMemory) result traced has_sent =
-      subst (RecordsTrace left read_failures out write_failures limits old new before after)
+      subst (RecordsTrace source sink limits old new before after)
       (sym has_sent.0) has_sent.1
   answered (Err WriteFault) result traced has_sent = absurd traced.judges
   answered (Ok done) result traced has_sent =

@@ -1,5 +1,7 @@
 -- What `record` answers, and what its devices then hold. Source: own.
-use Rattle.std.specs.Prelude.{◌≡◌, ◌⊎◌, ℕ, List, Option, Result, Ok, Err}
+use Rattle.std.specs.Prelude.{◌≡◌, ◌⊎◌, ℕ, List, Result, Ok, Err}
+use Rattle.dap_device.specs.declared.device.Sink.{Ghosts as Sink}
+use Rattle.dap_device.specs.declared.device.Source.{Ghosts as Source}
 use Rattle.dap_recording.specs.Recording.{recording_text}
 use Rattle.dap_tree.specs.declared.side.Side.{Side}
 use Rattle.dap_input.specs.declared.limits.Limits.{Limits}
@@ -7,7 +9,7 @@ use Rattle.dap_device.specs.declared.reading.Stop.{Stop}
 use Rattle.dap_device.specs.declared.reading.Stop.TheVariants.{End, Failed}
 use Rattle.dap_input.specs.declared.refused.Refused.{Refused}
 use Rattle.dap_input.specs.declared.refused.Refused.TheVariants.{ReadFault, WriteFault, Memory}
-use Rattle.dap_device.specs.Device.{AllWritten, FrontWritten}
+use Rattle.dap_device.specs.Written.{AllSent, FrontWritten}
 use Rattle.dap_device.specs.Reading.{HasCome}
 use Rattle.dap_trace.specs.Tracing.{IsRecordedAs, IsTraceRefused, IsOfEnd}
 
@@ -29,27 +31,27 @@ JudgesTrace limits bytes stop (Err Memory) messages = ⊥
 JudgesTrace limits bytes stop (Err refused) messages = IsTraceRefused limits bytes refused messages
     × (IsOfEnd refused → stop ≡ End)
 
-module _ {R W : Type 0} (left : R → Option (List ℕ)) (read_failures : R → ℕ) (out : W
-    → Option (List ℕ)) (write_failures : W → ℕ) (limits : Limits) where
+module _ {R W : Type 0} (source : Source R) (sink : Sink W) (limits : Limits) where
   -- Of what came from the reader this is to be answered, and these messages are to be written.
   pub record HasJudgedTrace {U : Type 0} (old new : R) (answer : Result U Refused) : Type 0 where
     pub bytes : List ℕ
     pub stop : Stop
-    pub came : HasCome left read_failures old new limits.input bytes stop
+    pub came : HasCome source old new limits.input bytes stop
     pub messages : List (Side × List ℕ)
     pub judges : JudgesTrace limits bytes stop answer messages
 
-  -- The records of the messages went out, whether the trace is recorded or refused.
+  -- The records of the messages went out and were flushed, whether the trace is recorded or
+  -- refused.
   pub record HasWrittenRecords {U : Type 0} (old new : R) (before after : W)
       (answer : Result U Refused) : Type 0 where
     pub judged : HasJudgedTrace old new answer
-    pub written : AllWritten out write_failures before after (recording_text judged.messages)
+    pub written : AllSent sink before after (recording_text judged.messages)
 
   -- A front of them went out, perhaps all, and the writer failed.
   pub record HasNotWrittenRecords (U : Type 0) (old new : R) (before after : W) : Type 0 where
     pub answer : Result U Refused
     pub judged : HasJudgedTrace old new answer
-    pub written : FrontWritten out write_failures before after (recording_text judged.messages)
+    pub written : FrontWritten sink before after (recording_text judged.messages)
 
   -- Where memory was refused nothing went out.
   abbrev pub RecordsTrace : {U : Type 0} → R → R → W → W → Result U Refused → Type 0

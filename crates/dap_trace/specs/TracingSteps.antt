@@ -1,5 +1,5 @@
 -- What the steps of `record` do.
-use Rattle.std.specs.Prelude.{◌≡◌, ◌⊎◌, ℕ, List, [], ◌∷◌, ◌++◌, Option, Result, Ok, Err}
+use Rattle.std.specs.Prelude.{◌≡◌, ◌⊎◌, ℕ, List, [], ◌∷◌, ◌++◌, Result, Ok, Err}
 use Rattle.dap_frame.specs.declared.fault.FrameFault.{FrameFault}
 use Rattle.dap_frame.specs.declared.limits.FrameLimits.{FrameLimits}
 use Rattle.dap_frame.specs.Frame.{IsOpen, Shows}
@@ -12,10 +12,11 @@ use Rattle.dap_recording.specs.RecorderReading.{text_of}
 use Rattle.dap_recording.specs.Recording.{recording_text}
 use Rattle.dap_tree.specs.declared.side.Side.{Side}
 use Rattle.dap_input.specs.declared.limits.Limits.{Limits}
+use Rattle.dap_device.specs.declared.device.Sink.{Ghosts as Sink}
 use Rattle.dap_device.specs.declared.reading.Stop.{Stop}
 use Rattle.dap_input.specs.declared.refused.Refused.{Refused}
 use Rattle.dap_input.specs.declared.refused.Refused.TheVariants.{WriteFault, Memory}
-use Rattle.dap_device.specs.Device.{AllWritten, FrontWritten}
+use Rattle.dap_device.specs.Written.{AllSent, FrontWritten}
 use Rattle.dap_trace.specs.Tracing.{sent_by}
 use Rattle.dap_trace.specs.TracingRun.{JudgesTrace}
 
@@ -67,12 +68,12 @@ abbrev pub Traces : {U : Type 0} → Limits → List ℕ → Stop → Result U R
 Traces limits bytes stop (Err Memory) recorder = Unit {0}
 Traces limits bytes stop answer recorder = HasTraced limits bytes stop answer recorder
 
--- Whatever a trace was answered, the records go out and that is answered, or the writer failed;
--- where memory was refused nothing goes out.
-abbrev pub HasSentRecords : {W U : Type 0} → (W → Option (List ℕ)) → (W → ℕ) → List ℕ
-    → Result U Refused → W → W → Result U Refused → Type 0
-HasSentRecords out failures records (Err Memory) before after result = (result ≡ Err Memory)
+-- Whatever a trace was answered, the records go out, are flushed and that is answered, or the
+-- writer failed; where memory was refused nothing goes out.
+abbrev pub HasSentRecords : {W U : Type 0} → Sink W → List ℕ → Result U Refused → W → W
+    → Result U Refused → Type 0
+HasSentRecords sink records (Err Memory) before after result = (result ≡ Err Memory)
     × (after ≡ before)
-HasSentRecords out failures records answer before after result =
-    ((result ≡ answer) × AllWritten out failures before after records)
-    ⊎ ((result ≡ Err WriteFault) × FrontWritten out failures before after records)
+HasSentRecords sink records answer before after result =
+    ((result ≡ answer) × AllSent sink before after records)
+    ⊎ ((result ≡ Err WriteFault) × FrontWritten sink before after records)

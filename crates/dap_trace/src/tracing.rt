@@ -79,15 +79,15 @@ fn record_input(
     }
 }
 
-/// Writes the records of the frames that ended, unless memory was refused, and answers what the
-/// trace was answered.
+/// Writes the records of the frames that ended and flushes, unless memory was refused, and answers
+/// what the trace was answered.
 fn write_records<W: Sink>(
     writer: &mut W,
     records: &[u8],
     answer: Result<(), Refused>,
 ) -> Result<(), Refused>
     requires { W.failures writer.old < 2 ^ 62 }
-    ensures { HasSentRecords W.out W.failures records.now answer writer.old writer.new result }
+    ensures { HasSentRecords W.Sink records.now answer writer.old writer.new result }
 {
     match answer {
         Err(Refused::Memory) => Err(Refused::Memory),
@@ -101,9 +101,10 @@ fn write_records<W: Sink>(
 /// Reads a trace and writes the recording of it: of both sides the frames that went over the wire,
 /// in the order of the bytes that end them, with their contents as they are.
 ///
-/// It reads its whole input, at most one byte past `limits.input`, and writes last. The records of
-/// the frames that ended are written on every answer but `Memory` and `WriteFault`, so that what
-/// was recorded before a fault is not lost. Pieces are counted from 1 in the order of the trace.
+/// It reads its whole input, at most one byte past `limits.input`, and writes and flushes last. The
+/// records of the frames that ended are written on every answer but `Memory` and `WriteFault`, so
+/// that what was recorded before a fault is not lost. Pieces are counted from 1 in the order of the
+/// trace.
 ///
 /// # Errors
 ///
@@ -123,9 +124,10 @@ pub fn record<R: Source, W: Sink>(
     requires read_failures { R.failures reader.old < 2 ^ 62 }
     requires write_failures { W.failures writer.old < 2 ^ 62 }
 
-    // The records of the frames that ended go out, on a refusal too, and nothing goes out where
-    // memory was refused. A fault of a device is answered exactly where that device failed.
-    ensures answer { RecordsTrace R.left R.failures W.out W.failures limits reader.old reader.new
+    // The records of the frames that ended go out and are flushed, on a refusal too, and nothing
+    // goes out where memory was refused. A fault of a device is answered exactly where that device
+    // failed.
+    ensures answer { RecordsTrace R.Source W.Sink limits reader.old reader.new
         writer.old writer.new result }
 
     // It takes at most one byte past the limit.

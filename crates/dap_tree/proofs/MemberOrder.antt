@@ -17,12 +17,12 @@ use Rattle.dap_tree.proofs.Booleans.{and_left, and_right, and_both}
 use Rattle.dap_tree.proofs.Numbers.{Passes, Passes-map, Passes-and_then}
 use Rattle.dap_tree.proofs.Comparisons.{less}
 
-abbrev data_below_all : List ℕ → json.Members → Bool
+abbrev pub data_below_all : List ℕ → json.Members → Bool
 data_below_all k json.no_members = true
 data_below_all k (json.member l e ms) = is_lt (slice_cmp nat_cmp k l) && data_below_all k ms
 
 abbrev mutual
-  data_ordered : json.Data → Bool
+  pub data_ordered : json.Data → Bool
   data_ordered json.null = true
   data_ordered (json.boolean b) = true
   data_ordered (json.number n) = true
@@ -30,11 +30,11 @@ abbrev mutual
   data_ordered (json.array ds) = items_data_ordered ds
   data_ordered (json.object ms) = members_data_ordered ms
 
-  items_data_ordered : json.Items → Bool
+  pub items_data_ordered : json.Items → Bool
   items_data_ordered json.no_items = true
   items_data_ordered (json.item d ds) = data_ordered d && items_data_ordered ds
 
-  members_data_ordered : json.Members → Bool
+  pub members_data_ordered : json.Members → Bool
   members_data_ordered json.no_members = true
   members_data_ordered (json.member k d ms) =
       data_below_all k ms && (data_ordered d && members_data_ordered ms)
@@ -136,7 +136,7 @@ ordered_parsed : (parsed : Option grammar.Json)
 ordered_parsed None = tt
 ordered_parsed (Some j) = ordered_json j
 
-ordered_read : (bytes : List ℕ) (d : json.Data) → read bytes ≡ Some d → data_ordered d ≡ true
+pub ordered_read : (bytes : List ℕ) (d : json.Data) → read bytes ≡ Some d → data_ordered d ≡ true
 ordered_read bytes d h =
     subst (Passes data_ordered) h
     (ordered_parsed

@@ -22,7 +22,7 @@ use Rattle.dap_tree.proofs.Numbers.{Passes, Passes-map, Passes-and_then}
 use Rattle.dap_tree.proofs.Tokens.{token_utf8, tokens_utf8, text_tokens-utf8}
 
 abbrev mutual
-  data_utf8 : json.Data → Bool
+  pub data_utf8 : json.Data → Bool
   data_utf8 json.null = true
   data_utf8 (json.boolean b) = true
   data_utf8 (json.number n) = true
@@ -30,11 +30,11 @@ abbrev mutual
   data_utf8 (json.array ds) = items_data_utf8 ds
   data_utf8 (json.object ms) = members_data_utf8 ms
 
-  items_data_utf8 : json.Items → Bool
+  pub items_data_utf8 : json.Items → Bool
   items_data_utf8 json.no_items = true
   items_data_utf8 (json.item d ds) = data_utf8 d && items_data_utf8 ds
 
-  members_data_utf8 : json.Members → Bool
+  pub members_data_utf8 : json.Members → Bool
   members_data_utf8 json.no_members = true
   members_data_utf8 (json.member k d ms) = is_utf8 k && (data_utf8 d && members_data_utf8 ms)
 
@@ -117,7 +117,7 @@ parsed-utf8 None h = tt
 parsed-utf8 (Some (j, [])) h = json-utf8 j (h j [] refl)
 parsed-utf8 (Some (j, t ∷ ts)) h = tt
 
-read-utf8 : (bytes : List ℕ) (d : json.Data) → IsUtf8 bytes → read bytes ≡ Some d
+pub read-utf8 : (bytes : List ℕ) (d : json.Data) → IsUtf8 bytes → read bytes ≡ Some d
     → data_utf8 d ≡ true
 read-utf8 bytes d utf8 h =
     let whole_text = text_tokens-utf8 bytes utf8 in

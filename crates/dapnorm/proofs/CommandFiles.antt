@@ -21,8 +21,8 @@ use Rattle.clap.specs.declared.builder.value_parser.Reading.{Reading}
 use Rattle.clap.specs.declared.parser.matches.ValueSource.{ValueSource}
 use Rattle.clap.specs.declared.parser.matches.ValueSource.TheVariants.{CommandLine, DefaultValue}
 use Rattle.clap.proofs.WalkLemmas.{both}
-use Rattle.dapnorm.specs.CommandLine.{Told, comparer, file, is_set, job_named, names_job, program}
-use Rattle.dapnorm.specs.CommandLine.{two_files}
+use Rattle.dapnorm.specs.CommandLine.{Told, comparer, file, is_set, job_named, masker, names_job}
+use Rattle.dapnorm.specs.CommandLine.{program, two_files}
 use Rattle.dapnorm.specs.CommandLine as line
 use Rattle.dapnorm.proofs.CommandWalk.{finished_keeps}
 
@@ -170,54 +170,96 @@ level_has_files words passes =
     let second = both (is_given (codes "B") rows) _ first.1 in
     (first_given (codes "A") rows have first.0, first_given (codes "B") rows have second.0)
 
--- the subcommands, of which one alone is named `compare`
-each_subcommand : AllByRecursion (λ (s : Shape). bytes_eq s.name (codes "compare") ≡ true
-    → s ≡ built_comparer) (built program).subs
-each_subcommand = (
-  λ e. absurd (true≢false (sym e)),
-  (
-    λ e. absurd (true≢false (sym e)),
-    (
-      λ e. absurd (true≢false (sym e)),
-      (
-        λ e. absurd (true≢false (sym e)),
-        (λ e. absurd (true≢false (sym e)), (λ e. refl, (λ e. absurd (true≢false (sym e)), tt))),
-      ),
-    ),
-  ),
+-- ---- the subcommand `mask`
+
+-- `mask` as it is built
+abbrev built_masker : Shape
+built_masker = built_leaf (inherited (with_leaf_noted (marked_built program.top)) masker.top)
+
+mask_rule : AllByRecursion (UseHasValues built_masker.args_override_self) built_masker.rules
+mask_rule = (
+  set_use false (with_index 1 (filled (file (codes "RULES")))) refl refl,
+  (no_use false (with_index 2 (filled help_rule)) refl, tt),
 )
 
-module _ (words : List Text) (name : Text) (rows : List Row) (is : bytes_eq name (codes "compare")
-    ≡ true) where
+abbrev HasRules : List Row → Type 0
+HasRules rows = is_some (first_of (codes "RULES") rows) ≡ true
+
+level_has_rules : (words : List Text)
+    → level_passes built_masker [] nothing_held words false ≡ true
+    → HasRules (rows_after built_masker.rules [] words)
+level_has_rules words passes =
+    let end = (fold (walked built_masker.rules []) (walk_from nothing_held) words).held in
+    let rows = finished built_masker.rules end in
+    let walks = both (walk_passes built_masker [] (walk_from nothing_held) words) _ passes in
+    let settles =
+    both (settle_passes built_masker.rules built_masker.args_override_self end) _ walks.1 in
+    let defaults =
+    both (list_all default_passes built_masker.rules) (is_valid built_masker rows false)
+    settles.1 in
+    let have = finished_keeps built_masker [] HaveValues
+    (λ p a values held found. find_all (UseHasValues built_masker.args_override_self) p
+    built_masker.rules a mask_rule found values held)
+    default_added words (walk_from nothing_held) walks.0 settles.0 tt in
+    let needs = both true _ (both true _ defaults.1).1 in
+    let required : list_all (λ a. not a.required || is_given a.id rows) built_masker.rules
+    ≡ true = (both (list_all (λ (a : Rule). a.is_free) built_masker.rules) _ needs.1).1 in
+    first_given (codes "RULES") rows have (both (is_given (codes "RULES") rows) _ required).0
+
+-- ---- what words give that are taken with a subcommand
+
+-- each subcommand of this name is this one
+abbrev IsOnly : Text → Shape → Type 0
+IsOnly word shape =
+    AllByRecursion (λ (s : Shape). bytes_eq s.name word ≡ true → s ≡ shape) (built program).subs
+
+other : {P : Type 0} → false ≡ true → P
+other e = absurd (true≢false (sym e))
+
+only_compare : IsOnly (codes "compare") built_comparer
+only_compare = (
+  other,
+  (other, (other, (other, (other, (other, (other, (λ e. refl, (other, tt)))))))),
+)
+
+only_mask : IsOnly (codes "mask") built_masker
+only_mask = (
+  other,
+  (other, (other, (other, (other, (λ e. refl, (other, (other, (other, tt)))))))),
+)
+
+module _ (word : Text) (shape : Shape) (Has : List Row → Type 0) (only : IsOnly word shape)
+    (level : (words : List Text) → level_passes shape [] nothing_held words false ≡ true
+    → Has (rows_after shape.rules [] words))
+    (words : List Text) (name : Text) (rows : List Row) (is : bytes_eq name word ≡ true) where
   by_found : (p : Text × List Text) (found : Option Shape)
       → find (λ s. answers_to p.0 (label_of s)) (built program).subs ≡ found
       → option_map (λ s. rows_at s p.1) found ≡ Some (name, rows)
       → option_map_or (λ s. level_passes s [] nothing_held p.1 false) found true ≡ true
-      → HasFiles rows
+      → Has rows
   by_found p None found named passes = absurd (let f : ⊥ = cc in f)
   by_found p (Some s) found named passes =
       let name_is : s.name ≡ name =
       ap (λ o. option_map_or (λ (q : Text × List Row). q.0) o []) named in
       let rows_are : rows_after s.rules [] p.1 ≡ rows =
       ap (λ o. option_map_or (λ (q : Text × List Row). q.1) o []) named in
-      let shape : s ≡ built_comparer =
-      find_all (λ (t : Shape). bytes_eq t.name (codes "compare") ≡ true
-      → t ≡ built_comparer) (λ t. answers_to p.0 (label_of t)) (built program).subs s
-      each_subcommand found
-      (ap (λ n. bytes_eq n (codes "compare")) name_is ∙ is) in
-      subst HasFiles (ap (λ (t : Shape). rows_after t.rules [] p.1) (sym shape) ∙ rows_are)
-      (level_has_files p.1 (ap (λ t. level_passes t [] nothing_held p.1 false) (sym shape)
+      let is_shape : s ≡ shape =
+      find_all (λ (t : Shape). bytes_eq t.name word ≡ true
+      → t ≡ shape) (λ t. answers_to p.0 (label_of t)) (built program).subs s only found
+      (ap (λ n. bytes_eq n word) name_is ∙ is) in
+      subst Has (ap (λ (t : Shape). rows_after t.rules [] p.1) (sym is_shape) ∙ rows_are)
+      (level p.1 (ap (λ t. level_passes t [] nothing_held p.1 false) (sym is_shape)
       ∙ passes))
 
   by_stop : (stop : Option (Text × List Text)) → entered (built program) stop ≡ Some (name, rows)
-      → entered_passes (built program) stop ≡ true → HasFiles rows
+      → entered_passes (built program) stop ≡ true → Has rows
   by_stop None named passes = absurd (let f : ⊥ = cc in f)
   by_stop (Some p) named passes =
       by_found p (find (λ s. answers_to p.0 (label_of s)) (built program).subs) refl named passes
 
-  pub has_files : takes program words ≡ true → subcommand_of program words ≡ Some (name, rows)
-      → HasFiles rows
-  has_files taken named =
+  pub has_given : takes program words ≡ true → subcommand_of program words ≡ Some (name, rows)
+      → Has rows
+  has_given taken named =
       let stop = stop_after (built program).top.rules (names_of (built program))
       (argument_words program words) in
       let parse =
@@ -233,21 +275,35 @@ both_files None b some other = absurd (true≢false (sym some))
 both_files (Some a) None some other = absurd (true≢false (sym other))
 both_files (Some a) (Some b) some other = refl
 
-by_name : (compact record_trace normalise check show compare : Bool) (checked : Told)
-    (files : Option Told) → (compare ≡ true → is_some files ≡ true)
-    → (compact || (record_trace || (normalise || (check || (show || compare))))) ≡ true
+mask_there : (rules : Option Text) → is_some rules ≡ true
+    → is_some (option_map line.mask rules) ≡ true
+mask_there None some = some
+mask_there (Some rules) some = refl
+
+by_name : (compact record_trace normalise check show mask rows compare : Bool)
+    (checked row : Told) (masked files : Option Told)
+    → (mask ≡ true → is_some masked ≡ true) → (compare ≡ true → is_some files ≡ true)
+    → (compact
+    || (record_trace || (normalise || (check || (show || (mask || (rows || compare))))))) ≡ true
     → is_some (cond compact (Some line.compact)
     (cond record_trace (Some line.recording)
     (cond normalise (Some line.normalise)
-    (cond check (Some checked) (cond show (Some line.show) (cond compare files None)))))) ≡ true
-by_name true r n k s c checked files both_there one = refl
-by_name false true n k s c checked files both_there one = refl
-by_name false false true k s c checked files both_there one = refl
-by_name false false false true s c checked files both_there one = refl
-by_name false false false false true c checked files both_there one = refl
-by_name false false false false false true checked files both_there one = both_there refl
-by_name false false false false false false checked files both_there one =
-    absurd (true≢false (sym one))
+    (cond check (Some checked)
+    (cond show (Some line.show)
+    (cond mask masked (cond rows (Some row) (cond compare files None)))))))) ≡ true
+by_name true r n k s m o c checked row masked files has both_there one = refl
+by_name false true n k s m o c checked row masked files has both_there one = refl
+by_name false false true k s m o c checked row masked files has both_there one = refl
+by_name false false false true s m o c checked row masked files has both_there one = refl
+by_name false false false false true m o c checked row masked files has both_there one = refl
+by_name false false false false false true o c checked row masked files has both_there one =
+    has refl
+by_name false false false false false false true c checked row masked files has both_there one =
+    refl
+by_name false false false false false false false true checked row masked files has both_there
+    one = both_there refl
+by_name false false false false false false false false checked row masked files has both_there
+    one = absurd (true≢false (sym one))
 
 -- Words that a parse takes with one of the subcommands name a job.
 pub takes_job : (words : List Text) → takes program words ≡ true
@@ -261,9 +317,16 @@ takes_job words taken names = by_subcommand (subcommand_of program words) refl n
     by_subcommand (Some p) is one =
         by_name (bytes_eq p.0 (codes "compact")) (bytes_eq p.0 (codes "record"))
         (bytes_eq p.0 (codes "normalise")) (bytes_eq p.0 (codes "check"))
-        (bytes_eq p.0 (codes "show")) (bytes_eq p.0 (codes "compare"))
+        (bytes_eq p.0 (codes "show")) (bytes_eq p.0 (codes "mask"))
+        (bytes_eq p.0 (codes "rows")) (bytes_eq p.0 (codes "compare"))
         (line.check (is_set (first_of (codes "complete") p.1)))
+        (line.rows (first_of (codes "N") p.1))
+        (option_map line.mask (first_of (codes "RULES") p.1))
         (two_files (first_of (codes "A") p.1) (first_of (codes "B") p.1))
-        (λ compare. let files = has_files words p.0 p.1 compare taken is in both_files
+        (λ masks. mask_there (first_of (codes "RULES") p.1)
+        (has_given (codes "mask") built_masker HasRules only_mask level_has_rules words p.0 p.1
+        masks taken is))
+        (λ compare. let files = has_given (codes "compare") built_comparer HasFiles only_compare
+        level_has_files words p.0 p.1 compare taken is in both_files
         (first_of (codes "A") p.1) (first_of (codes "B") p.1) files.0 files.1)
         one

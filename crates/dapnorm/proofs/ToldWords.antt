@@ -1,5 +1,5 @@
 -- What is told of words is told for what a parse finds in them.
-use Rattle.std.proofs.Common.{◌≡◌, ◌≢◌, ◌⊎◌, inl, inr, refl, sym, subst}
+use Rattle.std.proofs.Common.{◌≡◌, ◌⊎◌, inl, inr}
 use Rattle.clap.specs.Values.{kind_of}
 use Rattle.clap.specs.Words.{HasKind, IsAmong, Kinds}
 use Rattle.clap.specs.declared.error.Error.{Error}
@@ -14,8 +14,7 @@ pub told_for : (kinds : Kinds) (error : Error) (fault : UsageFault) → HasKind 
     → IsToldFor kinds fault
 told_for kinds error (usage.Help text) (inl memory) is told =
     absurd (let wrong = is memory in cc)
-told_for kinds error (usage.Help text) (inr among) is told =
-    subst (λ k. IsAmong k kinds) told among
+told_for kinds error (usage.Help text) (inr among) is told = (kind_of error, among, told)
 told_for kinds error (usage.Usage text) (inl memory) is told =
     absurd (let wrong = is memory in cc)
 told_for kinds error (usage.Usage text) (inr among) is told = inr (kind_of error, among, told)

@@ -29,6 +29,11 @@ complete_flag =
 abbrev pub checker : App
 checker = with_rule (new_app (codes "check")) complete_flag
 
+-- the subcommand `rows`, with the number of a row
+abbrev pub row_teller : App
+row_teller =
+    with_rule (new_app (codes "rows")) (record (new_rule (codes "N")) { action = Some Set })
+
 -- the name of a file, which is needed
 abbrev pub file : Text → Rule
 file name = record (new_rule name) { required = true; action = Some Set }
@@ -37,10 +42,14 @@ file name = record (new_rule name) { required = true; action = Some Set }
 abbrev pub comparer : App
 comparer = with_rule (with_rule (new_app (codes "compare")) (file (codes "A"))) (file (codes "B"))
 
--- the command, which wants a subcommand
+-- the subcommand `mask`, with the file of its rules
+abbrev pub masker : App
+masker = with_rule (new_app (codes "mask")) (file (codes "RULES"))
+
+-- the command, which has a version and wants a subcommand
 abbrev pub bare : App
 bare = record (new_app (codes "dapnorm")) {
-  top = record (new_app (codes "dapnorm")).top { subcommand_required = true };
+  top = record (new_app (codes "dapnorm")).top { has_version = true; subcommand_required = true };
 }
 
 -- what a parse reads of the program's command
@@ -50,9 +59,13 @@ program =
     (with_subcommand
     (with_subcommand
     (with_subcommand
+    (with_subcommand
+    (with_subcommand
     (with_subcommand (with_subcommand bare (plain (codes "compact")).top)
     (plain (codes "record")).top) (plain (codes "normalise")).top) checker.top)
     (plain (codes "show")).top)
+    masker.top)
+    row_teller.top)
     comparer.top
 
 -- The command is this one, and its subcommands inherit no argument.
@@ -66,6 +79,8 @@ pub data Told : Type 0 where
   normalise : Told
   check : Bool → Told
   show : Told
+  mask : Text → Told
+  rows : Option Text → Told
   compare : Text → Text → Told
 
 abbrev pub told : Job → Told
@@ -74,6 +89,8 @@ told job.Record = recording
 told job.Normalise = normalise
 told (job.Check complete) = check complete
 told job.Show = show
+told (job.Mask rules) = mask rules.now
+told (job.Rows number) = rows (option_map (λ text. text.now) number)
 told (job.Compare a b) = compare a.now b.now
 
 -- the text behind a reference that may be there
@@ -92,15 +109,17 @@ two_files _ _ = None
 
 -- the job of a subcommand with the words that it was given
 abbrev pub job_of : Text → List Row → Option Told
-job_of name rows =
+job_of name given =
     if bytes_eq name (codes "compact") then Some compact
     else if bytes_eq name (codes "record") then Some recording
     else if bytes_eq name (codes "normalise") then Some normalise
     else if bytes_eq name (codes "check") then Some
-    (check (is_set (first_of (codes "complete") rows)))
+    (check (is_set (first_of (codes "complete") given)))
     else if bytes_eq name (codes "show") then Some show
-    else if bytes_eq name (codes "compare") then two_files (first_of (codes "A") rows)
-    (first_of (codes "B") rows)
+    else if bytes_eq name (codes "mask") then option_map mask (first_of (codes "RULES") given)
+    else if bytes_eq name (codes "rows") then Some (rows (first_of (codes "N") given))
+    else if bytes_eq name (codes "compare") then two_files (first_of (codes "A") given)
+    (first_of (codes "B") given)
     else None
 
 -- The subcommand is one of the program's.
@@ -111,22 +130,31 @@ names_job (Some p) =
     || (bytes_eq p.0 (codes "record")
     || (bytes_eq p.0 (codes "normalise")
     || (bytes_eq p.0 (codes "check")
-    || (bytes_eq p.0 (codes "show") || bytes_eq p.0 (codes "compare")))))
+    || (bytes_eq p.0 (codes "show")
+    || (bytes_eq p.0 (codes "mask")
+    || (bytes_eq p.0 (codes "rows") || bytes_eq p.0 (codes "compare")))))))
 
 abbrev pub job_named : Option (Text × List Row) → Option Told
 job_named = option_and_then (λ p. job_of p.0 p.1)
 
--- What is told of an error of this kind: help that was asked for, or else a mistake; or that memory
--- was wanting.
+-- Help or the version is asked for, which is no mistake.
+abbrev pub is_asked : ErrorKind → Bool
+is_asked kind.DisplayHelp = true
+is_asked kind.DisplayVersion = true
+is_asked found = false
+
+-- What is told of an error of this kind: a text that was asked for, or else a mistake; or that
+-- memory was wanting.
 abbrev pub IsToldOf : ErrorKind → UsageFault → Type 0
-IsToldOf found (usage.Help text) = found ≡ kind.DisplayHelp
-IsToldOf found (usage.Usage text) = found ≢ kind.DisplayHelp
+IsToldOf found (usage.Help text) = is_asked found ≡ true
+IsToldOf found (usage.Usage text) = is_asked found ≡ false
 IsToldOf found usage.Memory = Unit {0}
 
--- What is told of words with which a parse finds these kinds of errors: help where they ask for it,
--- a mistake where they make another one or name no job, or that memory was wanting.
+-- What is told of words with which a parse finds these kinds of errors: a text where they ask for
+-- it, a mistake where they make one or name no job, or that memory was wanting.
 abbrev pub IsToldFor : Kinds → UsageFault → Type 0
-IsToldFor kinds (usage.Help text) = IsAmong kind.DisplayHelp kinds
+IsToldFor kinds (usage.Help text) =
+    (found : ErrorKind) × IsAmong found kinds × (is_asked found ≡ true)
 IsToldFor kinds (usage.Usage text) =
-    (kinds ≡ []) ⊎ ((found : ErrorKind) × IsAmong found kinds × (found ≢ kind.DisplayHelp))
+    (kinds ≡ []) ⊎ ((found : ErrorKind) × IsAmong found kinds × (is_asked found ≡ false))
 IsToldFor kinds usage.Memory = Unit {0}

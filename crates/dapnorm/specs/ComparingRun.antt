@@ -1,7 +1,9 @@
 -- What the program tells of comparing. Source: own.
-use Rattle.std.specs.Prelude.{◌≡◌, ◌⊎◌, ℕ, List, [], ◌++◌, Option, Result, Ok, Err, codes, decimal}
+use Rattle.std.specs.Prelude.{◌≡◌, ◌⊎◌, ℕ, List, [], ◌++◌, Result, Ok, Err, codes, decimal}
 use Rattle.std.specs.Fmt.{signed_decimal}
 use Rattle.std.specs.List.{flat_map}
+use Rattle.dap_device.specs.declared.device.Source.{Ghosts as Source}
+use Rattle.dap_device.specs.declared.device.Sink.{Ghosts as Sink}
 use Rattle.dap_tree.specs.declared.sort.Sort.{Sort}
 use Rattle.dap_tree.specs.declared.sort.Sort.TheVariants.{ClientSeq, AdapterSeq, Frame, Reference}
 use Rattle.dap_rename.specs.declared.pair.Pair.{Pair}
@@ -12,7 +14,7 @@ use Rattle.dap_compare.specs.declared.verdict.CompareRefused.TheVariants.{Input,
 use Rattle.dap_compare.specs.declared.verdict.Verdict.{Verdict}
 use Rattle.dap_compare.specs.declared.verdict.Verdict.TheVariants.{Same, Differ}
 use Rattle.dap_input.specs.declared.refused.Refused.TheVariants.{WriteFault}
-use Rattle.dap_device.specs.Device.{AllWritten, FrontWritten}
+use Rattle.dap_device.specs.Written.{AllSent, FrontWritten}
 use Rattle.dapnorm.specs.FaultLine.{compare_refused_text, fault_line, refused_text}
 use Rattle.dapnorm.specs.Run.{HasSent, refused_status}
 use Rattle.dap_compare.specs.Verdicts.{Compares}
@@ -52,28 +54,23 @@ abbrev pub refusal_status : CompareRefused → ℕ
 refusal_status (Input which refused) = refused_status refused
 refusal_status Memory = 5
 
-module _ {W E : Type 0} (out : W → Option (List ℕ)) (write_failures : W → ℕ) (told : E
-    → Option (List ℕ)) (error_failures : E → ℕ) where
-  -- The lines of a verdict go out; or a front of them and the writer fails, and that is told. Of a
-  -- refusal nothing goes out, and it is told.
+module _ {W E : Type 0} (sink : Sink W) (errors : Sink E) where
+  -- The lines of a verdict go out and are flushed; or a front of them goes out and the writer
+  -- fails, and that is told. Of a refusal nothing goes out, and it is told.
   abbrev pub ComparisonIsTold : Result Verdict CompareRefused → W → W → E → E → ℕ → Type 0
   ComparisonIsTold (Ok verdict) before after old new status =
-      (AllWritten out write_failures before after (verdict_text verdict) × (new ≡ old)
+      (AllSent sink before after (verdict_text verdict) × (new ≡ old)
       × (status ≡ verdict_status verdict))
-      ⊎ (FrontWritten out write_failures before after (verdict_text verdict)
-      × HasSent told error_failures old new (fault_line (refused_text WriteFault)) × (status ≡ 4))
+      ⊎ (FrontWritten sink before after (verdict_text verdict)
+      × HasSent errors old new (fault_line (refused_text WriteFault)) × (status ≡ 4))
   ComparisonIsTold (Err because) before after old new status = (after ≡ before)
-      × HasSent told error_failures old new (fault_line (compare_refused_text because))
+      × HasSent errors old new (fault_line (compare_refused_text because))
       × (status ≡ refusal_status because)
 
 -- What `compare` answers of the readers is printed or told.
-pub record CompareIsTold {R S W E : Type 0} (left_a : R → Option (List ℕ)) (given_a failures_a : R
-    → ℕ) (left_b : S → Option (List ℕ)) (given_b failures_b : S → ℕ)
-    (out : W → Option (List ℕ)) (write_failures : W
-    → ℕ) (told : E → Option (List ℕ)) (error_failures : E → ℕ) (limits : Limits) (old_a new_a : R)
-    (old_b new_b : S) (before after : W) (silent spoken : E) (status : ℕ) : Type 0 where
+pub record CompareIsTold {R S W E : Type 0} (source_a : Source R) (source_b : Source S)
+    (sink : Sink W) (errors : Sink E) (limits : Limits) (old_a new_a : R) (old_b new_b : S)
+    (before after : W) (silent spoken : E) (status : ℕ) : Type 0 where
   pub answer : Result Verdict CompareRefused
-  pub compares : Compares left_a given_a failures_a left_b given_b failures_b limits old_a new_a
-      old_b new_b answer
-  pub tells : ComparisonIsTold out write_failures told error_failures answer before after silent
-      spoken status
+  pub compares : Compares source_a source_b limits old_a new_a old_b new_b answer
+  pub tells : ComparisonIsTold sink errors answer before after silent spoken status

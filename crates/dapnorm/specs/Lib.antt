@@ -1,6 +1,8 @@
 pub mod CommandLine
 pub mod ComparingRun
 pub mod FaultLine
+pub mod MaskRun
+pub mod RowsRun
 pub mod Run
 pub use Rattle.dap_compact.specs.Compacting
 pub use Rattle.dap_compare.specs.Comparing
@@ -10,6 +12,10 @@ pub use Rattle.dap_input.specs.Inputs
 pub use Rattle.dap_input.specs.Judging
 pub use Rattle.dap_input.specs.Limits
 pub use Rattle.dap_input.specs.ReadTo
+pub use Rattle.dap_mask.specs.Mask
+pub use Rattle.dap_mask.specs.RulesFile
+pub use Rattle.dap_mask_input.specs.MaskedRecordings
+pub use Rattle.dap_mask_input.specs.Masking
 pub use Rattle.dap_normal.specs.Accepting
 pub use Rattle.dap_normal.specs.Checking
 pub use Rattle.dap_normal.specs.HeldMessages
@@ -17,6 +23,7 @@ pub use Rattle.dap_normal.specs.NameTables
 pub use Rattle.dap_normal.specs.Normalised
 pub use Rattle.dap_normal.specs.Normalising
 pub use Rattle.dap_normal.specs.Streaming
+pub use Rattle.dap_rows.specs.RowLines
 pub use Rattle.dap_show.specs.Showing
 pub use Rattle.dap_trace.specs.Tracing
 pub use Rattle.dap_trace.specs.TracingRun

@@ -1,6 +1,8 @@
 -- What the program tells of a job. Source: own.
-use Rattle.std.specs.Prelude.{◌≡◌, ◌⊎◌, ℕ, ◌++◌, Bool, List, Option, Result, Ok, Err, codes}
+use Rattle.std.specs.Prelude.{◌≡◌, ◌⊎◌, ℕ, ◌++◌, Bool, List, Result, Ok, Err, codes}
 use Rattle.std.specs.Prelude.{decimal, string_bytes}
+use Rattle.dap_device.specs.declared.device.Source.{Ghosts as Source}
+use Rattle.dap_device.specs.declared.device.Sink.{Ghosts as Sink}
 use Rattle.dap_normal.specs.declared.checked.Checked.{Checked}
 use Rattle.dapnorm.specs.FaultLine.{fault_line, refused_text}
 use Rattle.dapnorm.specs.declared.jobs.UsageFault.{UsageFault}
@@ -9,7 +11,7 @@ use Rattle.dap_input.specs.declared.limits.Limits.{Limits}
 use Rattle.dap_input.specs.declared.refused.Refused.{Refused}
 use Rattle.dap_input.specs.declared.refused.Refused.TheVariants.{ReadFault, WriteFault, Memory}
 use Rattle.dap_normal.specs.Checking.{Checks}
-use Rattle.dap_device.specs.Device.{AllWritten, FrontWritten}
+use Rattle.dap_device.specs.Written.{AllSent, FrontWritten}
 
 -- the status of the program where an engine gave up: a device failed, memory was wanting, or the
 -- input is refused
@@ -24,11 +26,10 @@ abbrev pub status_of : {U : Type 0} → Result U Refused → ℕ
 status_of (Ok done) = 0
 status_of (Err refused) = refused_status refused
 
-module _ {S : Type 0} (out : S → Option (List ℕ)) (failures : S → ℕ) where
-  -- The text went out, or a front of it and the device failed.
+module _ {S : Type 0} (sink : Sink S) where
+  -- The text went out and was flushed, or a front of it went out and the device failed.
   abbrev pub HasSent : S → S → List ℕ → Type 0
-  HasSent old new text = AllWritten out failures old new text
-      ⊎ FrontWritten out failures old new text
+  HasSent old new text = AllSent sink old new text ⊎ FrontWritten sink old new text
 
   -- Of an answer its refusal is told, in one line, and of what was done nothing.
   abbrev pub IsTold : S → S → Result (Unit {0}) Refused → Type 0
@@ -49,46 +50,43 @@ accepted_line checked =
     codes "accepted records=" ++ decimal checked.records ++ codes " open="
     ++ decimal checked.client_open ++ codes "," ++ decimal checked.adapter_open ++ codes "\n"
 
-module _ {W : Type 0} (out : W → Option (List ℕ)) (failures : W → ℕ) where
-  -- The text goes out, and the status is this; or a front of it and the writer fails, and the
-  -- status is that of a device that failed.
+module _ {W : Type 0} (sink : Sink W) where
+  -- The text goes out and is flushed, and the status is this; or a front of it goes out and the
+  -- writer fails, and the status is that of a device that failed.
   abbrev pub IsSent : W → W → List ℕ → ℕ → ℕ → Type 0
   IsSent before after text done status =
-      (AllWritten out failures before after text × (status ≡ done))
-      ⊎ (FrontWritten out failures before after text × (status ≡ 4))
+      (AllSent sink before after text × (status ≡ done))
+      ⊎ (FrontWritten sink before after text × (status ≡ 4))
 
-  -- The line of what `check` accepts goes out, or a front of it and the writer fails. Of a refusal
-  -- nothing goes out.
+  -- The line of what `check` accepts goes out and is flushed, or a front of it goes out and the
+  -- writer fails. Of a refusal nothing goes out.
   abbrev pub CheckIsPrinted : Result Checked Refused → W → W → Result (Unit {0}) Refused → Type 0
   CheckIsPrinted (Ok checked) before after (Ok done) =
-      AllWritten out failures before after (accepted_line checked)
+      AllSent sink before after (accepted_line checked)
   CheckIsPrinted (Ok checked) before after (Err WriteFault) =
-      FrontWritten out failures before after (accepted_line checked)
+      FrontWritten sink before after (accepted_line checked)
   CheckIsPrinted (Ok checked) before after (Err refused) = ⊥
   CheckIsPrinted (Err refused) before after ended = (after ≡ before) × (ended ≡ Err refused)
 
 -- What `check` answers of the reader is printed. Where it is refused, or cannot be printed, that is
 -- told.
-pub record CheckIsTold {R W E : Type 0} (left : R → Option (List ℕ)) (given read_failures : R
-    → ℕ) (out : W → Option (List ℕ)) (write_failures : W → ℕ) (told : E
-    → Option (List ℕ)) (error_failures : E → ℕ)
+pub record CheckIsTold {R W E : Type 0} (source : Source R) (sink : Sink W) (errors : Sink E)
     (limits : Limits) (complete : Bool) (old new : R) (before after : W) (silent spoken : E)
     (status : ℕ) : Type 0 where
   pub answer : Result Checked Refused
-  pub checks : Checks left given read_failures limits complete old new answer
+  pub checks : Checks source limits complete old new answer
   pub ended : Result (Unit {0}) Refused
-  pub printed : CheckIsPrinted out write_failures answer before after ended
-  pub tells : IsTold told error_failures silent spoken ended
+  pub printed : CheckIsPrinted sink answer before after ended
+  pub tells : IsTold errors silent spoken ended
   pub status_is : status ≡ status_of ended
 
-module _ {W E : Type 0} (out : W → Option (List ℕ)) (write_failures : W → ℕ) (told : E
-    → Option (List ℕ)) (error_failures : E → ℕ) where
+module _ {W E : Type 0} (sink : Sink W) (errors : Sink E) where
   -- Help goes to the output, and the mistake of a user to the errors; and so does the line that
   -- memory was wanting.
   abbrev pub TellsUsage : UsageFault → W → W → E → E → ℕ → Type 0
   TellsUsage (usage.Help text) before after old new status =
-      IsSent out write_failures before after (string_bytes text) 0 status × (new ≡ old)
+      IsSent sink before after (string_bytes text) 0 status × (new ≡ old)
   TellsUsage (usage.Usage text) before after old new status = (status ≡ 3)
-      × HasSent told error_failures old new (string_bytes text) × (after ≡ before)
+      × HasSent errors old new (string_bytes text) × (after ≡ before)
   TellsUsage usage.Memory before after old new status = (status ≡ 5)
-      × HasSent told error_failures old new (fault_line (refused_text Memory)) × (after ≡ before)
+      × HasSent errors old new (fault_line (refused_text Memory)) × (after ≡ before)

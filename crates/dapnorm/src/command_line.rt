@@ -5,8 +5,10 @@ ghost use Rattle.clap.specs.Words.{fault_of as faults_of, app_of, found_of, rows
 ghost use Rattle.clap.specs.Words.{subcommand_rows_of, takes, kind_of, with_subcommand};
 ghost use Rattle.clap.specs.declared.Command.TheViews.{out-Command as fields_of};
 ghost use Rattle.dapnorm.specs.CommandLine.{IsCommand, IsToldFor, IsToldOf, bare, checker};
-ghost use Rattle.dapnorm.specs.CommandLine.{comparer, is_set, plain};
-ghost use Rattle.dapnorm.specs.CommandLine.{job_named, job_of, names_job, program, text_in, told};
+ghost use Rattle.dapnorm.specs.CommandLine.{comparer, is_asked, is_set, plain};
+ghost use Rattle.dapnorm.specs.CommandLine.{mask, masker};
+ghost use Rattle.dapnorm.specs.CommandLine.{job_named, job_of, names_job, program, row_teller};
+ghost use Rattle.dapnorm.specs.CommandLine.{text_in, told};
 ghost use Rattle.dapnorm.specs.CommandLine.{two_files};
 ghost use Rattle.dapnorm.specs.declared.jobs.UsageFault.TheVariants.{Memory};
 
@@ -15,11 +17,15 @@ use clap::error::ErrorKind;
 use clap::{Arg, ArgAction, ArgMatches, Command, Error};
 use std::alloc::{AllocError, Global};
 
+/// The version of the program, and what it checks recordings against.
+const VERSION: &str = "0.1.0 (profile of 139 rows)";
+
 /// The program's command before its subcommands.
 fn bare_command<'a>(alloc: Global) -> Command<'a>
     ensures { app_of result ≡ bare }
 {
     Command::new(alloc, "dapnorm")
+        .version(VERSION)
         .about("Records and normalises sessions of the Debug Adapter Protocol")
         .subcommand_required(true)
 }
@@ -30,11 +36,12 @@ fn with_plain<'a>(
     alloc: Global,
     name: &'a str,
     about: &'a str,
+    example: &'a str,
 ) -> Result<Command<'a>, AllocError>
     ensures { IfOk result (λ c. app_of c
         ≡ with_subcommand (app_of command.entry) (plain name.entry.now).top) }
 {
-    command.subcommand(Command::new(alloc, name).about(about))
+    command.subcommand(Command::new(alloc, name).about(about).after_help(example))
 }
 
 /// The subcommand `check`.
@@ -68,13 +75,42 @@ fn compare_command<'a>(alloc: Global) -> Result<Command<'a>, AllocError>
         .arg(second)
 }
 
+/// The subcommand `mask`.
+fn mask_command<'a>(alloc: Global) -> Result<Command<'a>, AllocError>
+    ensures { IfOk result (IsCommand masker) }
+{
+    let rules = Arg::new(alloc, "RULES")
+        .required(true)
+        .action(ArgAction::Set)
+        .help("The file of the rules");
+    Command::new(alloc, "mask")
+        .about("Takes away of a recording what changes from run to run, as the rules say")
+        .arg(rules)
+}
+
+/// The subcommand `rows`.
+fn rows_command<'a>(alloc: Global) -> Result<Command<'a>, AllocError>
+    ensures { IfOk result (IsCommand row_teller) }
+{
+    let number = Arg::new(alloc, "N")
+        .action(ArgAction::Set)
+        .help("The number of a row");
+    Command::new(alloc, "rows")
+        .about("Prints the rows of the profile, or row N")
+        .arg(number)
+}
+
 /// A subcommand is added to `command`.
-fn with_other<'a>(command: Command<'a>, other: Command<'a>) -> Result<Command<'a>, AllocError>
+fn with_other<'a>(
+    command: Command<'a>,
+    other: Command<'a>,
+    example: &'a str,
+) -> Result<Command<'a>, AllocError>
     requires { (fields_of other).has_globals ≡ false }
     ensures { IfOk result (λ c. app_of c
         ≡ with_subcommand (app_of command.entry) (app_of other.entry).top) }
 {
-    command.subcommand(other)
+    command.subcommand(other.after_help(example))
 }
 
 /// The definition of the command line.
@@ -83,32 +119,52 @@ fn command<'a>(alloc: Global) -> Result<Command<'a>, AllocError>
 {
     let check = check_command(alloc)?;
     let compare = compare_command(alloc)?;
+    let mask = mask_command(alloc)?;
+    let rows = rows_command(alloc)?;
     let compact = with_plain(
         bare_command(alloc),
         alloc,
         "compact",
         "Makes the contents of frames canonical, from standard input to standard output",
+        "Example: dapnorm compact < session.frames > session.compact",
     )?;
     let tracing = with_plain(
         compact,
         alloc,
         "record",
         "Makes a recording of a trace, from standard input to standard output",
+        "Example: dapnorm record < session.trace > session.rec",
     )?;
     let normalise = with_plain(
         tracing,
         alloc,
         "normalise",
         "Writes the normal form of a recording, from standard input to standard output",
+        "Example: dapnorm normalise < session.rec > session.golden",
     )?;
-    let judged = with_other(normalise, check)?;
+    let judged = with_other(
+        normalise,
+        check,
+        "Example: dapnorm check --complete < session.rec",
+    )?;
     let showing = with_plain(
         judged,
         alloc,
         "show",
         "Prints a recording in lines, from standard input to standard output",
+        "Example: dapnorm show < session.rec",
     )?;
-    with_other(showing, compare)
+    let masking = with_other(
+        showing,
+        mask,
+        "Example: dapnorm mask lldb.mask < session.rec > session.masked",
+    )?;
+    let telling = with_other(masking, rows, "Example: dapnorm rows 62")?;
+    with_other(
+        telling,
+        compare,
+        "Example: dapnorm compare session.golden session.rec",
+    )
 }
 
 /// Whether a flag's value is there and set.
@@ -131,6 +187,16 @@ fn both<'a>(first: Option<&'a str>, second: Option<&'a str>) -> Option<Job<'a>>
     }
 }
 
+/// The masking by a file of rules, where it is named.
+fn masking<'a>(rules: Option<&'a str>) -> Option<Job<'a>>
+    ensures { option_map told result ≡ option_map mask (text_in rules.entry) }
+{
+    match rules {
+        Some(rules) => Some(Job::Mask { rules }),
+        None => None,
+    }
+}
+
 /// The job of a subcommand with its matches.
 fn job_by<'a>(name: &str, rows: &ArgMatches<'a>) -> Option<Job<'a>>
     ensures { option_map told result ≡ job_of name.now (rows_of (found_of rows.now)) }
@@ -144,6 +210,10 @@ fn job_by<'a>(name: &str, rows: &ArgMatches<'a>) -> Option<Job<'a>>
             Some(Job::Check { complete })
         }
         "show" => Some(Job::Show),
+        "mask" => masking(rows.get_str("RULES")),
+        "rows" => Some(Job::Rows {
+            number: rows.get_str("N"),
+        }),
         "compare" => both(rows.get_str("A"), rows.get_str("B")),
         _ => None,
     }
@@ -159,7 +229,7 @@ fn told_by<'a>(matches: &ArgMatches<'a>) -> Option<Job<'a>>
     }
 }
 
-/// The text for the user: help that was asked for, or a mistake.
+/// The text for the user: help or the version that was asked for, or a mistake.
 fn fault_of(alloc: Global, error: &Error) -> UsageFault
     ensures memory { kind_of error.now ≡ ErrorKind.OutOfMemory → result ≡ Memory }
     ensures told { IsToldOf (kind_of error.now) result }
@@ -168,10 +238,17 @@ fn fault_of(alloc: Global, error: &Error) -> UsageFault
         return UsageFault::Memory;
     }
     match format!(in alloc; "{error}") {
-        Ok(text) if error.kind() == ErrorKind::DisplayHelp => UsageFault::Help(text),
+        Ok(text) if is_asked(error.kind()) => UsageFault::Help(text),
         Ok(text) => UsageFault::Usage(text),
         Err(_) => UsageFault::Memory,
     }
+}
+
+/// Whether the words ask for help or for the version, which are no mistakes.
+fn is_asked(kind: ErrorKind) -> bool
+    ensures { result ≡ is_asked kind }
+{
+    matches!(kind, ErrorKind::DisplayHelp | ErrorKind::DisplayVersion)
 }
 
 /// The fault of words that a parse takes and that name no job. No words are known that do.
@@ -188,7 +265,8 @@ fn no_job(alloc: Global) -> UsageFault
 ///
 /// # Errors
 ///
-/// `Help` where help is asked for, `Usage` with `clap`'s text where the words are wrong, `Memory`.
+/// `Help` where help or the version is asked for, `Usage` with `clap`'s text where the words are
+/// wrong, `Memory`.
 pub fn job<'a>(alloc: Global, words: &'a [&'a str]) -> Result<Job<'a>, UsageFault>
     // The job is the one that clap's own definition of the command finds in the words.
     ensures ok { IfOk result
@@ -202,8 +280,8 @@ pub fn job<'a>(alloc: Global, words: &'a [&'a str]) -> Result<Job<'a>, UsageFaul
         → names_job (subcommand_of program (map (λ w. w.now) words.entry.now)) ≡ true
         → fault ≡ Memory) }
 
-    // Help is told where that definition finds that the words ask for it, and a mistake where it
-    // finds another error, or no job.
+    // Help or the version is told where that definition finds that the words ask for it, and a
+    // mistake where it finds another error, or no job.
     ensures told { IfErr result
         (IsToldFor (faults_of program (map (λ w. w.now) words.entry.now))) }
 {

@@ -4,7 +4,7 @@ ghost use Rattle.std.specs.List.{flat_map};
 ghost use Rattle.dapnorm.specs.ComparingRun.{CompareIsTold, first_line, pair_line, pairs_in};
 ghost use Rattle.dapnorm.specs.ComparingRun.{refusal_status, sort_word, verdict_status};
 ghost use Rattle.dapnorm.specs.ComparingRun.{verdict_text};
-ghost use Rattle.dap_device.specs.Device.{HasWrittenAll};
+ghost use Rattle.dap_device.specs.Written.{HasSentAll, HasWrittenAll};
 ghost use Rattle.dap_input.specs.Limits.{AreSound};
 ghost use Rattle.dap_normal.specs.NameTables.{AreReady};
 
@@ -77,8 +77,7 @@ fn pairs(verdict: &Verdict) -> &[Pair]
 /// Sends the lines of pairs out.
 fn write_pairs<W: Sink>(writer: &mut W, pairs: &[Pair]) -> Result<(), DeviceFault>
     requires { W.failures writer.old < 2 ^ 63 }
-    ensures { HasWrittenAll W.out W.failures writer.old writer.new result
-        (flat_map pair_line pairs.now) }
+    ensures { HasWrittenAll W.Sink writer.old writer.new result (flat_map pair_line pairs.now) }
 {
     for pair in pairs {
         write_all(writer, line_of(*pair).as_bytes())?;
@@ -89,7 +88,7 @@ fn write_pairs<W: Sink>(writer: &mut W, pairs: &[Pair]) -> Result<(), DeviceFaul
 /// Sends the lines of a verdict out and flushes.
 fn print<W: Sink>(writer: &mut W, verdict: &Verdict) -> Result<(), DeviceFault>
     requires { W.failures writer.old < 2 ^ 62 }
-    ensures { HasWrittenAll W.out W.failures writer.old writer.new result (verdict_text verdict.now) }
+    ensures { HasSentAll W.Sink writer.old writer.new result (verdict_text verdict.now) }
 {
     write_all(writer, first_line_of(verdict).as_bytes())?;
     write_pairs(writer, pairs(verdict))?;
@@ -141,11 +140,10 @@ pub fn run_compare<A: Source, B: Source, W: Sink, E: Sink>(
     requires write_failures { W.failures writer.old < 2 ^ 62 }
     requires error_failures { E.failures errors.old < 2 ^ 62 }
 
-    // The output is the lines of the verdict, a refusal is told, and so is a writer that failed;
-    // and the status is that of what was answered or told.
-    ensures told { CompareIsTold A.left A.given A.failures B.left B.given B.failures W.out
-        W.failures E.out E.failures limits reader_a.old reader_a.new reader_b.old reader_b.new
-        writer.old writer.new errors.old errors.new result }
+    // The output is the lines of the verdict, flushed, a refusal is told, and so is a writer that
+    // failed; and the status is that of what was answered or told.
+    ensures told { CompareIsTold A.Source B.Source W.Sink E.Sink limits reader_a.old reader_a.new
+        reader_b.old reader_b.new writer.old writer.new errors.old errors.new result }
 
     // It takes at most one byte past the limit of each.
     ensures taken_a { A.given reader_a.new ≤ A.given reader_a.old + limits.input + 1 }
@@ -186,9 +184,8 @@ pub fn run_compare_with<A: Source, B: Source, W: Sink, E: Sink, T: NameTable + D
     requires error_failures { E.failures errors.old < 2 ^ 62 }
 
     // What `run_compare` promises, whatever the tables are.
-    ensures told { CompareIsTold A.left A.given A.failures B.left B.given B.failures W.out
-        W.failures E.out E.failures limits reader_a.old reader_a.new reader_b.old reader_b.new
-        writer.old writer.new errors.old errors.new result }
+    ensures told { CompareIsTold A.Source B.Source W.Sink E.Sink limits reader_a.old reader_a.new
+        reader_b.old reader_b.new writer.old writer.new errors.old errors.new result }
     ensures taken_a { A.given reader_a.new ≤ A.given reader_a.old + limits.input + 1 }
     ensures taken_b { B.given reader_b.new ≤ B.given reader_b.old + limits.input + 1 }
 {

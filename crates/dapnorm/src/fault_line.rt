@@ -201,7 +201,7 @@ fn compare_fault_line(refused: CompareRefused) -> ArrayString<LINE>
 /// Sends a line to the errors. A failure to write it is not told.
 fn send<E: Sink>(errors: &mut E, line: &ArrayString<LINE>)
     requires { E.failures errors.old < 2 ^ 63 }
-    ensures { HasSent E.out E.failures errors.old errors.new line.now.bytes }
+    ensures { HasSent E.Sink errors.old errors.new line.now.bytes }
 {
     let _ = write_and_flush(errors, line.as_bytes());
 }
@@ -209,7 +209,7 @@ fn send<E: Sink>(errors: &mut E, line: &ArrayString<LINE>)
 /// Tells a refusal in one line.
 pub(crate) fn tell<E: Sink>(errors: &mut E, refused: Refused)
     requires { E.failures errors.old < 2 ^ 63 }
-    ensures { HasSent E.out E.failures errors.old errors.new (fault_line (refused_text refused)) }
+    ensures { HasSent E.Sink errors.old errors.new (fault_line (refused_text refused)) }
 {
     send(errors, &fault_line(refused));
 }
@@ -217,7 +217,7 @@ pub(crate) fn tell<E: Sink>(errors: &mut E, refused: Refused)
 /// Tells the refusal of one of two inputs in one line.
 pub(crate) fn tell_of_input<E: Sink>(errors: &mut E, refused: CompareRefused)
     requires { E.failures errors.old < 2 ^ 63 }
-    ensures { HasSent E.out E.failures errors.old errors.new
+    ensures { HasSent E.Sink errors.old errors.new
         (fault_line (compare_refused_text refused)) }
 {
     send(errors, &compare_fault_line(refused));

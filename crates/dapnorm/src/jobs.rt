@@ -13,6 +13,10 @@ pub enum Job<'a> {
     Check { complete: bool },
     /// Print a recording in lines.
     Show,
+    /// Mask a recording by the rules of the file of this name.
+    Mask { rules: &'a str },
+    /// Print the rows of the profile, or the one whose number this text writes.
+    Rows { number: Option<&'a str> },
     /// Compare the recordings of two files, by their names.
     Compare { a: &'a str, b: &'a str },
 }
@@ -22,7 +26,7 @@ pub enum Job<'a> {
 pub enum UsageFault {
     /// The words are wrong: what is wrong with them, for the user.
     Usage(String),
-    /// Help was asked for: the text of it.
+    /// Help or the version was asked for: the text of it.
     Help(String),
     /// Memory was refused.
     Memory,

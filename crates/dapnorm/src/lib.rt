@@ -6,6 +6,8 @@ mod compare_run;
 mod fault_line;
 mod jobs;
 pub mod laws;
+mod mask_run;
+mod rows_run;
 mod run_job;
 mod status;
 
@@ -15,6 +17,8 @@ pub use dap_compact::compact;
 pub use dap_compare::{CompareRefused, Verdict, Which, compare, compare_with};
 pub use dap_device::{DeviceFault, MemorySink, MemorySource, Sink, Source, StdSink, StdSource};
 pub use dap_input::{Limits, Refused};
+pub use dap_mask::{MaskRules, RulesCause, RulesFault};
+pub use dap_mask_input::mask;
 pub use dap_message::MessageFault;
 pub use dap_normal::{
     Checked, Normalised, check, check_with, normalise, normalise_bytes, normalise_with,
@@ -25,4 +29,5 @@ pub use dap_session::Rule;
 pub use dap_show::show;
 pub use dap_trace::record;
 pub use jobs::{Job, UsageFault};
+pub use mask_run::run_mask;
 pub use run_job::{run_stream, run_stream_with, run_usage};

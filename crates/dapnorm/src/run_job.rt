@@ -1,11 +1,14 @@
 //! Does a job, and tells of it what the program tells: lines and a status.
-ghost use Rattle.std.specs.Prelude.{◌≡◌, ◌+◌, ◌<◌, ◌≤◌, ◌^◌, Bool};
+ghost use Rattle.std.specs.Prelude.{◌≡◌, ℕ, ◌+◌, ◌<◌, ◌≤◌, ◌^◌, Bool, List, Option, option_map};
+ghost use Rattle.std.specs.Borrow.{Bor};
 ghost use Rattle.dap_compact.specs.Compacting.{Compacts, compacting};
 ghost use Rattle.dap_input.specs.Engine.{Answers};
 ghost use Rattle.dap_input.specs.Limits.{AreSound};
 ghost use Rattle.dap_input.specs.Refusals.{IsRefused};
 ghost use Rattle.dap_normal.specs.NameTables.{AreReady};
 ghost use Rattle.dap_normal.specs.Streaming.{Streams};
+ghost use Rattle.dap_rows.specs.RowLines.{lines_of};
+ghost use Rattle.dapnorm.specs.RowsRun.{TellsRows};
 ghost use Rattle.dapnorm.specs.Run.{Answered, CheckIsPrinted, CheckIsTold, IsTold};
 ghost use Rattle.dapnorm.specs.Run.{TellsUsage, accepted_line, status_of};
 ghost use Rattle.dap_show.specs.Showing.{IsShownBy, showing};
@@ -13,6 +16,7 @@ ghost use Rattle.dap_trace.specs.TracingRun.{RecordsTrace};
 
 use crate::fault_line::{LINE, tell};
 use crate::jobs::{Job, UsageFault};
+use crate::rows_run::tell_rows;
 use crate::status::{DONE, FAULT, MEMORY, USAGE, refused_status};
 use arrayvec::ArrayString;
 use dap_compact::compact;
@@ -36,9 +40,9 @@ fn status(answer: Result<(), Refused>) -> u8
 }
 
 /// Tells a refusal in one line, and answers the program's status.
-fn tell_answer<E: Sink>(errors: &mut E, answer: Result<(), Refused>) -> u8
+pub(crate) fn tell_answer<E: Sink>(errors: &mut E, answer: Result<(), Refused>) -> u8
     requires { E.failures errors.old < 2 ^ 63 }
-    ensures told { IsTold E.out E.failures errors.old errors.new answer }
+    ensures told { IsTold E.Sink errors.old errors.new answer }
     ensures status { result ≡ status_of answer }
 {
     if let Err(refused) = answer {
@@ -66,7 +70,7 @@ fn accepted_line(checked: &Checked) -> ArrayString<LINE>
 /// Prints the line of an accepted recording.
 fn print<W: Sink>(writer: &mut W, answer: Result<Checked, Refused>) -> Result<(), Refused>
     requires { W.failures writer.old < 2 ^ 62 }
-    ensures { CheckIsPrinted W.out W.failures answer writer.old writer.new result }
+    ensures { CheckIsPrinted W.Sink answer writer.old writer.new result }
 {
     let line = accepted_line(&answer?);
     match write_and_flush(writer, line.as_bytes()) {
@@ -75,8 +79,8 @@ fn print<W: Sink>(writer: &mut W, answer: Result<Checked, Refused>) -> Result<()
     }
 }
 
-/// Does a job over a reader and a writer, which a comparison is not, and answers the program's
-/// status. A refusal is told on `errors`, in one line.
+/// Does a job over a reader and a writer alone, which neither a comparison nor a masking is, and
+/// answers the program's status. A refusal is told on `errors`, in one line.
 ///
 /// Of a recording that `check` accepts the numbers go to `writer`: `accepted records=R open=C,A`
 /// and LF, with the open requests of the client and of the adapter.
@@ -92,6 +96,7 @@ pub fn run_stream<R: Source, W: Sink, E: Sink>(
     limits: Limits,
 ) -> u8
     requires stream { (a b : _) → job.now ≡ Job.Compare a b → ⊥ }
+    requires no_rules { (rules : _) → job.now ≡ Job.Mask rules → ⊥ }
     requires limits { AreSound limits }
     requires given { R.given reader.old < 2 ^ 62 }
     requires read_failures { R.failures reader.old < 2 ^ 62 }
@@ -101,33 +106,37 @@ pub fn run_stream<R: Source, W: Sink, E: Sink>(
     // The output is what the engine writes, a refusal is told, and the status is that of the
     // answer.
     ensures compact { job.now ≡ Job.Compact
-        → Answered (Answers R.left R.failures W.out W.failures limits.input (Compacts limits)
+        → Answered (Answers R.Source W.Sink limits.input (Compacts limits)
         (IsRefused (compacting limits)) reader.old reader.new writer.old writer.new)
-        (IsTold E.out E.failures errors.old errors.new) result }
+        (IsTold E.Sink errors.old errors.new) result }
 
     // The output is the records that `record` writes, and the status that of its answer.
     ensures record_trace { job.now ≡ Job.Record
-        → Answered (RecordsTrace R.left R.failures W.out W.failures limits reader.old reader.new
-        writer.old writer.new)
-        (IsTold E.out E.failures errors.old errors.new) result }
+        → Answered (RecordsTrace R.Source W.Sink limits reader.old reader.new writer.old writer.new)
+        (IsTold E.Sink errors.old errors.new) result }
 
     // The output is the normal text that `normalise` writes, and the status that of its answer.
     ensures normalise { job.now ≡ Job.Normalise
-        → Answered (Streams R.left R.given R.failures W.out W.failures limits reader.old reader.new
-        writer.old writer.new)
-        (IsTold E.out E.failures errors.old errors.new) result }
+        → Answered (Streams R.Source W.Sink limits reader.old reader.new writer.old writer.new)
+        (IsTold E.Sink errors.old errors.new) result }
 
     // The output is the line of what `check` accepts, and the status that of its answer or of a
     // writer that failed.
     ensures check { (complete : Bool) → job.now ≡ Job.Check complete
-        → CheckIsTold R.left R.given R.failures W.out W.failures E.out E.failures limits complete
-        reader.old reader.new writer.old writer.new errors.old errors.new result }
+        → CheckIsTold R.Source W.Sink E.Sink limits complete reader.old reader.new writer.old
+        writer.new errors.old errors.new result }
 
     // The output is the lines that `show` writes, and the status that of its answer.
     ensures show { job.now ≡ Job.Show
-        → Answered (Answers R.left R.failures W.out W.failures limits.input (IsShownBy limits)
+        → Answered (Answers R.Source W.Sink limits.input (IsShownBy limits)
         (IsRefused (showing limits)) reader.old reader.new writer.old writer.new)
-        (IsTold E.out E.failures errors.old errors.new) result }
+        (IsTold E.Sink errors.old errors.new) result }
+
+    // The output is the lines of the rows that are asked for, and nothing is read.
+    ensures rows { (number : Option (Bor (List ℕ))) → job.now ≡ Job.Rows number
+        → (reader.new ≡ reader.old) × TellsRows W.Sink E.Sink
+        (lines_of (option_map (λ s. s.now) number)) writer.old writer.new errors.old errors.new
+        result }
 
     // It takes at most one byte past the limit.
     ensures taken { R.given reader.new ≤ R.given reader.old + limits.input + 1 }
@@ -155,6 +164,7 @@ pub fn run_stream_with<R: Source, W: Sink, E: Sink, T: NameTable + Drop>(
     tables: Tables<T>,
 ) -> u8
     requires stream { (a b : _) → job.now ≡ Job.Compare a b → ⊥ }
+    requires no_rules { (rules : _) → job.now ≡ Job.Mask rules → ⊥ }
     requires limits { AreSound limits }
     requires tables { AreReady T.numbers T.limit limits tables }
     requires given { R.given reader.old < 2 ^ 62 }
@@ -164,24 +174,26 @@ pub fn run_stream_with<R: Source, W: Sink, E: Sink, T: NameTable + Drop>(
 
     // What `run_stream` promises, whatever the tables are.
     ensures compact { job.now ≡ Job.Compact
-        → Answered (Answers R.left R.failures W.out W.failures limits.input (Compacts limits)
+        → Answered (Answers R.Source W.Sink limits.input (Compacts limits)
         (IsRefused (compacting limits)) reader.old reader.new writer.old writer.new)
-        (IsTold E.out E.failures errors.old errors.new) result }
+        (IsTold E.Sink errors.old errors.new) result }
     ensures record_trace { job.now ≡ Job.Record
-        → Answered (RecordsTrace R.left R.failures W.out W.failures limits reader.old reader.new
-        writer.old writer.new)
-        (IsTold E.out E.failures errors.old errors.new) result }
+        → Answered (RecordsTrace R.Source W.Sink limits reader.old reader.new writer.old writer.new)
+        (IsTold E.Sink errors.old errors.new) result }
     ensures normalise { job.now ≡ Job.Normalise
-        → Answered (Streams R.left R.given R.failures W.out W.failures limits reader.old reader.new
-        writer.old writer.new)
-        (IsTold E.out E.failures errors.old errors.new) result }
+        → Answered (Streams R.Source W.Sink limits reader.old reader.new writer.old writer.new)
+        (IsTold E.Sink errors.old errors.new) result }
     ensures check { (complete : Bool) → job.now ≡ Job.Check complete
-        → CheckIsTold R.left R.given R.failures W.out W.failures E.out E.failures limits complete
-        reader.old reader.new writer.old writer.new errors.old errors.new result }
+        → CheckIsTold R.Source W.Sink E.Sink limits complete reader.old reader.new writer.old
+        writer.new errors.old errors.new result }
     ensures show { job.now ≡ Job.Show
-        → Answered (Answers R.left R.failures W.out W.failures limits.input (IsShownBy limits)
+        → Answered (Answers R.Source W.Sink limits.input (IsShownBy limits)
         (IsRefused (showing limits)) reader.old reader.new writer.old writer.new)
-        (IsTold E.out E.failures errors.old errors.new) result }
+        (IsTold E.Sink errors.old errors.new) result }
+    ensures rows { (number : Option (Bor (List ℕ))) → job.now ≡ Job.Rows number
+        → (reader.new ≡ reader.old) × TellsRows W.Sink E.Sink
+        (lines_of (option_map (λ s. s.now) number)) writer.old writer.new errors.old errors.new
+        result }
     ensures taken { R.given reader.new ≤ R.given reader.old + limits.input + 1 }
 {
     let answer = match *job {
@@ -193,21 +205,22 @@ pub fn run_stream_with<R: Source, W: Sink, E: Sink, T: NameTable + Drop>(
             check_with(alloc, reader, limits, complete, tables),
         ),
         Job::Show => show(alloc, reader, writer, limits),
-        Job::Compare { .. } => unreachable!(),
+        Job::Rows { number } => return tell_rows(alloc, number, writer, errors),
+        Job::Mask { .. } | Job::Compare { .. } => unreachable!(),
     };
     tell_answer(errors, answer)
 }
 
 /// Tells the user why the words were no job, and answers the program's status.
 ///
-/// Help that was asked for goes to `writer`: the status is 0, or 4 where the writer fails. What is
-/// wrong with the words goes to `errors`, with status 3, and want of memory, with status 5. A
+/// Help, or the version, that was asked for goes to `writer`: the status is 0, or 4 where the
+/// writer fails. What is wrong with the words goes to `errors`, with status 3, and want of memory, with status 5. A
 /// failure of `errors` is not told.
 pub fn run_usage<W: Sink, E: Sink>(fault: &UsageFault, writer: &mut W, errors: &mut E) -> u8
     requires write_failures { W.failures writer.old < 2 ^ 62 }
     requires error_failures { E.failures errors.old < 2 ^ 62 }
-    ensures { TellsUsage W.out W.failures E.out E.failures fault.now writer.old writer.new
-        errors.old errors.new result }
+    ensures { TellsUsage W.Sink E.Sink fault.now writer.old writer.new errors.old errors.new
+        result }
 {
     match fault {
         UsageFault::Help(text) => match write_and_flush(writer, text.as_bytes()) {

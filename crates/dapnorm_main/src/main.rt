@@ -8,8 +8,8 @@ ghost use Rattle.dapnorm.specs.NameTables.{AreReady};
 
 use dap_frame::FrameLimits;
 use dapnorm::{
-    IndexNames, Job, Limits, StdSink, StdSource, Tables, UsageFault, Which, job, run_compare_with,
-    run_stream_with, run_usage,
+    IndexNames, Job, Limits, StdSink, StdSource, Tables, UsageFault, job, run_compare_with,
+    run_mask, run_stream_with, run_usage,
 };
 use std::alloc::Global;
 use std::hash::RandomState;
@@ -49,7 +49,8 @@ fn tables(alloc: Global, limits: Limits, hasher: RandomState) -> Tables<IndexNam
 
 /// Does the job over the standard streams.
 fn perform(rt: &HostRuntime, job: &Job, hasher: RandomState) -> u8
-    requires { (a b : _) → job.now ≡ Job.Compare a b → ⊥ }
+    requires stream { (a b : _) → job.now ≡ Job.Compare a b → ⊥ }
+    requires no_rules { (rules : _) → job.now ≡ Job.Mask rules → ⊥ }
 {
     let mut reader = StdSource::new(rt.stdin());
     let mut writer = StdSink::new(rt.stdout());
@@ -69,11 +70,11 @@ fn perform(rt: &HostRuntime, job: &Job, hasher: RandomState) -> u8
 fn compare_files(rt: &HostRuntime, a: &str, b: &str, hasher: RandomState) -> u8 {
     let file_a = match fs::open(rt, a) {
         Ok(file) => file,
-        Err(error) => return tell_unopened(rt, Which::A, &error),
+        Err(error) => return tell_unopened(rt, &error, "A"),
     };
     let file_b = match fs::open(rt, b) {
         Ok(file) => file,
-        Err(error) => return tell_unopened(rt, Which::B, &error),
+        Err(error) => return tell_unopened(rt, &error, "B"),
     };
     let mut reader_a = StdSource::new(file_a);
     let mut reader_b = StdSource::new(file_b);
@@ -91,8 +92,29 @@ fn compare_files(rt: &HostRuntime, a: &str, b: &str, hasher: RandomState) -> u8 
     )
 }
 
-/// Tells that a file does not open.
-fn tell_unopened(rt: &HostRuntime, which: Which, error: &Error) -> u8 {
+/// Masks the recording of the standard input by the rules of a file. A file that does not open is a
+/// read fault of the rules.
+fn mask_by_file(rt: &HostRuntime, rules: &str) -> u8 {
+    let file = match fs::open(rt, rules) {
+        Ok(file) => file,
+        Err(error) => return tell_unopened(rt, &error, "rules"),
+    };
+    let mut file = StdSource::new(file);
+    let mut reader = StdSource::new(rt.stdin());
+    let mut writer = StdSink::new(rt.stdout());
+    let mut errors = StdSink::new(rt.stderr());
+    run_mask(
+        rt.alloc(),
+        &mut file,
+        &mut reader,
+        &mut writer,
+        &mut errors,
+        LIMITS,
+    )
+}
+
+/// Tells that the file of this name in the fault lines does not open.
+fn tell_unopened(rt: &HostRuntime, error: &Error, which: &str) -> u8 {
     if error.kind() == ErrorKind::OutOfMemory {
         return tell_usage(rt, &UsageFault::Memory);
     }
@@ -125,6 +147,7 @@ fn run_words(rt: &HostRuntime, alloc: Global, words: &[String]) -> u8 {
     };
     match job {
         Job::Compare { a, b } => compare_files(rt, a, b, hasher),
+        Job::Mask { rules } => mask_by_file(rt, rules),
         job => perform(rt, &job, hasher),
     }
 }

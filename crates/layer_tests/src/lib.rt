@@ -2,9 +2,13 @@
 #![tactic(auto)]
 
 #[cfg(test)]
+mod devices;
+#[cfg(test)]
 mod frames;
 #[cfg(test)]
 mod lines;
+#[cfg(test)]
+mod masks;
 #[cfg(test)]
 mod messages;
 #[cfg(test)]

@@ -4,7 +4,7 @@ use Rattle.dap_compact.proofs.compacting.compact_records.Given as goal
 
 abbrev pub invariant-loop-out : goal.invariant-loop-out
 invariant-loop-out g l =
-    Compacting l.fn.limits g.R.Source.left g.R.Source.given g.R.Source.failures l.fn.reader l.reader
+    Compacting l.fn.limits g.R.Source l.fn.reader l.reader
     l.records l.out.items
 
 abbrev pub decreases-loop-out : goal.decreases-loop-out

@@ -10,10 +10,10 @@ use Rattle.dap_compare.proofs.comparing.compare_records.Goals as goal
 pub loop-text_b-init : goal.loop-text_b-init
 loop-text_b-init g c =
     record {
-      a = at_start g.A.Source.left g.A.Source.given g.A.Source.failures c.args.limits
+      a = at_start g.A.Source c.args.limits
           c.args.reader_a.now
           c.args.records_a.now c.requires.stands_a;
-      b = at_start g.B.Source.left g.B.Source.given g.B.Source.failures c.args.limits
+      b = at_start g.B.Source c.args.limits
           c.args.reader_b.now
           c.args.records_b.now c.requires.stands_b;
       alike = refl;
@@ -26,8 +26,8 @@ returns-in_err-some_a-clause-answer g c =
     c.loop-text_b.invariant.a.messages c.loop-text_b.invariant.a.normal
     c.loop-text_b.invariant.a.stands) in
     rw (because.1, because.2)
-    (told_by_a g.A.Source.left g.A.Source.given g.A.Source.failures
-    g.B.Source.left g.B.Source.given g.B.Source.failures c.args.limits
+    (told_by_a g.A.Source
+    g.B.Source c.args.limits
     c.args.reader_a.now c.loop-text_b.reader_a c.loop-text_b.records_a c.loop-text_b.invariant.a
     c.args.reader_b.now c.loop-text_b.reader_b c.loop-text_b.records_b c.loop-text_b.invariant.b
     c.loop-text_b.invariant.alike c.next_text.new.records c.next_text.new.reader told.0 _ told.2
@@ -38,7 +38,7 @@ returns-in_err-some_a-clause-taken_a g c =
     let told = (c.in_err-some_a.ensures c.args.limits c.loop-text_b.invariant.a.bytes
     c.loop-text_b.invariant.a.messages c.loop-text_b.invariant.a.normal
     c.loop-text_b.invariant.a.stands) in
-    few_taken g.A.Source.left g.A.Source.given g.A.Source.failures c.args.limits
+    few_taken g.A.Source c.args.limits
     c.args.reader_a.now c.loop-text_b.reader_a c.loop-text_b.records_a c.loop-text_b.invariant.a
     c.next_text.new.reader c.next_text.new.records _ told.1
 
@@ -50,8 +50,8 @@ returns-in_err-some_b-clause-answer g c =
     let told = (c.in_err-some_b.ensures c.args.limits c.loop-text_b.invariant.b.bytes
     c.loop-text_b.invariant.b.messages c.loop-text_b.invariant.b.normal
     c.loop-text_b.invariant.b.stands) in
-    let passed = passed_by g.A.Source.left g.A.Source.given g.A.Source.failures
-    g.B.Source.left g.B.Source.given g.B.Source.failures c.args.limits
+    let passed = passed_by g.A.Source
+    g.B.Source c.args.limits
     c.args.reader_a.now c.loop-text_b.reader_a c.loop-text_b.records_a c.loop-text_b.invariant.a
     c.args.reader_b.now c.loop-text_b.reader_b c.loop-text_b.records_b c.loop-text_b.invariant.b
     c.loop-text_b.invariant.alike c.next_text.new.records c.next_text.new.reader _ _
@@ -59,8 +59,8 @@ returns-in_err-some_b-clause-answer g c =
     c.loop-text_b.invariant.a.messages c.loop-text_b.invariant.a.normal
     c.loop-text_b.invariant.a.stands) in
     rw (because.1, because.2)
-    (told_by_b g.A.Source.left g.A.Source.given g.A.Source.failures
-    g.B.Source.left g.B.Source.given g.B.Source.failures c.args.limits
+    (told_by_b g.A.Source
+    g.B.Source c.args.limits
     c.args.reader_a.now c.loop-text_b.reader_a c.loop-text_b.records_a c.loop-text_b.invariant.a
     c.args.reader_b.now c.loop-text_b.reader_b c.loop-text_b.records_b c.loop-text_b.invariant.b
     c.loop-text_b.invariant.alike c.next_text.new.reader passed.0 passed.1 passed.2
@@ -69,7 +69,7 @@ returns-in_err-some_b-clause-answer g c =
 
 pub returns-in_err-some_b-clause-taken_a : goal.returns-in_err-some_b-clause-taken_a
 returns-in_err-some_b-clause-taken_a g c =
-    passed_taken g.A.Source.left g.A.Source.given g.A.Source.failures c.args.limits
+    passed_taken g.A.Source c.args.limits
     c.args.reader_a.now c.loop-text_b.reader_a c.loop-text_b.records_a c.loop-text_b.invariant.a
     c.next_text.new.records c.next_text.new.reader _ _ c.in_ok-some_a.some_a
     (c.in_ok-some_a.ensures c.args.limits c.loop-text_b.invariant.a.bytes
@@ -81,14 +81,14 @@ returns-in_err-some_b-clause-taken_b g c =
     let told = (c.in_err-some_b.ensures c.args.limits c.loop-text_b.invariant.b.bytes
     c.loop-text_b.invariant.b.messages c.loop-text_b.invariant.b.normal
     c.loop-text_b.invariant.b.stands) in
-    few_taken g.B.Source.left g.B.Source.given g.B.Source.failures c.args.limits
+    few_taken g.B.Source c.args.limits
     c.args.reader_b.now c.loop-text_b.reader_b c.loop-text_b.records_b c.loop-text_b.invariant.b
     c.next_text-in-loop-text_b.new.reader
     c.next_text-in-loop-text_b.new.records _ told.1
 
 pub returns-in-Apart-clause-taken_a : goal.returns-in-Apart-clause-taken_a
 returns-in-Apart-clause-taken_a g c =
-    passed_taken g.A.Source.left g.A.Source.given g.A.Source.failures c.args.limits
+    passed_taken g.A.Source c.args.limits
     c.args.reader_a.now c.loop-text_b.reader_a c.loop-text_b.records_a c.loop-text_b.invariant.a
     c.next_text.new.records c.next_text.new.reader _ _ c.in_ok-some_a.some_a
     (c.in_ok-some_a.ensures c.args.limits c.loop-text_b.invariant.a.bytes
@@ -97,7 +97,7 @@ returns-in-Apart-clause-taken_a g c =
 
 pub returns-in-Apart-clause-taken_b : goal.returns-in-Apart-clause-taken_b
 returns-in-Apart-clause-taken_b g c =
-    passed_taken g.B.Source.left g.B.Source.given g.B.Source.failures c.args.limits
+    passed_taken g.B.Source c.args.limits
     c.args.reader_b.now c.loop-text_b.reader_b c.loop-text_b.records_b c.loop-text_b.invariant.b
     c.next_text-in-loop-text_b.new.records c.next_text-in-loop-text_b.new.reader _ _
     c.in_ok-some_b.some_b
@@ -107,7 +107,7 @@ returns-in-Apart-clause-taken_b g c =
 
 pub returns-in_default-clause-taken_a : goal.returns-in_default-clause-taken_a
 returns-in_default-clause-taken_a g c =
-    passed_taken g.A.Source.left g.A.Source.given g.A.Source.failures c.args.limits
+    passed_taken g.A.Source c.args.limits
     c.args.reader_a.now c.loop-text_b.reader_a c.loop-text_b.records_a c.loop-text_b.invariant.a
     c.next_text.new.records c.next_text.new.reader _ _ c.in_ok-some_a.some_a
     (c.in_ok-some_a.ensures c.args.limits c.loop-text_b.invariant.a.bytes
@@ -116,7 +116,7 @@ returns-in_default-clause-taken_a g c =
 
 pub returns-in_default-clause-taken_b : goal.returns-in_default-clause-taken_b
 returns-in_default-clause-taken_b g c =
-    passed_taken g.B.Source.left g.B.Source.given g.B.Source.failures c.args.limits
+    passed_taken g.B.Source c.args.limits
     c.args.reader_b.now c.loop-text_b.reader_b c.loop-text_b.records_b c.loop-text_b.invariant.b
     c.next_text-in-loop-text_b.new.records c.next_text-in-loop-text_b.new.reader _ _
     c.in_ok-some_b.some_b
@@ -126,7 +126,7 @@ returns-in_default-clause-taken_b g c =
 
 pub returns-in-NoneLeft-clause-taken_a : goal.returns-in-NoneLeft-clause-taken_a
 returns-in-NoneLeft-clause-taken_a g c =
-    passed_taken g.A.Source.left g.A.Source.given g.A.Source.failures c.args.limits
+    passed_taken g.A.Source c.args.limits
     c.args.reader_a.now c.loop-text_b.reader_a c.loop-text_b.records_a c.loop-text_b.invariant.a
     c.next_text.new.records c.next_text.new.reader _ _ c.in_ok-some_a.some_a
     (c.in_ok-some_a.ensures c.args.limits c.loop-text_b.invariant.a.bytes
@@ -135,7 +135,7 @@ returns-in-NoneLeft-clause-taken_a g c =
 
 pub returns-in-NoneLeft-clause-taken_b : goal.returns-in-NoneLeft-clause-taken_b
 returns-in-NoneLeft-clause-taken_b g c =
-    passed_taken g.B.Source.left g.B.Source.given g.B.Source.failures c.args.limits
+    passed_taken g.B.Source c.args.limits
     c.args.reader_b.now c.loop-text_b.reader_b c.loop-text_b.records_b c.loop-text_b.invariant.b
     c.next_text-in-loop-text_b.new.records c.next_text-in-loop-text_b.new.reader _ _
     c.in_ok-some_b.some_b
@@ -144,7 +144,7 @@ returns-in-NoneLeft-clause-taken_b g c =
     c.loop-text_b.invariant.b.stands)
 
 pub loop-text_b-smaller : goal.loop-text_b-smaller
-loop-text_b-smaller g c = (gone g.A.Source.left g.A.Source.given g.A.Source.failures c.args.limits
+loop-text_b-smaller g c = (gone g.A.Source c.args.limits
     c.args.reader_a.now c.loop-text_b.reader_a c.loop-text_b.records_a c.loop-text_b.invariant.a
     c.next_text.new.records c.next_text.new.reader _ _ _
     (c.in_ok-some_a.ensures c.args.limits c.loop-text_b.invariant.a.bytes
@@ -153,28 +153,28 @@ loop-text_b-smaller g c = (gone g.A.Source.left g.A.Source.given g.A.Source.fail
 
 pub loop-text_b-preserved : goal.loop-text_b-preserved
 loop-text_b-preserved g c =
-    let one = gone g.A.Source.left g.A.Source.given g.A.Source.failures c.args.limits
+    let one = gone g.A.Source c.args.limits
     c.args.reader_a.now c.loop-text_b.reader_a c.loop-text_b.records_a c.loop-text_b.invariant.a
     c.next_text.new.records c.next_text.new.reader _ _ _
     (c.in_ok-some_a.ensures c.args.limits c.loop-text_b.invariant.a.bytes
     c.loop-text_b.invariant.a.messages c.loop-text_b.invariant.a.normal
     c.loop-text_b.invariant.a.stands) c.in-Alike.ensures.0 in
-    let two = gone g.B.Source.left g.B.Source.given g.B.Source.failures c.args.limits
+    let two = gone g.B.Source c.args.limits
     c.args.reader_b.now c.loop-text_b.reader_b c.loop-text_b.records_b c.loop-text_b.invariant.b
     c.next_text-in-loop-text_b.new.records c.next_text-in-loop-text_b.new.reader _ _ _
     (c.in_ok-some_b.ensures c.args.limits c.loop-text_b.invariant.b.bytes
     c.loop-text_b.invariant.b.messages c.loop-text_b.invariant.b.normal
     c.loop-text_b.invariant.b.stands) c.in-Alike.ensures.1 in
     record {
-      a = on g.A.Source.left g.A.Source.given g.A.Source.failures c.args.limits
+      a = on g.A.Source c.args.limits
           c.args.reader_a.now c.loop-text_b.reader_a c.loop-text_b.records_a
           c.loop-text_b.invariant.a c.next_text.new.records c.next_text.new.reader _ _ one;
-      b = on g.B.Source.left g.B.Source.given g.B.Source.failures c.args.limits
+      b = on g.B.Source c.args.limits
           c.args.reader_b.now c.loop-text_b.reader_b c.loop-text_b.records_b
           c.loop-text_b.invariant.b c.next_text-in-loop-text_b.new.records
           c.next_text-in-loop-text_b.new.reader _ _ two;
-      alike = still_alike g.A.Source.left g.A.Source.given g.A.Source.failures
-          g.B.Source.left g.B.Source.given g.B.Source.failures c.args.limits
+      alike = still_alike g.A.Source
+          g.B.Source c.args.limits
           c.args.reader_a.now c.loop-text_b.reader_a c.loop-text_b.records_a
           c.loop-text_b.invariant.a
           c.args.reader_b.now c.loop-text_b.reader_b c.loop-text_b.records_b
@@ -188,8 +188,8 @@ loop-text_b-preserved g c =
 
 pub returns-in-Apart-clause-answer : goal.returns-in-Apart-clause-answer
 returns-in-Apart-clause-answer g c =
-    told_apart g.A.Source.left g.A.Source.given g.A.Source.failures
-    g.B.Source.left g.B.Source.given g.B.Source.failures c.args.limits
+    told_apart g.A.Source
+    g.B.Source c.args.limits
     c.args.reader_a.now c.loop-text_b.reader_a c.loop-text_b.records_a c.loop-text_b.invariant.a
     c.args.reader_b.now c.loop-text_b.reader_b c.loop-text_b.records_b c.loop-text_b.invariant.b
     c.loop-text_b.invariant.alike c.next_text.new.records c.next_text.new.reader [] _
@@ -206,19 +206,19 @@ returns-in-Apart-clause-answer g c =
 
 pub renaming_to-requires : goal.renaming_to-requires
 renaming_to-requires g c =
-    equal_counts g.A.Source.left g.A.Source.given g.A.Source.failures
-    g.B.Source.left g.B.Source.given g.B.Source.failures c.args.limits
+    equal_counts g.A.Source
+    g.B.Source c.args.limits
     c.args.reader_a.now c.loop-text_b.reader_a c.loop-text_b.records_a c.loop-text_b.invariant.a
     c.args.reader_b.now c.loop-text_b.reader_b c.loop-text_b.records_b c.loop-text_b.invariant.b
     c.loop-text_b.invariant.alike c.next_text.new.records c.next_text.new.reader _ _
     c.next_text-in-loop-text_b.new.records c.next_text-in-loop-text_b.new.reader _ _
-    (ended g.A.Source.left g.A.Source.given g.A.Source.failures c.args.limits
+    (ended g.A.Source c.args.limits
     c.args.reader_a.now c.loop-text_b.reader_a c.loop-text_b.records_a c.loop-text_b.invariant.a
     c.next_text.new.records c.next_text.new.reader _ _ _
     (c.in_ok-some_a.ensures c.args.limits c.loop-text_b.invariant.a.bytes
     c.loop-text_b.invariant.a.messages c.loop-text_b.invariant.a.normal
     c.loop-text_b.invariant.a.stands) c.in-NoneLeft.ensures.0)
-    (ended g.B.Source.left g.B.Source.given g.B.Source.failures c.args.limits
+    (ended g.B.Source c.args.limits
     c.args.reader_b.now c.loop-text_b.reader_b c.loop-text_b.records_b c.loop-text_b.invariant.b
     c.next_text-in-loop-text_b.new.records c.next_text-in-loop-text_b.new.reader _ _ _
     (c.in_ok-some_b.ensures c.args.limits c.loop-text_b.invariant.b.bytes
@@ -227,33 +227,33 @@ renaming_to-requires g c =
 
 pub returns-in-NoneLeft-clause-answer : goal.returns-in-NoneLeft-clause-answer
 returns-in-NoneLeft-clause-answer g c =
-    let one = ended g.A.Source.left g.A.Source.given g.A.Source.failures c.args.limits
+    let one = ended g.A.Source c.args.limits
     c.args.reader_a.now c.loop-text_b.reader_a c.loop-text_b.records_a c.loop-text_b.invariant.a
     c.next_text.new.records c.next_text.new.reader _ _ _
     (c.in_ok-some_a.ensures c.args.limits c.loop-text_b.invariant.a.bytes
     c.loop-text_b.invariant.a.messages c.loop-text_b.invariant.a.normal
     c.loop-text_b.invariant.a.stands) c.in-NoneLeft.ensures.0 in
-    let two = ended g.B.Source.left g.B.Source.given g.B.Source.failures c.args.limits
+    let two = ended g.B.Source c.args.limits
     c.args.reader_b.now c.loop-text_b.reader_b c.loop-text_b.records_b c.loop-text_b.invariant.b
     c.next_text-in-loop-text_b.new.records c.next_text-in-loop-text_b.new.reader _ _ _
     (c.in_ok-some_b.ensures c.args.limits c.loop-text_b.invariant.b.bytes
     c.loop-text_b.invariant.b.messages c.loop-text_b.invariant.b.normal
     c.loop-text_b.invariant.b.stands) c.in-NoneLeft.ensures.1 in
-    both_ended g.A.Source.left g.A.Source.given g.A.Source.failures
-    g.B.Source.left g.B.Source.given g.B.Source.failures c.args.limits
+    both_ended g.A.Source
+    g.B.Source c.args.limits
     c.args.reader_a.now c.loop-text_b.reader_a c.loop-text_b.records_a c.loop-text_b.invariant.a
     c.args.reader_b.now c.loop-text_b.reader_b c.loop-text_b.records_b c.loop-text_b.invariant.b
     c.loop-text_b.invariant.alike c.next_text.new.records c.next_text.new.reader _ _
     c.next_text-in-loop-text_b.new.records c.next_text-in-loop-text_b.new.reader _ _ one two _
     (c.in-Ok.ensures c.loop-text_b.invariant.a.messages c.loop-text_b.invariant.b.messages
-    (names_a g.A.Source.left g.A.Source.given g.A.Source.failures
-    g.B.Source.left g.B.Source.given g.B.Source.failures c.args.limits
+    (names_a g.A.Source
+    g.B.Source c.args.limits
     c.args.reader_a.now c.loop-text_b.reader_a c.loop-text_b.records_a c.loop-text_b.invariant.a
     c.args.reader_b.now c.loop-text_b.reader_b c.loop-text_b.records_b c.loop-text_b.invariant.b
     c.loop-text_b.invariant.alike c.next_text.new.records c.next_text.new.reader _ _
     c.next_text-in-loop-text_b.new.records c.next_text-in-loop-text_b.new.reader _ _ one two)
-    (names_b g.A.Source.left g.A.Source.given g.A.Source.failures
-    g.B.Source.left g.B.Source.given g.B.Source.failures c.args.limits
+    (names_b g.A.Source
+    g.B.Source c.args.limits
     c.args.reader_a.now c.loop-text_b.reader_a c.loop-text_b.records_a c.loop-text_b.invariant.a
     c.args.reader_b.now c.loop-text_b.reader_b c.loop-text_b.records_b c.loop-text_b.invariant.b
     c.loop-text_b.invariant.alike c.next_text.new.records c.next_text.new.reader _ _

@@ -8,7 +8,7 @@ use Rattle.dap_normal.proofs.JudgedRecords.{text_push}
 use Rattle.dap_normal.proofs.StreamAnswers.{ended, gone}
 use Rattle.dap_input.proofs.Coming.{nothing_came}
 use Rattle.dap_normal.proofs.StreamLoop.{on}
-use Rattle.dap_normal.proofs.WholeInput.{canonical_whole, given_by, holds_of, left_in, no_failures}
+use Rattle.dap_normal.proofs.WholeInput.{canonical_whole, holds_of, memory}
 use Rattle.dap_normal.proofs.WholeInput.{normalised_whole, refuses_bytes, start}
 use Rattle.dap_normal.proofs.normalising.normalise_bytes.Goals as goal
 
@@ -17,10 +17,10 @@ loop-text-init c = record {
   going = record {
     bytes = [];
     came = subst
-        (λ r. HasComeSoFar left_in given_by no_failures
+        (λ r. HasComeSoFar memory
         (start c.args.limits c.requires.limits c.args.bytes.now) r [] None)
         (sym c.new-reader.ensures)
-        (nothing_came left_in given_by no_failures
+        (nothing_came memory
         (start c.args.limits c.requires.limits c.args.bytes.now));
     messages = [];
     normal = [];
@@ -32,7 +32,7 @@ loop-text-init c = record {
 pub loop-text-smaller : goal.loop-text-smaller
 loop-text-smaller c =
     let was = c.loop-text.invariant.going in
-    (gone left_in given_by no_failures c.args.limits
+    (gone memory c.args.limits
     (start c.args.limits c.requires.limits c.args.bytes.now) c.loop-text.reader
     c.loop-text.records was c.next.new.self c.next.new.reader _ _ _
     (c.in_ok-next.ensures c.args.limits was.bytes was.messages was.normal was.stands)
@@ -41,13 +41,13 @@ loop-text-smaller c =
 pub loop-text-preserved : goal.loop-text-preserved
 loop-text-preserved c =
     let was = c.loop-text.invariant.going in
-    let more = gone left_in given_by no_failures c.args.limits
+    let more = gone memory c.args.limits
     (start c.args.limits c.requires.limits c.args.bytes.now) c.loop-text.reader
     c.loop-text.records was c.next.new.self c.next.new.reader _ _ _
     (c.in_ok-next.ensures c.args.limits was.bytes was.messages was.normal was.stands)
     c.if-branch.true in
     record {
-      going = on left_in given_by no_failures c.args.limits
+      going = on memory c.args.limits
           (start c.args.limits c.requires.limits c.args.bytes.now) c.loop-text.reader
           c.loop-text.records was c.next.new.self c.next.new.reader _ _ more;
       text_is = more.appended ∙ ap (λ t. t ++ record_of more.named) c.loop-text.invariant.text_is
@@ -66,7 +66,7 @@ returns-in_err-next-clause-err c =
 pub new-requires-2 : goal.new-requires-2
 new-requires-2 c =
     let was = c.loop-text.invariant.going in
-    let end = ended left_in given_by no_failures c.args.limits
+    let end = ended memory c.args.limits
     (start c.args.limits c.requires.limits c.args.bytes.now) c.loop-text.reader
     c.loop-text.records was c.next.new.self c.next.new.reader _ _ _
     (c.in_ok-next.ensures c.args.limits was.bytes was.messages was.normal was.stands)
@@ -80,7 +80,7 @@ new-requires-2 c =
 pub returns-clause-ok : goal.returns-clause-ok
 returns-clause-ok c =
     let was = c.loop-text.invariant.going in
-    let end = ended left_in given_by no_failures c.args.limits
+    let end = ended memory c.args.limits
     (start c.args.limits c.requires.limits c.args.bytes.now) c.loop-text.reader
     c.loop-text.records was c.next.new.self c.next.new.reader _ _ _
     (c.in_ok-next.ensures c.args.limits was.bytes was.messages was.normal was.stands)

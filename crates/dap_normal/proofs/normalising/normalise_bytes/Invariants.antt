@@ -1,16 +1,15 @@
-use Rattle.std.proofs.Common.{◌≡◌, Some}
-use Rattle.dap_device.specs.Memory.{GivenBytes}
+use Rattle.std.proofs.Common.{◌≡◌}
 use Rattle.dap_names.specs.IndexNames.{index_limit, index_numbers}
 use Rattle.dap_normal.specs.Accepting.{text}
 use Rattle.dap_normal.specs.NormalSteps.{remaining}
 use Rattle.dap_normal.proofs.StreamLoop.{Going}
+use Rattle.dap_normal.proofs.WholeInput.{memory}
 use Rattle.dap_normal.proofs.normalising.normalise_bytes.Given as goal
 
 abbrev pub invariant-loop-text : goal.invariant-loop-text
 invariant-loop-text l =
     record {
-      going : Going index_numbers index_limit (λ (s : GivenBytes). Some s.left)
-          (λ (s : GivenBytes). s.given) (λ (s : GivenBytes). 0) l.fn.limits record
+      going : Going index_numbers index_limit memory l.fn.limits record
           { left = l.fn.bytes; given = 0 } l.reader l.records;
       text_is : l.text.items ≡ text going.normal;
     }

@@ -1,6 +1,7 @@
 use Rattle.std.proofs.Common.{refl, sym, ◌∙◌, subst}
-use Rattle.std.proofs.KnownBytes.{Appends-nil, Keeps-refl}
-use Rattle.dap_device.specs.Device.{AllWritten, FrontWritten}
+use Rattle.std.proofs.KnownBytes.{Appends-nil}
+use Rattle.dap_device.specs.Written.{AllWritten, FrontWritten}
+use Rattle.dap_device.proofs.Sending.{nothing_awaits}
 use Rattle.dap_normal.proofs.StreamAnswers.{ended, gone}
 use Rattle.dap_normal.proofs.StreamLoop.{all_taken, at_start, few_taken, gone_taken, on}
 use Rattle.dap_normal.proofs.StreamWriting.{all_written, failed_to_write, front_written}
@@ -9,16 +10,19 @@ use Rattle.dap_normal.proofs.normalising.write_records.Goals as goal
 
 pub loop-writer-init : goal.loop-writer-init
 loop-writer-init g c = record {
-  going = at_start g.R.Source.left g.R.Source.given g.R.Source.failures c.args.limits
+  going = at_start g.R.Source c.args.limits
       c.args.reader.now c.args.records.now c.requires.stands;
-  written = Appends-nil (g.W.Sink.out c.args.writer.now);
-  no_failure = refl;
+  written = record {
+    appended = Appends-nil (g.W.Sink.out c.args.writer.now);
+    awaits = nothing_awaits g.W.Sink.unflushed c.args.writer.now c.args.writer.now refl;
+    no_failure = refl;
+  };
 }
 
 pub loop-writer-smaller : goal.loop-writer-smaller
 loop-writer-smaller g c =
     let was = c.loop-writer.invariant.going in
-    (gone g.R.Source.left g.R.Source.given g.R.Source.failures c.args.limits c.args.reader.now
+    (gone g.R.Source c.args.limits c.args.reader.now
     c.loop-writer.reader c.loop-writer.records was c.next.new.self c.next.new.reader _ _ _
     (c.in-Ok-true.ensures c.args.limits was.bytes was.messages was.normal was.stands)
     c.in-Ok-true.field-0-test).shorter
@@ -26,59 +30,56 @@ loop-writer-smaller g c =
 pub loop-writer-preserved : goal.loop-writer-preserved
 loop-writer-preserved g c =
     let was = c.loop-writer.invariant.going in
-    let more = gone g.R.Source.left g.R.Source.given g.R.Source.failures c.args.limits
+    let more = gone g.R.Source c.args.limits
     c.args.reader.now c.loop-writer.reader c.loop-writer.records was c.next.new.self
     c.next.new.reader _ _ _
     (c.in-Ok-true.ensures c.args.limits was.bytes was.messages was.normal was.stands)
     c.in-Ok-true.field-0-test in
     let here = rw c.clear.ensures.items at more in
     let all = subst
-    (AllWritten g.W.Sink.out g.W.Sink.failures c.loop-writer.writer c.write_all.new.writer)
+    (AllWritten g.W.Sink c.loop-writer.writer c.write_all.new.writer)
     c.as_slice.ensures.value
-    (all_written g.W.Sink.out g.W.Sink.failures c.loop-writer.writer c.write_all.new.writer
+    (all_written g.W.Sink c.loop-writer.writer c.write_all.new.writer
     c.write_all.result c.as_slice.result.now c.write_all.ensures (sym c.is_err.ensures.value
     ∙ c.if-is_err.false)) in
     let written =
-    written_on g.R.Source.left g.R.Source.given g.R.Source.failures g.W.Sink.out
-    g.W.Sink.failures c.args.limits c.args.reader.now c.args.writer.now c.loop-writer.reader
+    written_on g.R.Source g.W.Sink c.args.limits c.args.reader.now c.args.writer.now c.loop-writer.reader
     c.loop-writer.records was
-    c.loop-writer.writer c.loop-writer.invariant.written c.loop-writer.invariant.no_failure
+    c.loop-writer.writer c.loop-writer.invariant.written
     c.next.new.self c.next.new.reader c.next.new.text.items here c.write_all.new.writer all in
     record {
-      going = on g.R.Source.left g.R.Source.given g.R.Source.failures c.args.limits
+      going = on g.R.Source c.args.limits
           c.args.reader.now c.loop-writer.reader c.loop-writer.records was c.next.new.self
           c.next.new.reader _ _ here;
-      written = written.0;
-      no_failure = written.1;
+      written = written;
     }
 
 pub returns-then-is_err-clause-answer : goal.returns-then-is_err-clause-answer
 returns-then-is_err-clause-answer g c =
     let was = c.loop-writer.invariant.going in
-    let more = gone g.R.Source.left g.R.Source.given g.R.Source.failures c.args.limits
+    let more = gone g.R.Source c.args.limits
     c.args.reader.now c.loop-writer.reader c.loop-writer.records was c.next.new.self
     c.next.new.reader _ _ _
     (c.in-Ok-true.ensures c.args.limits was.bytes was.messages was.normal was.stands)
     c.in-Ok-true.field-0-test in
     let here = rw c.clear.ensures.items at more in
     let front =
-    subst (FrontWritten g.W.Sink.out g.W.Sink.failures c.loop-writer.writer
+    subst (FrontWritten g.W.Sink c.loop-writer.writer
     c.write_all.new.writer) c.as_slice.ensures.value
-    (front_written g.W.Sink.out g.W.Sink.failures c.loop-writer.writer c.write_all.new.writer
+    (front_written g.W.Sink c.loop-writer.writer c.write_all.new.writer
     c.write_all.result c.as_slice.result.now c.write_all.ensures (sym c.is_err.ensures.value
     ∙ c.if-is_err.true)) in
-    failed_to_write g.R.Source.left g.R.Source.given g.R.Source.failures g.W.Sink.out
-    g.W.Sink.failures c.args.limits c.args.reader.now c.args.writer.now c.loop-writer.reader
+    failed_to_write g.R.Source g.W.Sink c.args.limits c.args.reader.now c.args.writer.now c.loop-writer.reader
     c.loop-writer.records was
-    c.loop-writer.writer c.loop-writer.invariant.written c.loop-writer.invariant.no_failure
+    c.loop-writer.writer c.loop-writer.invariant.written
     c.next.new.self c.next.new.reader c.next.new.text.items here c.write_all.new.writer front
 
 pub returns-then-is_err-clause-taken : goal.returns-then-is_err-clause-taken
 returns-then-is_err-clause-taken g c =
     let was = c.loop-writer.invariant.going in
-    gone_taken g.R.Source.left g.R.Source.given g.R.Source.failures c.args.limits c.args.reader.now
+    gone_taken g.R.Source c.args.limits c.args.reader.now
     c.loop-writer.reader c.loop-writer.records was c.next.new.self c.next.new.reader _ _
-    (gone g.R.Source.left g.R.Source.given g.R.Source.failures c.args.limits c.args.reader.now
+    (gone g.R.Source c.args.limits c.args.reader.now
     c.loop-writer.reader c.loop-writer.records was c.next.new.self c.next.new.reader _ _ _
     (c.in-Ok-true.ensures c.args.limits was.bytes was.messages was.normal was.stands)
     c.in-Ok-true.field-0-test)
@@ -86,58 +87,56 @@ returns-then-is_err-clause-taken g c =
 pub returns-in-Ok-false-clause-answer : goal.returns-in-Ok-false-clause-answer
 returns-in-Ok-false-clause-answer g c =
     let was = c.loop-writer.invariant.going in
-    let end = ended g.R.Source.left g.R.Source.given g.R.Source.failures c.args.limits
+    let end = ended g.R.Source c.args.limits
     c.args.reader.now c.loop-writer.reader c.loop-writer.records was c.next.new.self
     c.next.new.reader _ _ _
     (c.in-Ok-false.ensures c.args.limits was.bytes was.messages was.normal was.stands)
     c.in-Ok-false.field-0-test in
-    has_streamed g.R.Source.left g.R.Source.given g.R.Source.failures g.W.Sink.out g.W.Sink.failures
+    has_streamed g.R.Source g.W.Sink
     c.args.limits c.args.reader.now c.args.writer.now c.loop-writer.reader c.loop-writer.records
     was
-    c.loop-writer.writer c.loop-writer.invariant.written c.loop-writer.invariant.no_failure
+    c.loop-writer.writer c.loop-writer.invariant.written
     c.next.new.self c.next.new.reader c.requires.limits _ _ end c.flushed.new.writer
     c.flushed.result c.flushed.ensures
 
 pub returns-in-Ok-false-clause-taken : goal.returns-in-Ok-false-clause-taken
 returns-in-Ok-false-clause-taken g c =
     let was = c.loop-writer.invariant.going in
-    all_taken g.R.Source.left g.R.Source.given g.R.Source.failures c.args.limits c.args.reader.now
+    all_taken g.R.Source c.args.limits c.args.reader.now
     c.loop-writer.reader c.loop-writer.records was c.next.new.reader c.next.new.self _ _
-    (ended g.R.Source.left g.R.Source.given g.R.Source.failures c.args.limits c.args.reader.now
+    (ended g.R.Source c.args.limits c.args.reader.now
     c.loop-writer.reader c.loop-writer.records was c.next.new.self c.next.new.reader _ _ _
     (c.in-Ok-false.ensures c.args.limits was.bytes was.messages was.normal was.stands)
     c.in-Ok-false.field-0-test)
 
-pub returns-in-Err-Memory-clause-answer : goal.returns-in-Err-Memory-clause-answer
-returns-in-Err-Memory-clause-answer g c =
+pub returns-in-Memory-clause-answer : goal.returns-in-Memory-clause-answer
+returns-in-Memory-clause-answer g c =
     let was = c.loop-writer.invariant.going in
-    given_up_at g.R.Source.left g.R.Source.given g.R.Source.failures g.W.Sink.out g.W.Sink.failures
+    given_up_at g.R.Source g.W.Sink
     c.args.limits c.args.reader.now c.args.writer.now c.loop-writer.reader c.loop-writer.records
     was
-    c.loop-writer.writer c.loop-writer.invariant.written c.loop-writer.invariant.no_failure
+    c.loop-writer.writer c.loop-writer.invariant.written
     c.next.new.self c.next.new.reader _
-    (c.in-Err-Memory.ensures c.args.limits was.bytes was.messages was.normal was.stands)
-    c.loop-writer.writer (Keeps-refl (g.W.Sink.out c.loop-writer.writer)) refl
+    (c.in-Err.ensures c.args.limits was.bytes was.messages was.normal was.stands)
 
-pub returns-in-Err-Memory-clause-taken : goal.returns-in-Err-Memory-clause-taken
-returns-in-Err-Memory-clause-taken g c =
+pub returns-in-Memory-clause-taken : goal.returns-in-Memory-clause-taken
+returns-in-Memory-clause-taken g c =
     let was = c.loop-writer.invariant.going in
-    few_taken g.R.Source.left g.R.Source.given g.R.Source.failures c.args.limits c.args.reader.now
+    few_taken g.R.Source c.args.limits c.args.reader.now
     c.loop-writer.reader c.loop-writer.records was c.next.new.reader c.next.new.self _
-    (c.in-Err-Memory.ensures c.args.limits was.bytes was.messages was.normal was.stands)
+    (c.in-Err.ensures c.args.limits was.bytes was.messages was.normal was.stands)
 
-pub returns-in-Err : goal.returns-in-Err
-returns-in-Err g c =
+pub returns-in_default : goal.returns-in_default
+returns-in_default g c =
     let was = c.loop-writer.invariant.going in
     let stopped = c.in-Err.ensures c.args.limits was.bytes was.messages was.normal was.stands in
     record {
-      answer = has_refused g.R.Source.left g.R.Source.given g.R.Source.failures g.W.Sink.out
-          g.W.Sink.failures c.args.limits c.args.reader.now c.args.writer.now c.loop-writer.reader
+      answer = has_refused g.R.Source g.W.Sink c.args.limits c.args.reader.now c.args.writer.now c.loop-writer.reader
           c.loop-writer.records was
-          c.loop-writer.writer c.loop-writer.invariant.written c.loop-writer.invariant.no_failure
-          c.next.new.self c.next.new.reader _ stopped c.flushed-in-Err.new.writer
-          c.flushed-in-Err.result c.flushed-in-Err.ensures;
-      taken = few_taken g.R.Source.left g.R.Source.given g.R.Source.failures c.args.limits
+          c.loop-writer.writer c.loop-writer.invariant.written
+          c.next.new.self c.next.new.reader _ c.in_default.not-Memory stopped c.flushed-in_default.new.writer
+          c.flushed-in_default.result c.flushed-in_default.ensures;
+      taken = few_taken g.R.Source c.args.limits
           c.args.reader.now c.loop-writer.reader c.loop-writer.records was c.next.new.reader
           c.next.new.self _ stopped;
     }

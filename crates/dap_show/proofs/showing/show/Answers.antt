@@ -21,8 +21,8 @@ returns-in-Ok-write_and_flush-clause-answer g c =
     let shown = c.in-Ok-show_records.ensures c.args.limits
     (c.in-Ok.ensures c.args.limits.frame
     (c.new-record_reader.ensures.limits, (1, c.new-record_reader.ensures.stands))) in
-    finished c.args.limits g.R.Source.left g.R.Source.given g.R.Source.failures c.args.reader.now
-    c.show_records.new.reader shown.0 shown.1 g.W.Sink.out g.W.Sink.failures c.args.writer.now
+    finished c.args.limits g.R.Source c.args.reader.now
+    c.show_records.new.reader shown.0 shown.1 g.W.Sink c.args.writer.now
     c.write_and_flush.new.writer _ (c.as_bytes.ensures.value ∙ shown.2)
     c.in-Ok-write_and_flush.ensures
 
@@ -31,7 +31,7 @@ returns-in-Ok-write_and_flush-clause-taken g c =
     let shown = c.in-Ok-show_records.ensures c.args.limits
     (c.in-Ok.ensures c.args.limits.frame
     (c.new-record_reader.ensures.limits, (1, c.new-record_reader.ensures.stands))) in
-    accepted_taken c.args.limits g.R.Source.left g.R.Source.given g.R.Source.failures
+    accepted_taken c.args.limits g.R.Source
     c.args.reader.now c.show_records.new.reader shown.0 shown.1
 
 pub returns-in-Ok-show_records-clause-answer : goal.returns-in-Ok-show_records-clause-answer
@@ -39,8 +39,8 @@ returns-in-Ok-show_records-clause-answer g c =
     let shown = c.in-Ok-show_records.ensures c.args.limits
     (c.in-Ok.ensures c.args.limits.frame
     (c.new-record_reader.ensures.limits, (1, c.new-record_reader.ensures.stands))) in
-    not_written c.args.limits g.R.Source.left g.R.Source.given g.R.Source.failures
-    c.args.reader.now c.show_records.new.reader shown.0 shown.1 g.W.Sink.out g.W.Sink.failures
+    not_written c.args.limits g.R.Source
+    c.args.reader.now c.show_records.new.reader shown.0 shown.1 g.W.Sink
     c.args.writer.now c.write_and_flush.new.writer _ (c.as_bytes.ensures.value ∙ shown.2)
     c.in-Err-write_and_flush.ensures
 
@@ -49,7 +49,7 @@ returns-in-Ok-show_records-clause-taken g c =
     let shown = c.in-Ok-show_records.ensures c.args.limits
     (c.in-Ok.ensures c.args.limits.frame
     (c.new-record_reader.ensures.limits, (1, c.new-record_reader.ensures.stands))) in
-    accepted_taken c.args.limits g.R.Source.left g.R.Source.given g.R.Source.failures
+    accepted_taken c.args.limits g.R.Source
     c.args.reader.now c.show_records.new.reader shown.0 shown.1
 
 pub drain-requires-clause-given : goal.drain-requires-clause-given
@@ -57,7 +57,7 @@ drain-requires-clause-given g c = λ goes_on.
     let refused = c.in-Err-show_records.ensures c.args.limits
     (c.in-Ok.ensures c.args.limits.frame
     (c.new-record_reader.ensures.limits, (1, c.new-record_reader.ensures.stands))) in
-    rest_counts c.args.limits g.R.Source.left g.R.Source.given g.R.Source.failures
+    rest_counts c.args.limits g.R.Source
     c.args.reader.now c.show_records.new.reader c.show_records.new.records
     c.in-Err-show_records.refused refused goes_on c.requires.limits.input c.requires.given
 
@@ -66,7 +66,7 @@ drain-requires-clause-failures g c = λ goes_on.
     let refused = c.in-Err-show_records.ensures c.args.limits
     (c.in-Ok.ensures c.args.limits.frame
     (c.new-record_reader.ensures.limits, (1, c.new-record_reader.ensures.stands))) in
-    rest_failures c.args.limits g.R.Source.left g.R.Source.given g.R.Source.failures
+    rest_failures c.args.limits g.R.Source
     c.args.reader.now c.show_records.new.reader c.show_records.new.records
     c.in-Err-show_records.refused refused goes_on c.requires.read_failures
 
@@ -75,11 +75,11 @@ returns-clause-answer g c =
     let refused = c.in-Err-show_records.ensures c.args.limits
     (c.in-Ok.ensures c.args.limits.frame
     (c.new-record_reader.ensures.limits, (1, c.new-record_reader.ensures.stands))) in
-    refused_answer (showing c.args.limits) g.R.Source.left g.R.Source.given g.R.Source.failures
-    (lines_from 1) c.args.reader.now c.drain.new.reader g.W.Sink.out g.W.Sink.failures
+    refused_answer (showing c.args.limits) g.R.Source
+    (lines_from 1) c.args.reader.now c.drain.new.reader g.W.Sink
     c.args.writer.now c.in-Err-show_records.refused
     (drained (showing c.args.limits) (record_items c.args.limits.frame) held_of
-    (reads_records c.args.limits) g.R.Source.left g.R.Source.given g.R.Source.failures
+    (reads_records c.args.limits) g.R.Source
     c.args.reader.now c.show_records.new.reader c.drain.new.reader c.show_records.new.records
     c.in-Err-show_records.refused refused c.drain.ensures.over c.drain.ensures.rest)
 
@@ -88,9 +88,9 @@ returns-clause-taken g c =
     let refused = c.in-Err-show_records.ensures c.args.limits
     (c.in-Ok.ensures c.args.limits.frame
     (c.new-record_reader.ensures.limits, (1, c.new-record_reader.ensures.stands))) in
-    refused_taken c.args.limits g.R.Source.left g.R.Source.given g.R.Source.failures
+    refused_taken c.args.limits g.R.Source
     c.args.reader.now c.drain.new.reader c.in-Err-show_records.refused
     (drained (showing c.args.limits) (record_items c.args.limits.frame) held_of
-    (reads_records c.args.limits) g.R.Source.left g.R.Source.given g.R.Source.failures
+    (reads_records c.args.limits) g.R.Source
     c.args.reader.now c.show_records.new.reader c.drain.new.reader c.show_records.new.records
     c.in-Err-show_records.refused refused c.drain.ensures.over c.drain.ensures.rest)

@@ -8,27 +8,27 @@ use Rattle.dap_show.proofs.showing.show_records.Goals as goal
 
 pub loop-out-init : goal.loop-out-init
 loop-out-init g c = λ limits start.
-    none_read limits g.R.Source.left g.R.Source.given g.R.Source.failures c.args.reader.now
+    none_read limits g.R.Source c.args.reader.now
     c.args.records.now (string_bytes c.new-out.result) (search rules) start
 
 pub next-requires-clause-number : goal.next-requires-clause-number
 next-requires-clause-number g c =
     let ready = c.requires.start in
-    few_records ready.0 g.R.Source.left g.R.Source.given g.R.Source.failures c.args.reader.now
+    few_records ready.0 g.R.Source c.args.reader.now
     c.loop-out.reader c.loop-out.records (string_bytes c.loop-out.out)
     (c.loop-out.invariant ready.0 ready.2) ready.1.input
 
 pub next-requires-clause-given : goal.next-requires-clause-given
 next-requires-clause-given g c =
     let ready = c.requires.start in
-    few_given ready.0 g.R.Source.left g.R.Source.given g.R.Source.failures c.args.reader.now
+    few_given ready.0 g.R.Source c.args.reader.now
     c.loop-out.reader c.loop-out.records (string_bytes c.loop-out.out)
     (c.loop-out.invariant ready.0 ready.2) ready.1.input c.requires.given
 
 pub next-requires-clause-failures : goal.next-requires-clause-failures
 next-requires-clause-failures g c =
     let ready = c.requires.start in
-    few_failed ready.0 g.R.Source.left g.R.Source.given g.R.Source.failures c.args.reader.now
+    few_failed ready.0 g.R.Source c.args.reader.now
     c.loop-out.reader c.loop-out.records (string_bytes c.loop-out.out)
     (c.loop-out.invariant ready.0 ready.2) c.requires.failures
 
@@ -37,7 +37,7 @@ returns-in_err-whole g c = λ limits start.
     let because = err_from_is_err_and c.from_residual.result c.from_residual.ensures.1 in
     let was = c.loop-out.invariant limits start in
     rw (because.1, because.2)
-    (not_read limits g.R.Source.left g.R.Source.given g.R.Source.failures c.args.reader.now
+    (not_read limits g.R.Source c.args.reader.now
     c.loop-out.reader c.loop-out.records (string_bytes c.loop-out.out) was
     c.next.new.self c.next.new.reader _
     (c.in_err-whole.ensures limits.frame was.going.behind.between))
@@ -45,11 +45,11 @@ returns-in_err-whole g c = λ limits start.
 pub returns-in_default : goal.returns-in_default
 returns-in_default g c = λ limits start.
     let was = c.loop-out.invariant limits start in
-    all_shown limits g.R.Source.left g.R.Source.given g.R.Source.failures c.args.reader.now
+    all_shown limits g.R.Source c.args.reader.now
     c.loop-out.reader c.loop-out.records (string_bytes c.loop-out.out) was
     c.next.new.self c.next.new.reader
     (subst (λ o. ReadsNext (record_items limits.frame) (StandsForRecord limits.frame)
-    g.R.Source.left g.R.Source.given g.R.Source.failures c.loop-out.records c.next.new.self
+    g.R.Source c.loop-out.records c.next.new.self
     c.loop-out.reader c.next.new.reader (Ok o)) c.in_default.is
     (c.in_ok-whole.ensures limits.frame was.going.behind.between))
 
@@ -60,11 +60,11 @@ returns-in_err-append_lines g c = λ limits start.
     let was = c.loop-out.invariant limits start in
     let read = subst
     (λ o. ReadsNext (record_items limits.frame) (StandsForRecord limits.frame)
-    g.R.Source.left g.R.Source.given g.R.Source.failures c.loop-out.records c.next.new.self
+    g.R.Source c.loop-out.records c.next.new.self
     c.loop-out.reader c.next.new.reader (Ok o)) c.in-Some.is
     (c.in_ok-whole.ensures limits.frame was.going.behind.between) in
     rw (because.1, because.2)
-    (not_appended limits g.R.Source.left g.R.Source.given g.R.Source.failures c.args.reader.now
+    (not_appended limits g.R.Source c.args.reader.now
     c.loop-out.reader c.loop-out.records (string_bytes c.loop-out.out) was
     c.next.new.self c.next.new.reader c.in-Some.whole (string_bytes c.append_lines.new.out) _
     read (rw c.number-number.ensures at c.in_err-append_lines.ensures))
@@ -74,10 +74,10 @@ loop-out-preserved g c = λ limits start.
     let was = c.loop-out.invariant limits start in
     let read = subst
     (λ o. ReadsNext (record_items limits.frame) (StandsForRecord limits.frame)
-    g.R.Source.left g.R.Source.given g.R.Source.failures c.loop-out.records c.next.new.self
+    g.R.Source c.loop-out.records c.next.new.self
     c.loop-out.reader c.next.new.reader (Ok o)) c.in-Some.is
     (c.in_ok-whole.ensures limits.frame was.going.behind.between) in
-    one_more limits g.R.Source.left g.R.Source.given g.R.Source.failures c.args.reader.now
+    one_more limits g.R.Source c.args.reader.now
     c.loop-out.reader c.loop-out.records (string_bytes c.loop-out.out) was
     c.next.new.self c.next.new.reader (tt {0}) c.in-Some.whole
     (string_bytes c.append_lines.new.out) read (rw c.number-number.ensures at
@@ -87,10 +87,10 @@ pub loop-out-smaller : goal.loop-out-smaller
 loop-out-smaller g c =
     let ready = c.requires.start in
     let was = c.loop-out.invariant ready.0 ready.2 in
-    fewer ready.0 g.R.Source.left g.R.Source.given g.R.Source.failures c.args.reader.now
+    fewer ready.0 g.R.Source c.args.reader.now
     c.loop-out.reader c.loop-out.records (string_bytes c.loop-out.out) was
     c.next.new.self c.next.new.reader c.in-Some.whole
     (subst (λ o. ReadsNext (record_items ready.0.frame) (StandsForRecord ready.0.frame)
-    g.R.Source.left g.R.Source.given g.R.Source.failures c.loop-out.records c.next.new.self
+    g.R.Source c.loop-out.records c.next.new.self
     c.loop-out.reader c.next.new.reader (Ok o)) c.in-Some.is
     (c.in_ok-whole.ensures ready.0.frame was.going.behind.between))

@@ -8,7 +8,7 @@ use Rattle.dap_show.proofs.showing.show_records.Given as goal
 abbrev pub invariant-loop-out : goal.invariant-loop-out
 invariant-loop-out g l =
     (limits : Limits) → IsAtStart (StandsForRecord limits.frame) limits.input l.fn.records
-    → Showing limits g.R.Source.left g.R.Source.given g.R.Source.failures l.fn.reader l.reader
+    → Showing limits g.R.Source l.fn.reader l.reader
     l.records (string_bytes l.out)
 
 abbrev pub decreases-loop-out : goal.decreases-loop-out

@@ -20,6 +20,10 @@ returns c =
     c.in_ok-judged.ensures ∙ ap₂ with_subcommand normalise (ap top c.in_ok-check.ensures.0) in
     let showing =
     c.in_ok-showing.ensures ∙ ap (λ a. with_subcommand a (plain (codes "show")).top) judged in
-    IfOk-weaker c.with_other-2.result _ _
-    (λ d h. h ∙ ap₂ with_subcommand showing (ap top c.in_ok-compare.ensures.0))
-    c.with_other-2.ensures
+    let masking =
+    c.in_ok-masking.ensures ∙ ap₂ with_subcommand showing (ap top c.in_ok-mask.ensures.0) in
+    let telling =
+    c.in_ok-telling.ensures ∙ ap₂ with_subcommand masking (ap top c.in_ok-rows.ensures.0) in
+    IfOk-weaker c.with_other-4.result _ _
+    (λ d h. h ∙ ap₂ with_subcommand telling (ap top c.in_ok-compare.ensures.0))
+    c.with_other-4.ensures

@@ -41,3 +41,15 @@ returns-in-Ok-try_get_matches_from-clause-told c =
     (ap is_simple_and_free c.in-Ok.ensures ∙ refl) in
     subst (λ kinds. IsToldFor kinds c.no_job.result)
     (sym (ap (λ a. faults_of a words) (sym c.in-Ok.ensures) ∙ none)) c.no_job.ensures
+
+pub returns-in-Some-clause-ok : goal.returns-in-Some-clause-ok
+returns-in-Some-clause-ok c =
+    let simple = ap is_simple c.in-Ok.ensures ∙ refl in
+    let rows = (c.in-Ok-try_get_matches_from.ensures.matches simple).1
+    ∙ ap (λ a. subcommand_of a (map (λ w. w.now) c.args.words.now)) c.in-Ok.ensures in
+    ap job_named (sym rows) ∙ sym c.told_by.ensures ∙ ap (option_map told) c.in-Some.is
+
+pub returns-in-Some-clause-taken : goal.returns-in-Some-clause-taken
+returns-in-Some-clause-taken c =
+    ap (λ a. faults_of a (map (λ w. w.now) c.args.words.now)) (sym c.in-Ok.ensures)
+    ∙ c.in-Ok-try_get_matches_from.ensures.kinds (ap is_simple_and_free c.in-Ok.ensures ∙ refl)

@@ -1,7 +1,8 @@
-use Rattle.std.proofs.Common.{ap, ap₂, sym, codes, Some, ◌≡◌, ◌∙◌}
+use Rattle.std.proofs.Common.{ap, ap₂, sym, codes, option_map, Some, ◌≡◌, ◌∙◌}
 use Rattle.clap.proofs.WalkLemmas.{first_value-rows}
 use Rattle.clap.specs.Words.{first_of, found_of, rows_of}
-use Rattle.dapnorm.specs.CommandLine.{check, is_set, job_of, text_in, two_files}
+use Rattle.dapnorm.specs.CommandLine.{check, is_set, job_of, mask, rows as told_rows, text_in}
+use Rattle.dapnorm.specs.CommandLine.{two_files}
 use Rattle.dapnorm.proofs.command_line.job_by.Goals as goal
 
 pub returns-in-check : goal.returns-in-check
@@ -12,6 +13,20 @@ returns-in-check c =
     let flag : c.is_true-complete.result ≡ is_set (first_of (codes "complete") rows) =
     c.is_true-complete.ensures ∙ ap is_set value in
     ap (λ b. Some (check b)) flag ∙ sym (ap (λ n. job_of n rows) c.in-check.is)
+
+pub returns-in-mask : goal.returns-in-mask
+returns-in-mask c =
+    let rows = rows_of (found_of c.args.rows.now) in
+    let rules : text_in c.get_str-in-mask.result ≡ first_of (codes "RULES") rows =
+    c.get_str-in-mask.ensures ∙ first_value-rows (found_of c.args.rows.now) (codes "RULES") in
+    c.masking.ensures ∙ ap (option_map mask) rules ∙ sym (ap (λ n. job_of n rows) c.in-mask.is)
+
+pub returns-in-rows : goal.returns-in-rows
+returns-in-rows c =
+    let rows = rows_of (found_of c.args.rows.now) in
+    let number : text_in c.get_str-in-rows.result ≡ first_of (codes "N") rows =
+    c.get_str-in-rows.ensures ∙ first_value-rows (found_of c.args.rows.now) (codes "N") in
+    ap (λ n. Some (told_rows n)) number ∙ sym (ap (λ n. job_of n rows) c.in-rows.is)
 
 pub returns-in-compare : goal.returns-in-compare
 returns-in-compare c =

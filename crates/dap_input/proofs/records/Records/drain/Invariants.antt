@@ -5,12 +5,10 @@ use Rattle.dap_input.proofs.records.Records.drain.Given as goal
 
 abbrev pub invariant-loop-self : goal.invariant-loop-self
 invariant-loop-self g l =
-    let left = g.R.Source.left in
-    let given = g.R.Source.given in
-    let failures = g.R.Source.failures in
+    let source = g.R.Source in
     record {
-      counted : AreCounted given failures l.fn.self l.self l.fn.reader l.reader;
-      came : Draining left given failures l.fn.self l.self l.fn.reader l.reader;
+      counted : AreCounted source l.fn.self l.self l.fn.reader l.reader;
+      came : Draining source l.fn.self l.self l.fn.reader l.reader;
     }
 
 abbrev pub decreases-loop-self : goal.decreases-loop-self

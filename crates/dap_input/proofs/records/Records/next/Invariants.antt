@@ -6,13 +6,11 @@ use Rattle.dap_input.proofs.records.Records.next.Given as goal
 
 abbrev pub invariant-loop-stop : goal.invariant-loop-stop
 invariant-loop-stop g l =
-    let left = g.R.Source.left in
-    let given = g.R.Source.given in
-    let failures = g.R.Source.failures in
+    let source = g.R.Source in
     record {
-      counted : AreCounted given failures l.fn.self l.self l.fn.reader l.reader;
+      counted : AreCounted source l.fn.self l.self l.fn.reader l.reader;
       looking : (limits : FrameLimits) → StandsBetween (g.I.ItemReader.stands limits) l.fn.self
-          → Looking (g.I.ItemReader.items limits) (g.I.ItemReader.stands limits) left given failures
+          → Looking (g.I.ItemReader.items limits) (g.I.ItemReader.stands limits) source
           l.fn.self l.self l.fn.reader l.reader;
     }
 

@@ -1,4 +1,4 @@
-use Rattle.std.proofs.Common.{inl, inr, refl, sym, subst, Ok, Err, None}
+use Rattle.std.proofs.Common.{inl, refl, sym, subst, Ok, None}
 use Rattle.dap_input.specs.RecordSteps.{Stops}
 use Rattle.dap_input.proofs.records.Records.stopped.Goals as goal
 

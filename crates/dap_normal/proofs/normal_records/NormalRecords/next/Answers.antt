@@ -9,17 +9,17 @@ pub returns-in_err-whole : goal.returns-in_err-whole
 returns-in_err-whole g c = λ limits bytes messages normal was.
     let because = err_from_is_err_and c.from_residual.result c.from_residual.ensures.1 in
     rw (because.1, because.2)
-    (refused_read g.R.Source.left g.R.Source.given g.R.Source.failures limits bytes c.args.self.now
+    (refused_read g.R.Source limits bytes c.args.self.now
     messages normal was c.next.new.self c.args.reader.now c.next.new.reader _
     (c.in_err-whole.ensures limits.frame was.between))
 
 pub returns-in_default : goal.returns-in_default
 returns-in_default g c = λ limits bytes messages normal was.
-    none_left g.R.Source.left g.R.Source.given g.R.Source.failures limits bytes c.args.self.now
+    none_left g.R.Source limits bytes c.args.self.now
     messages normal was c.next.new.self c.args.reader.now c.next.new.reader
     c.args.text.now.items
     (subst (λ o. ReadsNext (record_items limits.frame) (StandsForRecord limits.frame)
-    g.R.Source.left g.R.Source.given g.R.Source.failures c.args.self.now.records c.next.new.self
+    g.R.Source c.args.self.now.records c.next.new.self
     c.args.reader.now c.next.new.reader (Ok o)) c.in_default.is
     (c.in_ok-whole.ensures limits.frame was.between))
 
@@ -29,12 +29,11 @@ returns-in_err-judge g c = λ limits bytes messages normal was.
     err_from_is_err_and c.from_residual-in_err-judge.result
     c.from_residual-in_err-judge.ensures.1 in
     let read = subst
-    (λ o. ReadsNext (record_items limits.frame) (StandsForRecord limits.frame) g.R.Source.left
-    g.R.Source.given g.R.Source.failures c.args.self.now.records c.next.new.self
+    (λ o. ReadsNext (record_items limits.frame) (StandsForRecord limits.frame) g.R.Source c.args.self.now.records c.next.new.self
     c.args.reader.now c.next.new.reader (Ok o)) c.in-Some.is
     (c.in_ok-whole.ensures limits.frame was.between) in
     rw (because.1, because.2)
-    (refused_judge g.R.Source.left g.R.Source.given g.R.Source.failures limits bytes c.args.self.now
+    (refused_judge g.R.Source limits bytes c.args.self.now
     messages normal was c.next.new.self c.args.reader.now c.next.new.reader c.in-Some.whole read
     c.judge.new.self c.args.text.now.items c.judge.new.out.items _
     (rw c.number-number.ensures at c.in_err-judge.ensures.judges))
@@ -42,11 +41,10 @@ returns-in_err-judge g c = λ limits bytes messages normal was.
 pub returns : goal.returns
 returns g c = λ limits bytes messages normal was.
     let read = subst
-    (λ o. ReadsNext (record_items limits.frame) (StandsForRecord limits.frame) g.R.Source.left
-    g.R.Source.given g.R.Source.failures c.args.self.now.records c.next.new.self
+    (λ o. ReadsNext (record_items limits.frame) (StandsForRecord limits.frame) g.R.Source c.args.self.now.records c.next.new.self
     c.args.reader.now c.next.new.reader (Ok o)) c.in-Some.is
     (c.in_ok-whole.ensures limits.frame was.between) in
-    gone_on g.R.Source.left g.R.Source.given g.R.Source.failures limits bytes c.args.self.now
+    gone_on g.R.Source limits bytes c.args.self.now
     messages normal was c.next.new.self c.args.reader.now c.next.new.reader c.in-Some.whole read
     c.judge.new.self c.args.text.now.items c.judge.new.out.items c.in_ok-judge.ensures.limits
     c.in_ok-judge.ensures.judges

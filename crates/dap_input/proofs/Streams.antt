@@ -1,0 +1,365 @@
+-- An engine that writes the text of each record once it is judged: what it keeps, and what it
+-- answers.
+use Rattle.std.proofs.Common.{◌≡◌, ◌≢◌, inl, inr, ℕ, ◌+◌, ◌-◌, ◌<◌, ◌≤◌, ◌^◌, true, false, List, []}
+use Rattle.std.proofs.Common.{◌∷◌, ◌++◌, length, Option, Some, None, Result, Ok, Err, refl, sym}
+use Rattle.std.proofs.Common.{◌∙◌, ap, subst, arith, append_assoc, append-nil, length-append}
+use Rattle.std.proofs.lemmas.Bool.{true≢false}
+use Rattle.std.proofs.lemmas.List.{length_push}
+use Rattle.std.specs.Prelude.{is_err}
+use Rattle.std.specs.Io.KnownBytes.{Appends}
+use Rattle.std.proofs.KnownBytes.{Appends-nil, Appends-trans}
+use Rattle.dap_device.specs.declared.device.Source.{Ghosts as Source}
+use Rattle.dap_device.specs.declared.device.Sink.{Ghosts as Sink}
+use Rattle.dap_device.specs.Device.{HasFlushedAll, HasTakenNothing}
+use Rattle.dap_device.specs.Written.{AllSent, AllWritten, FrontWritten, HasWrittenAll}
+use Rattle.dap_device.specs.Pieces.{HasComeSoFar}
+use Rattle.dap_device.specs.declared.device.DeviceFault.{DeviceFault}
+use Rattle.dap_device.specs.declared.reading.Stop.{Stop}
+use Rattle.dap_device.specs.declared.reading.Stop.TheVariants.{End}
+use Rattle.dap_device.proofs.Sending.{all_then_all, kept, nothing_awaits, some_of_both}
+use Rattle.dap_items.specs.Items.{Items}
+use Rattle.dap_recording.specs.declared.record_fault.RecordCause.{RecordCause}
+use Rattle.dap_recording.specs.declared.record_fault.RecordCause.TheVariants.{Cut}
+use Rattle.dap_input.specs.InputSteps.{Says}
+use Rattle.dap_input.specs.Inputs.{AcceptedBefore}
+use Rattle.dap_input.specs.Judging.{Judging}
+use Rattle.dap_input.specs.ReadTo.{so_far}
+use Rattle.dap_input.specs.RecordSteps.{IsAtStart, ReadsNext}
+use Rattle.dap_input.specs.Refusals.{RefusesAt, RefusesHeld}
+use Rattle.dap_input.specs.Streaming.{AnswersRefusal, Flushes, HasComeTo, HasFailedToWrite}
+use Rattle.dap_input.specs.Streaming.{HasGivenUp, HasRefused, Streams}
+use Rattle.dap_input.specs.declared.records.Records.{Records}
+use Rattle.dap_input.specs.declared.refused.Refused.{Refused}
+use Rattle.dap_input.specs.declared.refused.Refused.TheVariants.{Record, WriteFault, Memory}
+use Rattle.dap_input.proofs.Coming.{came_on, nothing_came}
+use Rattle.dap_input.proofs.InputLoop.{ReadsAs, StandsBehind}
+use Rattle.dap_input.proofs.InputSteps as steps
+use Rattle.dap_input.proofs.Refusals.{untold}
+use Rattle.dap_input.proofs.Runs.{run_none}
+use Rattle.dap_input.proofs.WholeInputs.{Going, at_start, few_failures, on, small_count}
+use Rattle.dap_input.proofs.WholeInputs.{small_number}
+use Rattle.dap_input.proofs.WholeInputs as whole
+
+-- What a text that was sent out made of the writer.
+pub all_written : {W U : Type 0} (sink : Sink W) (old new : W) (answer : Result U DeviceFault)
+    (bytes : List ℕ) → HasWrittenAll sink old new answer bytes → is_err answer ≡ false
+    → AllWritten sink old new bytes
+all_written sink old new (Ok done) bytes sent none = sent
+all_written sink old new (Err fault) bytes sent none = absurd (true≢false none)
+
+pub front_written : {W U : Type 0} (sink : Sink W) (old new : W) (answer : Result U DeviceFault)
+    (bytes : List ℕ) → HasWrittenAll sink old new answer bytes → is_err answer ≡ true
+    → FrontWritten sink old new bytes
+front_written sink old new (Ok done) bytes sent some = absurd (true≢false (sym some))
+front_written sink old new (Err fault) bytes sent some = sent
+
+-- The records before the next one are judged as these values, and their text went out.
+pub record Streaming {I R W : Type 0} (j : Judging) (stands : I → List ℕ → Type 0)
+    (text : List j.Value → List ℕ) (source : Source R) (sink : Sink W) (start reader : R)
+    (before writer : W) (records : Records I) (values : List j.Value) : Type 0 where
+  pub going : Going j stands source start reader records values
+  pub written : AllWritten sink before writer (text values)
+
+module _ {I A R W : Type 0} (j : Judging) (g : Items A RecordCause) (held_of : A → j.Held)
+    (facts : ReadsAs j g held_of) (stands : I → List ℕ → Type 0) (text : List j.Value → List ℕ)
+    (Gives Promises : List ℕ → List ℕ → Type 0)
+    (gives : (bytes : List ℕ) (values : List j.Value) → j.IsAccepted bytes values
+    → Gives bytes (text values))
+    (promised : (bytes : List ℕ) (values : List j.Value) → j.IsAccepted bytes values
+    → Promises bytes (text values))
+    (no_text : text [] ≡ []) (source : Source R) (sink : Sink W) (start : R) (before : W) where
+  abbrev pub Answer : R → W → Result (Unit {0}) Refused → Type 0
+  Answer after end answer =
+      Streams j Gives Promises source sink start after before end
+      answer
+
+  nothing_written : AllWritten sink before before []
+  nothing_written = record {
+    appended = Appends-nil (sink.out before);
+    awaits = nothing_awaits sink.unflushed before before refl;
+    no_failure = refl;
+  }
+
+  -- Nothing has been read or written.
+  pub given_up : HasGivenUp j Gives Promises source sink start start
+      before before
+  given_up =
+      let accepted = facts.accepted.accepted_of_run [] [] (run_none j [] 0) in
+      record {
+        number = 1;
+        stop = None;
+        text = [];
+        to = record {
+          bytes = [];
+          came = nothing_came source start;
+          read_to = record
+              { before = []; last = []; split = refl; few = omega arith; ends = inl refl };
+          before = record {
+            values = [];
+            front = [];
+            rest = [];
+            split = refl;
+            accepted = accepted;
+            is_number = omega arith;
+          };
+          gives = subst (Gives []) no_text (gives [] [] accepted);
+        };
+        written = nothing_written;
+      }
+
+  abbrev pub Stands : R → W → Records I → List j.Value → Type 0
+  Stands reader writer records values =
+      Streaming j stands text source sink start reader before writer
+      records values
+
+  pub none_written : (records : Records I) → IsAtStart stands j.input records
+      → Stands start before records []
+  none_written records is = record {
+    going = at_start j g held_of facts stands source start records is;
+    written = subst (AllWritten sink before before) (sym no_text) nothing_written;
+  }
+
+  module _ (reader : R) (writer : W) (records : Records I) (values : List j.Value)
+      (was : Stands reader writer records values) where
+    pub few_records : j.input ≤ 2 ^ 62 → records.number < 2 ^ 63
+    few_records =
+        small_number j g held_of facts stands source start reader records values
+        was.going
+
+    pub few_given : j.input ≤ 2 ^ 62 → source.given start < 2 ^ 62
+        → source.given reader + (records.pieces.limit - records.pieces.taken) < 2 ^ 63
+    few_given =
+        small_count j g held_of facts stands source start reader records values
+        was.going
+
+    pub few_read_failures : source.failures start < 2 ^ 62 → source.failures reader < 2 ^ 63
+    few_read_failures =
+        few_failures j g held_of facts stands source start reader records values
+        was.going
+
+    pub few_write_failures : sink.failures before < 2 ^ 62 → sink.failures writer < 2 ^ 63
+    few_write_failures few = let same = was.written.no_failure in omega (arith, few, same)
+
+    behind : StandsBehind j stands was.going.bytes records values
+    behind = was.going.behind
+
+    module _ (new : Records I) (after : R) where
+      abbrev pub Reads : Result (Option A) Refused → Type 0
+      Reads answer = ReadsNext g stands source records new reader after answer
+
+      module _ (answer : Result (Option A) Refused) (read : Reads answer) where
+        abbrev come : List ℕ
+        come = was.going.bytes ++ read.more
+
+        came : HasComeSoFar source start after come read.stop
+        came = came_on source start reader after was.going.bytes read.more
+            read.stop was.going.came read.came
+
+        abbrev to : HasComeTo j Gives source start after read.stop records.number
+            (text values)
+        to = record {
+          bytes = come;
+          came = came;
+          read_to = steps.read_to j g held_of facts stands source was.going.bytes
+              records values behind new reader after answer read;
+          before = record {
+            values = values;
+            front = behind.front;
+            rest = records.pieces.unread ++ read.more;
+            split = ap (λ t. t ++ read.more) behind.came
+                ∙ append_assoc behind.front records.pieces.unread read.more;
+            accepted = behind.accepted;
+            is_number = behind.number_is;
+          };
+          gives = gives behind.front values behind.accepted;
+        }
+
+        -- At most one byte past the limit is taken.
+        pub few_taken : source.given after ≤ source.given start + j.input + 1
+        few_taken =
+            let so_many = was.going.came.counted in
+            let more = read.came.counted in
+            let most = steps.at_most j g held_of facts stands source
+            was.going.bytes records values behind new reader after answer read in
+            omega (arith, so_many, more, most, length-append was.going.bytes read.more)
+
+        -- ---- the engine stops here
+
+        -- a flush that fails
+        failed_to_flush : (end : W)
+            → HasTakenNothing sink.out sink.unflushed sink.failures writer end
+            → HasFailedToWrite j Gives Promises source sink start after before end
+        failed_to_flush end nothing = record {
+          number = records.number;
+          stop = read.stop;
+          text = text values;
+          to = to;
+          next = [];
+          is_next = inl refl;
+          count = 0;
+          within = omega arith;
+          written = subst (Appends (sink.out before) (sink.out end))
+              (sym (append-nil (text values)))
+              (kept (sink.out before) (sink.out writer) (sink.out end) (text values)
+              was.written.appended nothing.kept);
+          awaits = some_of_both sink.unflushed before writer end (length (text values)) 0
+              was.written.awaits (nothing_awaits sink.unflushed writer end nothing.awaits);
+          failure = let none = was.written.no_failure in nothing.failure ∙ ap (λ n. n + 1) none;
+        }
+
+        -- a flush that is done
+        flushed : (end : W) → HasFlushedAll sink.out sink.unflushed sink.failures writer end
+            → AllSent sink before end (text values)
+        flushed end done = record {
+          appended = kept (sink.out before) (sink.out writer) (sink.out end) (text values)
+              was.written.appended done.kept;
+          flushed = done.flushed;
+          no_failure = let none = was.written.no_failure in done.no_failure ∙ none;
+        }
+
+        has_given_up : HasGivenUp j Gives Promises source sink start after before writer
+        has_given_up = record {
+          number = records.number;
+          stop = read.stop;
+          text = text values;
+          to = to;
+          written = was.written;
+        }
+
+        abbrev Told : Refused → Type 0
+        Told because = Says j come read.stop records.number because
+            × ((n : ℕ) → because ≡ Record n Cut → read.stop ≡ Some End)
+
+        refused_for : (because : Refused) → because ≢ Memory → Told because → (end : W)
+            → HasFlushedAll sink.out sink.unflushed sink.failures writer end
+            → Answer after end (Err because)
+        refused_for WriteFault other told end done =
+            absurd (untold WriteFault records.number told.0.fault refl
+            (λ e. absurd (let same = e in cc)) told.0.tells)
+        refused_for Memory other told end done = absurd (other refl)
+        refused_for because other told end done = record {
+          text = text values;
+          refuses = record {
+            number = records.number;
+            stop = read.stop;
+            to = to;
+            refuses = told.0;
+            cut = told.1;
+          };
+          written = flushed end done;
+        }
+
+        once_flushed : (because : Refused) → because ≢ Memory → Told because → (end : W)
+            (result : Result (Unit {0}) Refused) → Flushes sink writer end (Err because) result
+            → Answer after end result
+        once_flushed because other told end result (inl done) =
+            subst (Answer after end) (sym done.0) (refused_for because other told end done.1)
+        once_flushed because other told end result (inr failed) =
+            subst (Answer after end) (sym failed.0) (failed_to_flush end failed.1)
+
+        refused : (because : Refused) → Told because → (end : W)
+            (result : Result (Unit {0}) Refused) → AnswersRefusal sink writer end because result
+            → Answer after end result
+        refused Memory told end result (is, same) =
+            subst (Answer after end) (sym is)
+            (subst (HasGivenUp j Gives Promises source sink start after before) (sym same)
+            has_given_up)
+        refused because told end result given =
+            once_flushed because (λ same. absurd (let e = same in cc)) told end result given
+
+      -- No record has come.
+      pub not_read : (because : Refused) → Reads (Err because) → (end : W)
+          (result : Result (Unit {0}) Refused)
+          → AnswersRefusal sink writer end because result → Answer after end result
+      not_read because read =
+          refused (Err because) read because
+          (steps.refused_read j g held_of facts stands source was.going.bytes
+          records values behind new reader after because read)
+
+      -- All records have come.
+      pub streamed : Reads (Ok None) → (end : W) (result : Result (Unit {0}) Refused)
+          → Flushes sink writer end (Ok tt) result → Answer after end result
+      streamed read end result (inl done) =
+          let all = whole.accepts_all j g held_of facts stands source start reader
+          records values was.going new after read in
+          subst (Answer after end) (sym done.0) (record {
+            text = text values;
+            accepts = record {
+              whole = all.whole;
+              came = record {
+                came = all.came.came;
+                counted = all.came.counted;
+                has_length = all.within;
+                stopped = all.came.paused;
+              };
+              gives = promised all.whole values all.accepted;
+            };
+            written = flushed (Ok None) read end done.1;
+          })
+      streamed read end result (inr failed) =
+          subst (Answer after end) (sym failed.0)
+          (failed_to_flush (Ok None) read end failed.1)
+
+      -- A record has come.
+      module _ (held : A) (read : Reads (Ok (Some held))) where
+        -- It is refused for what it holds.
+        pub not_taken : (because : Refused)
+            → RefusesHeld (j.Objects values (held_of held)) records.number because → (end : W)
+            (result : Result (Unit {0}) Refused)
+            → AnswersRefusal sink writer end because result → Answer after end result
+        not_taken because objects =
+            refused (Ok (Some held)) read because
+            (steps.refused_held j g held_of facts stands source was.going.bytes
+            records values behind new reader after held read because objects)
+
+        -- It is accepted as the next value, and this is its text.
+        module _ (value : j.Value) (is_next : j.IsNext values (held_of held) value)
+            (longer : List ℕ) (text_is : text (values ++ value ∷ []) ≡ text values ++ longer) where
+          pub written_on : (end : W) → AllWritten sink writer end longer
+              → Stands after end new (values ++ value ∷ [])
+          written_on end all = record {
+            going = on j g held_of facts stands source start reader records values
+                was.going new after held read value is_next;
+            written = subst (AllWritten sink before end) (sym text_is)
+                (all_then_all sink before writer end (text values) longer was.written all);
+          }
+
+          abbrev next : StandsBehind j stands (come (Ok (Some held)) read) new
+              (values ++ value ∷ [])
+          next = steps.gone_on j g held_of facts stands source was.going.bytes
+              records values behind new reader after held read value is_next
+
+          pub failed_to_write : (end : W) → FrontWritten sink writer end longer
+              → HasFailedToWrite j Gives Promises source sink start
+              after before end
+          failed_to_write end front = record {
+            number = records.number;
+            stop = read.stop;
+            text = text values;
+            to = to (Ok (Some held)) read;
+            next = longer;
+            is_next = inr (
+              record {
+                values = values ++ value ∷ [];
+                front = next.front;
+                rest = new.pieces.unread;
+                split = next.came;
+                accepted = next.accepted;
+                is_number =
+                    (let is = behind.number_is in omega (arith, is, length_push values value));
+              },
+              subst (Gives next.front) text_is (gives next.front (values ++ value ∷ [])
+                  next.accepted),
+            );
+            count = front.count;
+            within = front.within;
+            written = Appends-trans _ _ _ _ _ was.written.appended front.appended;
+            awaits = some_of_both sink.unflushed before writer end (length (text values))
+                front.count was.written.awaits front.awaits;
+            failure = let none = was.written.no_failure in front.failure ∙ ap (λ n. n + 1) none;
+          }
+
+        pub fewer : (new.pieces.limit - new.pieces.taken) + length new.pieces.unread
+            < (records.pieces.limit - records.pieces.taken) + length records.pieces.unread
+        fewer = whole.fewer_left j g held_of facts stands source start reader
+            records values was.going new after held read

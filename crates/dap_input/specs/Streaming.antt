@@ -1,0 +1,106 @@
+-- What an engine answers that writes the text of an input record by record, while it reads it, and
+-- how far it has then read and written. Source: own. `Gives` says what text an input gives, and
+-- `Promises` all that is promised of the text of a whole one.
+use Rattle.std.specs.Prelude.{◌≡◌, ◌⊎◌, ℕ, ◌+◌, ◌≤◌, List, [], ◌++◌, length, take, Option, Some}
+use Rattle.std.specs.Prelude.{Result, Ok, Err}
+use Rattle.std.specs.Io.KnownBytes.{Appends}
+use Rattle.dap_device.specs.declared.device.Source.{Ghosts as Source}
+use Rattle.dap_device.specs.declared.device.Sink.{Ghosts as Sink}
+use Rattle.dap_device.specs.Device.{AwaitFlush, HasFlushedAll, HasTakenNothing}
+use Rattle.dap_device.specs.Pieces.{HasComeSoFar}
+use Rattle.dap_device.specs.Written.{AllSent, AllWritten}
+use Rattle.dap_device.specs.declared.reading.Stop.{Stop}
+use Rattle.dap_device.specs.declared.reading.Stop.TheVariants.{End}
+use Rattle.dap_recording.specs.declared.record_fault.RecordCause.TheVariants.{Cut}
+use Rattle.dap_input.specs.Judging.{Judging}
+use Rattle.dap_input.specs.declared.refused.Refused.{Refused}
+use Rattle.dap_input.specs.declared.refused.Refused.TheVariants.{Record, WriteFault, Memory}
+use Rattle.dap_input.specs.Inputs.{AcceptedBefore}
+use Rattle.dap_input.specs.Engine.{Accepts}
+use Rattle.dap_input.specs.ReadTo.{IsReadTo, so_far}
+use Rattle.dap_input.specs.Refusals.{RefusesAt}
+
+-- An engine over a reader, by what this tells of its bytes, and by its counts.
+module _ {R : Type 0} (j : Judging) (Gives : List ℕ → List ℕ → Type 0) (source : Source R) where
+  -- So much has come, and no more than this record asked for. The records before it are accepted,
+  -- and this is what they give.
+  pub record HasComeTo (old new : R) (stop : Option Stop) (number : ℕ) (text : List ℕ) : Type 0
+    where
+      pub bytes : List ℕ
+      pub came : HasComeSoFar source old new bytes stop
+      pub read_to : IsReadTo j bytes number
+      pub before : AcceptedBefore j (so_far bytes stop) number
+      pub gives : Gives before.front text
+
+  -- This record is refused, or the reader fails at it. The records before it give this text. That
+  -- it is cut is told only where the reader came to its end.
+  pub record RefusesNext (old new : R) (refused : Refused) (text : List ℕ) : Type 0 where
+    pub number : ℕ
+    pub stop : Option Stop
+    pub to : HasComeTo old new stop number text
+    pub refuses : RefusesAt j (so_far to.bytes stop) number refused
+    pub cut : (n : ℕ) → refused ≡ Record n Cut → stop ≡ Some End
+
+-- An engine over a reader and a writer, which writes the text of the records that it has judged.
+module _ {R W : Type 0} (j : Judging) (Gives Promises : List ℕ → List ℕ → Type 0)
+    (source : Source R) (sink : Sink W) where
+  -- The input is accepted, all of its text went out and was flushed, and neither device failed.
+  pub record HasStreamed (old new : R) (before after : W) : Type 0 where
+    pub text : List ℕ
+    pub accepts : Accepts source j.input Promises old new text
+    pub written : AllSent sink before after text
+
+  -- A record is refused, or the reader fails at it, and the text of the records before it went out
+  -- and was flushed.
+  pub record HasRefused (old new : R) (before after : W) (refused : Refused) : Type 0 where
+    pub text : List ℕ
+    pub refuses : RefusesNext j Gives source old new refused text
+    pub written : AllSent sink before after text
+
+  -- The text of some leading records went out, with no flush behind it.
+  pub record HasGivenUp (old new : R) (before after : W) : Type 0 where
+    pub number : ℕ
+    pub stop : Option Stop
+    pub text : List ℕ
+    pub to : HasComeTo j Gives source old new stop number text
+    pub written : AllWritten sink before after text
+
+  -- what is to be written of the record that the engine has come to: nothing, or with it the text
+  -- of one record more
+  abbrev pub IsNextText : List ℕ → Option Stop → ℕ → List ℕ → List ℕ → Type 0
+  IsNextText bytes stop number text next = (next ≡ [])
+      ⊎ ((before : AcceptedBefore j (so_far bytes stop) (number + 1))
+      × Gives before.front (text ++ next))
+
+  -- The writer failed: the text of the records before this one went out, and of this one's a front,
+  -- perhaps all of it, with no flush behind it.
+  pub record HasFailedToWrite (old new : R) (before after : W) : Type 0 where
+    pub number : ℕ
+    pub stop : Option Stop
+    pub text : List ℕ
+    pub to : HasComeTo j Gives source old new stop number text
+    pub next : List ℕ
+    pub is_next : IsNextText to.bytes stop number text next
+    pub count : ℕ
+    pub within : count ≤ length next
+    pub written : Appends (sink.out before) (sink.out after) (text ++ take count next)
+    pub awaits : AwaitFlush sink.unflushed before after (length text + count)
+    pub failure : sink.failures after ≡ sink.failures before + 1
+
+  abbrev pub Streams : {U : Type 0} → R → R → W → W → Result U Refused → Type 0
+  Streams old new before after (Ok done) = HasStreamed old new before after
+  Streams old new before after (Err WriteFault) = HasFailedToWrite old new before after
+  Streams old new before after (Err Memory) = HasGivenUp old new before after
+  Streams old new before after (Err refused) = HasRefused old new before after refused
+
+-- The answer is given once the writer is flushed, or the writer failed.
+abbrev pub Flushes : {W U : Type 0} → Sink W → W → W → Result U Refused → Result U Refused → Type 0
+Flushes sink before after answer given =
+    ((given ≡ answer) × HasFlushedAll sink.out sink.unflushed sink.failures before after)
+    ⊎ ((given ≡ Err WriteFault)
+    × HasTakenNothing sink.out sink.unflushed sink.failures before after)
+
+-- A refusal is answered: where memory was refused, at once, and else once the writer is flushed.
+abbrev pub AnswersRefusal : {W U : Type 0} → Sink W → W → W → Refused → Result U Refused → Type 0
+AnswersRefusal sink before after Memory given = (given ≡ Err Memory) × (after ≡ before)
+AnswersRefusal sink before after because given = Flushes sink before after (Err because) given

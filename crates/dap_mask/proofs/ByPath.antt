@@ -1,0 +1,375 @@
+-- The changes of all rules make the masked document.
+use Rattle.std.proofs.Common.{◌≡◌, ℕ, Bool, true, false, cond, not, ◌&&◌, ◌||◌, List, [], ◌∷◌}
+use Rattle.std.proofs.Common.{Option, Some, None, option_map, codes, refl, sym}
+use Rattle.std.proofs.Common.{◌∙◌, ap, ap₂, bytes_eq, true≢false}
+use Rattle.std.proofs.Common.{Ordering, Less, Equal, Greater, nat_cmp}
+use Rattle.std.proofs.lemmas.Slice.Eq.{bytes_eq-Decides}
+use Rattle.std.specs.Cmp.Lexicographic.{slice_cmp}
+use Rattle.std.specs.Ordering.{match_ordering, is_lt}
+use Rattle.dap_tree.specs.Doc.{Doc, null, boolean, whole, text, list, object, id, Items, no_items}
+use Rattle.dap_tree.specs.Doc.{item, Members, no_members, member, get, change_member, change_child}
+use Rattle.dap_tree.specs.Doc.{map_items, change_items, is_below_all, is_ordered, items_ordered}
+use Rattle.dap_tree.specs.Doc.{members_ordered}
+use Rattle.dap_tree.specs.Path.{Step, name, at}
+use Rattle.dap_tree.proofs.Booleans.{and_left, and_right, and_both}
+use Rattle.dap_profile.specs.PlaceSteps.{PlaceStep, named, each}
+use Rattle.dap_message.specs.Places.{fits_place}
+use Rattle.dap_message.specs.Marks.{top, edit}
+use Rattle.dap_message.specs.Rows.{is_text, is_of_kind, name_key, type_name}
+use Rattle.dap_profile.specs.declared.profile.Kind.{Kind}
+use Rattle.dap_profile.specs.declared.profile.Kind.TheVariants.{Request, Response, Event}
+use Rattle.dap_message.proofs.Edits.{Alike, by_bool}
+use Rattle.dap_message.proofs.RowMarks.{text-top, one_step}
+use Rattle.dap_message.proofs.OneMarking.{told}
+use Rattle.dap_mask.specs.Rules.{Rule, of_verb, takes_parts, has_name, speaks_of, is_event_of}
+use Rattle.dap_mask.specs.Rules.{is_dropped, is_telling, is_telling_place, are_safe}
+use Rattle.dap_mask.specs.Masked.{is_below, left_at, left_by, left, IsMasked, AgreeBut, is_apart}
+use Rattle.dap_mask.specs.Masked.{mask_by, masked}
+use Rattle.dap_mask.specs.declared.rules.Verb.{Verb}
+use Rattle.dap_mask.specs.declared.rules.Verb.TheVariants.{Blank, Digits, Hex}
+use Rattle.dap_mask.proofs.Edited.{top-verb, at-edit, left-none}
+
+-- ---- a rule speaks of a masked document as of the one before
+
+not_true : (b : Bool) → not b ≡ true → b ≡ false
+not_true true h = cc
+not_true false h = refl
+
+-- a place other than that of a telling member says nothing of it
+apart_from : (k : List ℕ) → is_telling k ≡ true → (ps : List PlaceStep) → is_telling_place ps
+    ≡ false → (fits_place ps (name k ∷ []) ≡ false) × (is_below ps (name k ∷ []) ≡ false)
+apart_from k t [] h = cc
+apart_from k t (named j ∷ []) h = by_bool (bytes_eq j k)
+    (λ e. absurd (true≢false (sym t ∙ ap is_telling (sym ((bytes_eq-Decides j k).0 e)) ∙ h)))
+    (λ e. (rw e refl, rw e refl))
+apart_from k t (named j ∷ named q ∷ ps) h = by_bool (bytes_eq j k) (λ e. (rw e refl, rw e refl))
+    (λ e. (rw e refl, rw e refl))
+apart_from k t (named j ∷ each ∷ ps) h = by_bool (bytes_eq j k) (λ e. (rw e refl, rw e refl))
+    (λ e. (rw e refl, rw e refl))
+apart_from k t (each ∷ ps) h = (refl, refl)
+
+-- so a change at it leaves the member, seen from above
+child-edit : (v : Verb) (ps : List PlaceStep) (k : List ℕ) (d : Doc) → is_telling k ≡ true
+    → is_telling_place ps ≡ false → Alike (get k (edit ps (of_verb v) d)) (get k d)
+child-edit v ps k d t h =
+    let far = apart_from k t ps h in
+    ap (option_map top) (sym (one_step k (edit ps (of_verb v) d))) ∙ at-edit v ps d (name k ∷ [])
+    ∙ ap₂ (λ a b. option_map top (cond a (option_map (of_verb v) (at (name k ∷ []) d))
+    (cond (b && takes_parts v) None (at (name k ∷ []) d)))) far.0 far.1
+    ∙ ap (option_map top) (one_step k d)
+
+text-edit : (v : Verb) (ps : List PlaceStep) (w k : List ℕ) (d : Doc) → is_telling k ≡ true
+    → is_telling_place ps ≡ false → is_text w (get k (edit ps (of_verb v) d)) ≡ is_text w (get k d)
+text-edit v ps w k d t h = sym (text-top w (get k (edit ps (of_verb v) d)))
+    ∙ ap (is_text w) (child-edit v ps k d t h) ∙ text-top w (get k d)
+
+telling_name : (k : Kind) → is_telling (name_key k) ≡ true
+telling_name Request = refl
+telling_name Response = refl
+telling_name Event = refl
+
+kind-edit : (v : Verb) (ps : List PlaceStep) (k : Kind) (d : Doc) → is_telling_place ps ≡ false
+    → is_of_kind k (edit ps (of_verb v) d) ≡ is_of_kind k d
+kind-edit v ps k d h = text-edit v ps (type_name k) (codes "type") d refl h
+
+name-edit : (v : Verb) (ps : List PlaceStep) (k : Kind) (n : Option (List ℕ)) (d : Doc)
+    → is_telling_place ps ≡ false → has_name k n (edit ps (of_verb v) d) ≡ has_name k n d
+name-edit v ps k None d h = refl
+name-edit v ps k (Some n) d h = text-edit v ps n (name_key k) d (telling_name k) h
+
+event-edit : (v : Verb) (ps : List PlaceStep) (ns : List (Option (List ℕ))) (d : Doc)
+    → is_telling_place ps
+    ≡ false → is_event_of ns (edit ps (of_verb v) d) ≡ is_event_of ns d
+event-edit v ps [] d h = refl
+event-edit v ps (n ∷ ns) d h =
+    ap₂ (λ a b. a || b) (name-edit v ps Event n d h) (event-edit v ps ns d h)
+
+spoken-edit : (v : Verb) (ps : List PlaceStep) (q : Rule) (d : Doc) → is_telling_place ps ≡ false
+    → speaks_of q (edit ps (of_verb v) d) ≡ speaks_of q d
+spoken-edit v ps q d h = ap₂ (λ a b. a && b) (kind-edit v ps q.kind d h)
+    (name-edit v ps q.kind q.name d h)
+
+pub spoken-mask_by : (r q : Rule) (d : Doc) → is_telling_place r.place ≡ false
+    → speaks_of q (mask_by r d) ≡ speaks_of q d
+spoken-mask_by r q d h = go (speaks_of r d)
+  where
+    go : (b : Bool) → speaks_of q (cond b (edit r.place (of_verb r.verb) d) d) ≡ speaks_of q d
+    go true = spoken-edit r.verb r.place q d h
+    go false = refl
+
+dropped-mask_by : (r : Rule) (ns : List (Option (List ℕ))) (d : Doc) → is_telling_place r.place
+    ≡ false
+    → is_dropped ns (mask_by r d) ≡ is_dropped ns d
+dropped-mask_by r ns d h = go (speaks_of r d)
+  where
+    go : (b : Bool) → is_dropped ns (cond b (edit r.place (of_verb r.verb) d) d) ≡ is_dropped ns d
+    go true = ap₂ (λ a b. a && b) (kind-edit r.verb r.place Event d h) (event-edit r.verb r.place ns
+        d h)
+    go false = refl
+
+pub first_safe : (r : Rule) (rs : List Rule) → are_safe (r ∷ rs) ≡ true → is_telling_place r.place
+    ≡ false
+first_safe r rs h = not_true (is_telling_place r.place) (and_left (not (is_telling_place r.place))
+    (are_safe rs) h)
+
+pub rest_safe : (r : Rule) (rs : List Rule) → are_safe (r ∷ rs) ≡ true → are_safe rs ≡ true
+rest_safe r rs h = and_right (not (is_telling_place r.place)) (are_safe rs) h
+
+pub spoken-masked : (rs : List Rule) (q : Rule) (d : Doc) → are_safe rs ≡ true
+    → speaks_of q (masked rs d) ≡ speaks_of q d
+spoken-masked [] q d h = refl
+spoken-masked (r ∷ rs) q d h = spoken-masked rs q (mask_by r d) (rest_safe r rs h)
+    ∙ spoken-mask_by r q d (first_safe r rs h)
+
+pub dropped-masked : (rs : List Rule) (ns : List (Option (List ℕ))) (d : Doc) → are_safe rs ≡ true
+    → is_dropped ns (masked rs d) ≡ is_dropped ns d
+dropped-masked [] ns d h = refl
+dropped-masked (r ∷ rs) ns d h = dropped-masked rs ns (mask_by r d) (rest_safe r rs h)
+    ∙ dropped-mask_by r ns d (first_safe r rs h)
+
+-- ---- what rules leave, of documents that they speak of alike
+
+pub left-same : (rs : List Rule) (d e : Doc) → ((q : Rule) → speaks_of q e ≡ speaks_of q d)
+    → (p : List Step) (o : Option Doc) → left rs e p o ≡ left rs d p o
+left-same [] d e h p o = refl
+left-same (r ∷ rs) d e h p o =
+    left-same rs d e h p (left_by r e p o)
+    ∙ ap (λ b. left rs d p (cond b (left_at r.verb r.place p o) o)) (h r)
+
+map-top : (v : Verb) (o : Option Doc) → option_map top (option_map (of_verb v) o)
+    ≡ option_map (of_verb v) (option_map top o)
+map-top v None = refl
+map-top v (Some x) = ap Some (top-verb v x)
+
+top-left_at : (v : Verb) (ps : List PlaceStep) (p : List Step) (o : Option Doc)
+    → option_map top (left_at v ps p o) ≡ left_at v ps p (option_map top o)
+top-left_at v ps p o = go (fits_place ps p) (is_below ps p && takes_parts v)
+  where
+    go : (a b : Bool) → option_map top (cond a (option_map (of_verb v) o) (cond b None o))
+        ≡ cond a (option_map (of_verb v) (option_map top o)) (cond b None (option_map top o))
+    go true b = map-top v o
+    go false true = refl
+    go false false = refl
+
+top-left_by : (r : Rule) (d : Doc) (p : List Step) (o : Option Doc)
+    → option_map top (left_by r d p o) ≡ left_by r d p (option_map top o)
+top-left_by r d p o = go (speaks_of r d)
+  where
+    go : (b : Bool) → option_map top (cond b (left_at r.verb r.place p o) o)
+        ≡ cond b (left_at r.verb r.place p (option_map top o)) (option_map top o)
+    go true = top-left_at r.verb r.place p o
+    go false = refl
+
+pub top-left : (rs : List Rule) (d : Doc) (p : List Step) (o : Option Doc)
+    → option_map top (left rs d p o) ≡ left rs d p (option_map top o)
+top-left [] d p o = refl
+top-left (r ∷ rs) d p o = top-left rs d p (left_by r d p o) ∙ ap (left rs d p) (top-left_by r d p o)
+
+-- what is left of what looks alike looks alike
+pub left-alike : (rs : List Rule) (d : Doc) (p : List Step) (a b : Option Doc) → Alike a b
+    → Alike (left rs d p a) (left rs d p b)
+left-alike rs d p a b h = top-left rs d p a ∙ ap (left rs d p) h ∙ sym (top-left rs d p b)
+
+at-mask_by : (r : Rule) (d : Doc) (p : List Step)
+    → Alike (at p (mask_by r d)) (left_by r d p (at p d))
+at-mask_by r d p = go (speaks_of r d)
+  where
+    go : (b : Bool) → Alike (at p (cond b (edit r.place (of_verb r.verb) d) d))
+        (cond b (left_at r.verb r.place p (at p d)) (at p d))
+    go true = at-edit r.verb r.place d p
+    go false = refl
+
+pub at-masked : (rs : List Rule) (d : Doc) → are_safe rs ≡ true → (p : List Step)
+    → Alike (at p (masked rs d)) (left rs d p (at p d))
+at-masked [] d h p = refl
+at-masked (r ∷ rs) d h p =
+    let e = mask_by r d in
+    at-masked rs e (rest_safe r rs h) p
+    ∙ ap (option_map top) (left-same rs d e (λ q. spoken-mask_by r q d (first_safe r rs h)) p
+    (at p e))
+    ∙ left-alike rs d p (at p e) (left_by r d p (at p d)) (at-mask_by r d p)
+
+pub masked_by_path : (rs : List Rule) (d : Doc) → are_safe rs ≡ true → IsMasked rs d (masked rs d)
+unfolding IsMasked
+masked_by_path rs d h p = at-masked rs d h p
+
+-- ---- apart from the places
+
+left_apart : (rs : List Rule) (d : Doc) (p : List Step) (o : Option Doc) → is_apart rs d p ≡ true
+    → left rs d p o ≡ o
+left_apart [] d p o h = refl
+left_apart (r ∷ rs) d p o h = go (left_apart rs d p o) (speaks_of r d) (fits_place r.place p)
+    (is_below r.place p && takes_parts r.verb) h
+  where
+    go : (is_apart rs d p ≡ true → left rs d p o ≡ o) → (a b c : Bool)
+        → cond a (cond b false (cond c false (is_apart rs d p))) (is_apart rs d p) ≡ true
+        → left rs d p (cond a (cond b (option_map (of_verb r.verb) o) (cond c None o)) o) ≡ o
+    go later false b c h = later h
+    go later true true c h = cc
+    go later true false true h = cc
+    go later true false false h = later h
+
+pub keeps_others : (rs : List Rule) (d : Doc) (p : List Step) → are_safe rs ≡ true → is_apart rs d p
+    ≡ true → option_map top (at p (masked rs d)) ≡ option_map top (at p d)
+keeps_others rs d p h a = at-masked rs d h p ∙ ap (option_map top) (left_apart rs d p (at p d) a)
+
+pub left_by-none : (r : Rule) (d : Doc) (p : List Step) → left_by r d p None ≡ None
+left_by-none r d p = go None (speaks_of r d) (left-none r.verb r.place p) refl
+  where
+    go : (o : Option Doc) (a : Bool) → left_at r.verb r.place p None ≡ None → o ≡ None
+        → cond a (left_at r.verb r.place p None) o ≡ None
+    go o true h n = h
+    go o false h n = n
+
+pub left_nothing : (rs : List Rule) (d : Doc) (p : List Step) → left rs d p None ≡ None
+left_nothing [] d p = refl
+left_nothing (r ∷ rs) d p = ap (left rs d p) (left_by-none r d p) ∙ left_nothing rs d p
+
+pub none_from : (o : Option Doc) → option_map top o ≡ None → o ≡ None
+none_from None h = refl
+none_from (Some x) h = cc
+
+pub none_new : (rs : List Rule) (d : Doc) (p : List Step) → are_safe rs ≡ true → at p d ≡ None
+    → at p (masked rs d) ≡ None
+none_new rs d p h n = none_from _ (at-masked rs d h p ∙ ap (λ o. option_map top (left rs d p o)) n
+    ∙ ap (option_map top) (left_nothing rs d p))
+
+-- ---- members stay in order
+
+below_at : (o : Ordering) (q k l : List ℕ) (f : Doc → Doc) (e : Doc) (ms changed : Members)
+    → is_below_all q changed ≡ is_below_all q ms
+    → is_below_all q (match_ordering o (member l e changed) (member l (f e) ms)
+    (member l e changed)) ≡ is_below_all q (member l e ms)
+below_at Less q k l f e ms changed h = ap (λ b. is_lt (slice_cmp nat_cmp q l) && b) h
+below_at Equal q k l f e ms changed h = refl
+below_at Greater q k l f e ms changed h = ap (λ b. is_lt (slice_cmp nat_cmp q l) && b) h
+
+below_change : (q k : List ℕ) (f : Doc → Doc) (ms : Members) → is_below_all q (change_member k f ms)
+    ≡ is_below_all q ms
+below_change q k f no_members = refl
+below_change q k f (member l e ms) =
+    below_at (slice_cmp nat_cmp k l) q k l f e ms (change_member k f ms) (below_change q k f ms)
+
+abbrev KeepsOrdered : (Doc → Doc) → Type 0
+KeepsOrdered f = (d : Doc) → is_ordered d ≡ true → is_ordered (f d) ≡ true
+
+ordered_at : (o : Ordering) (l : List ℕ) (f : Doc → Doc) (e : Doc) (ms changed : Members)
+    → KeepsOrdered f → is_below_all l changed ≡ is_below_all l ms → members_ordered changed ≡ true
+    → members_ordered (member l e ms) ≡ true
+    → members_ordered (match_ordering o (member l e changed) (member l (f e) ms)
+    (member l e changed)) ≡ true
+ordered_at o l f e ms changed keeps same later h = go o
+  where
+    parts : (is_ordered e && members_ordered ms) ≡ true
+    parts = and_right (is_below_all l ms) (is_ordered e && members_ordered ms) h
+
+    low : is_below_all l ms ≡ true
+    low = and_left (is_below_all l ms) (is_ordered e && members_ordered ms) h
+
+    go : (o : Ordering) → members_ordered (match_ordering o (member l e changed) (member l (f e) ms)
+        (member l e changed)) ≡ true
+    go Less = and_both _ _ (same ∙ low) (and_both _ _ (and_left (is_ordered e) (members_ordered ms)
+        parts) later)
+    go Equal = and_both _ _ low
+        (and_both _ _ (keeps e (and_left (is_ordered e) (members_ordered ms) parts))
+        (and_right (is_ordered e) (members_ordered ms) parts))
+    go Greater = and_both _ _ (same ∙ low)
+        (and_both _ _ (and_left (is_ordered e) (members_ordered ms) parts) later)
+
+members_kept : (k : List ℕ) (f : Doc → Doc) (ms : Members) → KeepsOrdered f → members_ordered ms
+    ≡ true → members_ordered (change_member k f ms) ≡ true
+members_kept k f no_members keeps h = refl
+members_kept k f (member l e ms) keeps h =
+    ordered_at (slice_cmp nat_cmp k l) l f e ms (change_member k f ms) keeps (below_change l k f ms)
+    (members_kept k f ms keeps (and_right (is_ordered e) (members_ordered ms)
+    (and_right (is_below_all l ms) (is_ordered e && members_ordered ms) h))) h
+
+items_kept : (f : Doc → Doc) (ds : Items) → KeepsOrdered f → items_ordered ds ≡ true
+    → items_ordered (map_items f ds) ≡ true
+items_kept f no_items keeps h = refl
+items_kept f (item d ds) keeps h =
+    and_both _ _ (keeps d (and_left (is_ordered d) (items_ordered ds) h))
+    (items_kept f ds keeps (and_right (is_ordered d) (items_ordered ds) h))
+
+ordered-verb : (v : Verb) → KeepsOrdered (of_verb v)
+ordered-verb Blank null h = refl
+ordered-verb Blank (boolean b) h = refl
+ordered-verb Blank (whole z) h = refl
+ordered-verb Blank (text s) h = refl
+ordered-verb Blank (list ds) h = refl
+ordered-verb Blank (object ms) h = refl
+ordered-verb Blank (id s z) h = refl
+ordered-verb Digits null h = refl
+ordered-verb Digits (boolean b) h = refl
+ordered-verb Digits (whole z) h = refl
+ordered-verb Digits (text s) h = refl
+ordered-verb Digits (list ds) h = h
+ordered-verb Digits (object ms) h = h
+ordered-verb Digits (id s z) h = refl
+ordered-verb Hex null h = refl
+ordered-verb Hex (boolean b) h = refl
+ordered-verb Hex (whole z) h = refl
+ordered-verb Hex (text s) h = refl
+ordered-verb Hex (list ds) h = h
+ordered-verb Hex (object ms) h = h
+ordered-verb Hex (id s z) h = refl
+
+ordered-child : (k : List ℕ) (f : Doc → Doc) → KeepsOrdered f → KeepsOrdered (change_child k f)
+ordered-child k f keeps null h = refl
+ordered-child k f keeps (boolean b) h = refl
+ordered-child k f keeps (whole z) h = refl
+ordered-child k f keeps (text s) h = refl
+ordered-child k f keeps (list ds) h = h
+ordered-child k f keeps (object ms) h = members_kept k f ms keeps h
+ordered-child k f keeps (id s z) h = refl
+
+ordered-items : (f : Doc → Doc) → KeepsOrdered f → KeepsOrdered (change_items f)
+ordered-items f keeps null h = refl
+ordered-items f keeps (boolean b) h = refl
+ordered-items f keeps (whole z) h = refl
+ordered-items f keeps (text s) h = refl
+ordered-items f keeps (list ds) h = items_kept f ds keeps h
+ordered-items f keeps (object ms) h = h
+ordered-items f keeps (id s z) h = refl
+
+ordered-edit : (v : Verb) (ps : List PlaceStep) → KeepsOrdered (edit ps (of_verb v))
+ordered-edit v [] = ordered-verb v
+ordered-edit v (named k ∷ ps) = ordered-child k (edit ps (of_verb v)) (ordered-edit v ps)
+ordered-edit v (each ∷ ps) = ordered-items (edit ps (of_verb v)) (ordered-edit v ps)
+
+pub ordered-masked : (rs : List Rule) (d : Doc) → is_ordered d ≡ true → is_ordered (masked rs d)
+    ≡ true
+ordered-masked [] d h = h
+ordered-masked (r ∷ rs) d h = ordered-masked rs (mask_by r d) (go (speaks_of r d))
+  where
+    go : (b : Bool) → is_ordered (cond b (edit r.place (of_verb r.verb) d) d) ≡ true
+    go true = ordered-edit r.verb r.place d h
+    go false = h
+
+-- ---- what stands at the paths tells the document
+
+some_top : (d e : Doc) → Some (top d) ≡ Some (top e) → top d ≡ top e
+some_top d e h = cc
+
+pub same_paths : (d e : Doc) → is_ordered d ≡ true → ((p : List Step) → Alike (at p e) (at p d)) → e
+    ≡ d
+same_paths d e o h = told d e o h (some_top e d (h []))
+
+pub one_masked : (rs : List Rule) (d e : Doc) → are_safe rs ≡ true → is_ordered d ≡ true
+    → IsMasked rs d e → e ≡ masked rs d
+unfolding IsMasked
+one_masked rs d e safe o h = same_paths (masked rs d) e (ordered-masked rs d o) (λ p. h p
+    ∙ sym (at-masked rs d safe p))
+
+pub agree_from_equal : (rs : List Rule) (d e : Doc) → are_safe rs ≡ true → masked rs d ≡ masked rs e
+    → AgreeBut rs d e
+unfolding AgreeBut
+agree_from_equal rs d e safe h p = sym (at-masked rs d safe p) ∙ ap (λ x. option_map top (at p x)) h
+    ∙ at-masked rs e safe p
+
+pub equal_from_agree : (rs : List Rule) (d e : Doc) → are_safe rs ≡ true → is_ordered e ≡ true
+    → AgreeBut rs d e → masked rs d ≡ masked rs e
+unfolding AgreeBut
+equal_from_agree rs d e safe o h =
+    same_paths (masked rs e) (masked rs d) (ordered-masked rs e o) (λ p. at-masked rs d safe p ∙ h p
+    ∙ sym (at-masked rs e safe p))

@@ -1,0 +1,38 @@
+-- Why rules must be settled and safe: with these a document that is masked again is another.
+use Rattle.std.proofs.Common.{◌≡◌, ℕ, List, [], ◌∷◌, Some, None, refl}
+use Rattle.std.specs.Prelude.{codes}
+use Rattle.dap_tree.specs.Doc.{Doc, text, object, no_members, member}
+use Rattle.dap_profile.specs.PlaceSteps.{named}
+use Rattle.dap_profile.specs.declared.profile.Kind.TheVariants.{Event}
+use Rattle.dap_mask.specs.Rules.{Rule}
+use Rattle.dap_mask.specs.Masked.{masked}
+use Rattle.dap_mask.specs.Texts.{digits, hex}
+use Rattle.dap_mask.specs.declared.rules.Verb.TheVariants.{Blank}
+
+-- `hex`, and then `digits`, at one place
+hex_then_digits : digits (hex (codes "1xA")) ≡ codes "0xA"
+hex_then_digits = refl
+
+hex_then_digits_again : digits (hex (codes "0xA")) ≡ codes "0x0"
+hex_then_digits_again = refl
+
+-- the other order: done at once
+digits_then_hex : hex (digits (codes "1xA")) ≡ codes "0x0"
+digits_then_hex = refl
+
+abbrev event : List ℕ → List ℕ → Doc
+event name body = object (member (codes "body") (text body) (member (codes "event") (text name)
+    (member (codes "type") (text (codes "event")) no_members)))
+
+-- a place by which a message is told
+abbrev unsafe : List Rule
+unsafe =
+    record { verb = Blank; kind = Event; name = Some []; place = named (codes "body") ∷ [] }
+    ∷ record { verb = Blank; kind = Event; name = None; place = named (codes "event") ∷ [] }
+    ∷ []
+
+renames : masked unsafe (event (codes "output") (codes "x")) ≡ event [] (codes "x")
+renames = refl
+
+renames_again : masked unsafe (event [] (codes "x")) ≡ event [] []
+renames_again = refl

@@ -1,0 +1,121 @@
+-- Rules that leave ids.
+use Rattle.std.proofs.Common.{◌≡◌, ◌⊎◌, inl, inr, ℕ, Bool, true, false, cond, not, ◌&&◌, List}
+use Rattle.std.proofs.Common.{[], ◌∷◌, Option, Some, None, option_map, refl, sym, ◌∙◌, ap}
+use Rattle.std.proofs.Common.{subst, true≢false}
+use Rattle.dap_tree.specs.Doc.{Doc, get}
+use Rattle.dap_tree.specs.Path.{Step, at}
+use Rattle.dap_tree.proofs.Booleans.{and_left, and_right, and_both, or_left, or_right}
+use Rattle.dap_message.specs.Places.{fits_place}
+use Rattle.dap_profile.specs.ProfileRows.{ProfileRow}
+use Rattle.dap_message.specs.Rows.{is_asked, is_text, is_of_kind, name_key}
+use Rattle.dap_message.specs.Rows.{may_have_body}
+use Rattle.dap_profile.specs.declared.profile.Kind.{Kind}
+use Rattle.dap_mask.specs.Rules.{Rule, of_verb, takes_parts, has_name, speaks_of}
+use Rattle.dap_mask.specs.Rules.{are_safe}
+use Rattle.dap_mask.specs.Masked.{is_below, left_by, left, masked}
+use Rattle.dap_mask.specs.Ids.{wants_id, meets, takes_id, leave_row, takes_id_of}
+use Rattle.dap_mask.specs.Ids.{takes_profile_id, leave_ids, KeepsIds}
+use Rattle.dap_message.specs.Marks.{top}
+use Rattle.dap_profile.specs.Profile.{profile}
+use Rattle.std.proofs.Common.{zero, suc, ◌<◌, length, arith}
+use Rattle.std.specs.Prelude.{Contains}
+use Rattle.std.specs.List.{slice_index_or}
+use Rattle.dap_mask.proofs.ByPath.{left_nothing, at-masked, none_from}
+use Rattle.dap_mask.proofs.Settled.{fits_same, kind_alike, name_alike}
+
+-- a rule and a row that are both of the document meet
+both_meet : (r : Rule) (k : Option Kind) (n : Option (List ℕ)) (d : Doc) → speaks_of r d ≡ true
+    → is_asked k n d ≡ true → meets r k n ≡ true
+both_meet r None n d h g = refl
+both_meet r (Some k) None d h g =
+    let kinds = kind_alike r.kind k d (and_left (is_of_kind r.kind d) (has_name r.kind r.name d) h)
+    g in
+    and_both _ _ kinds.0 (name_alike r.kind r.name None d (and_right (is_of_kind r.kind d)
+    (has_name r.kind r.name d) h) refl)
+both_meet r (Some k) (Some n) d h g =
+    let kinds = kind_alike r.kind k d (and_left (is_of_kind r.kind d) (has_name r.kind r.name d) h)
+    (and_left (is_of_kind k d) (is_text n (get (name_key k) d)) (and_left (is_of_kind k d
+    && is_text n (get (name_key k) d)) (may_have_body k d) g)) in
+    let row_name : has_name k (Some n) d ≡ true =
+    and_right (is_of_kind k d) (is_text n (get (name_key k) d)) (and_left (is_of_kind k d
+    && is_text n (get (name_key k) d)) (may_have_body k d) g) in
+    and_both _ _ kinds.0 (name_alike r.kind r.name (Some n) d (and_right (is_of_kind r.kind d)
+    (has_name r.kind r.name d) h) (subst (λ j. has_name j (Some n) d ≡ true) (sym kinds.1)
+    row_name))
+
+-- so a rule that does not take the row's id leaves it, or what it stood in is gone
+one_left : (r : Rule) (row : ProfileRow) (d : Doc) (p : List Step) (o : Option Doc) → takes_id r row
+    ≡ false → wants_id row.want ≡ true → is_asked row.kind row.name d ≡ true
+    → fits_place row.place p ≡ true
+    → (left_by r d p o ≡ o) ⊎ (left_by r d p o ≡ None)
+one_left r row d p o free wants asked fits =
+    go (speaks_of r d) (fits_place r.place p) (is_below r.place p && takes_parts r.verb)
+    (λ s f. true≢false (sym (and_both _ _ wants (and_both _ _ (fits_same r.place row.place p f fits)
+    (both_meet r row.kind row.name d s asked))) ∙ free)) refl refl
+  where
+    go : (a b c : Bool) → (speaks_of r d ≡ true → fits_place r.place p ≡ true → ⊥) → speaks_of r d
+        ≡ a → fits_place r.place p ≡ b
+        → (cond a (cond b (option_map (of_verb r.verb) o) (cond c None o)) o ≡ o)
+        ⊎ (cond a (cond b (option_map (of_verb r.verb) o) (cond c None o)) o ≡ None)
+    go false b c not_both s f = inl refl
+    go true true c not_both s f = absurd (not_both s f)
+    go true false true not_both s f = inr refl
+    go true false false not_both s f = inl refl
+
+not_true : (b : Bool) → not b ≡ true → b ≡ false
+not_true true h = cc
+not_true false h = refl
+
+leaves_row : (rules : List Rule) (d : Doc) (p : List Step) (o : Option Doc) (row : ProfileRow)
+    → leave_row rules row ≡ true → wants_id row.want ≡ true → is_asked row.kind row.name d ≡ true
+    → fits_place row.place p ≡ true
+    → (left rules d p o ≡ o) ⊎ (left rules d p o ≡ None)
+leaves_row [] d p o row h wants asked fits = inl refl
+leaves_row (r ∷ rs) d p o row h wants asked fits =
+    elim (one_left r row d p o (not_true (takes_id r row) (and_left (not (takes_id r row))
+    (leave_row rs row) h)) wants asked fits) [
+      | inl e ↦ (rw e (leaves_row rs d p o row (and_right (not (takes_id r row)) (leave_row rs row)
+          h) wants asked fits))
+      | inr e ↦ (inr (ap (left rs d p) e ∙ left_nothing rs d p))
+    ]
+
+-- ---- rules that take no id of the profile take none of one of its rows
+
+takes_none_at : (r : Rule) (rows : List ProfileRow) (k : ℕ) (row : ProfileRow)
+    → takes_id_of r rows ≡ false → k < length rows → takes_id r (slice_index_or rows k row) ≡ false
+takes_none_at r [] k row h l = absurd (omega arith)
+takes_none_at r (q ∷ rows) zero row h l = or_left (takes_id r q) (takes_id_of r rows) h
+takes_none_at r (q ∷ rows) (suc k) row h l =
+    takes_none_at r rows k row (or_right (takes_id r q) (takes_id_of r rows) h) (omega arith)
+
+takes_none_of : (r : Rule) (row : ProfileRow) → takes_profile_id r ≡ false → Contains profile row
+    → takes_id r row ≡ false
+unfolding takes_profile_id
+takes_none_of r row h (k, l, is) =
+    subst (λ q. takes_id r q ≡ false) is (takes_none_at r profile k row h l)
+
+leave_row_of : (rules : List Rule) (row : ProfileRow) → leave_ids rules ≡ true
+    → Contains profile row → leave_row rules row ≡ true
+leave_row_of [] row h among = refl
+leave_row_of (r ∷ rs) row h among =
+    and_both _ _
+    (ap not (takes_none_of r row
+    (not_true (takes_profile_id r) (and_left (not (takes_profile_id r)) (leave_ids rs) h)) among))
+    (leave_row_of rs row (and_right (not (takes_profile_id r)) (leave_ids rs) h) among)
+
+pub leaves_ids : (rules : List Rule) (d : Doc) (p : List Step) (o : Option Doc) (row : ProfileRow)
+    → leave_ids rules ≡ true → Contains profile row → wants_id row.want ≡ true
+    → is_asked row.kind row.name d ≡ true → fits_place row.place p ≡ true
+    → (left rules d p o ≡ o) ⊎ (left rules d p o ≡ None)
+leaves_ids rules d p o row h among wants asked fits =
+    leaves_row rules d p o row (leave_row_of rules row h among) wants asked fits
+
+pub keeps_ids : (rules : List Rule) (d : Doc) → are_safe rules ≡ true → leave_ids rules ≡ true
+    → KeepsIds d (masked rules d)
+unfolding KeepsIds
+keeps_ids rules d safe h p row among wants asked fits =
+    elim (leaves_ids rules d p (at p d) row h among wants asked fits) [
+      | inl e ↦ inl (at-masked rules d safe p ∙ ap (option_map top) e)
+      | inr e ↦ inr (none_from (at p (masked rules d)) (at-masked rules d safe p
+          ∙ ap (option_map top) e))
+    ]

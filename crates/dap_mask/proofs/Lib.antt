@@ -1,0 +1,14 @@
+pub mod Squeezed
+pub mod Utf8
+pub mod Edited
+pub mod Relations
+pub mod ByPath
+pub mod Settled
+pub mod Loosening
+pub mod LooseReading
+pub mod Counterexamples
+pub mod Keeping
+pub mod LeftIds
+pub mod RulesBehind
+pub mod Lines
+pub mod Indexed

@@ -1,0 +1,175 @@
+-- What is read loosely: it is one document, in order, of UTF-8 and without ids; and what is left of
+-- it is read from its own text.
+use Rattle.std.proofs.Common.{◌≡◌, ◌⊎◌, inl, inr, ℕ, true, false, ◌&&◌, List, Some, refl, sym}
+use Rattle.std.proofs.Common.{ap, ap₂, ◌∙◌, subst, nat_cmp}
+use Rattle.std.specs.Cmp.Lexicographic.{slice_cmp}
+use Rattle.std.specs.Ordering.{is_lt}
+use Rattle.std.specs.Str.{is_utf8}
+use Rattle.serde_json.specs.Data as json
+use Rattle.serde_json.specs.Read.{read}
+use Rattle.dap_tree.specs.Doc.{Doc, null, boolean, whole, text, list, object, id, Items, no_items}
+use Rattle.dap_tree.specs.Doc.{item, Members, no_members, member, has_id, items_have_id}
+use Rattle.dap_tree.specs.Doc.{members_have_id, is_below_all, is_ordered, items_ordered}
+use Rattle.dap_tree.specs.Doc.{members_ordered, all_utf8, items_utf8, members_utf8}
+use Rattle.dap_tree.specs.Ids.{ids_in_range, items_ids_in_range, members_ids_in_range}
+use Rattle.dap_tree.specs.Json.{IsRead, HasNoReading, Outcome, document, no_reading, fraction}
+use Rattle.dap_tree.specs.Json.{HasOutcome, text_of}
+use Rattle.dap_tree.proofs.Booleans.{and_both, or_left, or_right}
+use Rattle.dap_tree.proofs.MemberOrder.{data_below_all, data_ordered, items_data_ordered}
+use Rattle.dap_tree.proofs.MemberOrder.{members_data_ordered, ordered_read}
+use Rattle.dap_tree.proofs.Outcomes.{some_outcome}
+use Rattle.dap_tree.proofs.Texts.{text_is_read}
+use Rattle.dap_tree.proofs.Utf8.{data_utf8, items_data_utf8, members_data_utf8, read-utf8}
+use Rattle.dap_tree.proofs.WithoutIds.{without_no_id}
+use Rattle.dap_mask.specs.Loose.{loose, loose_items, loose_members, IsReadLoosely, IsLeftOf}
+use Rattle.dap_mask.specs.Mask.{Mask}
+use Rattle.dap_mask.specs.Masked.{masked}
+use Rattle.dap_mask.specs.Promises.{IsMaskedAs}
+use Rattle.dap_mask.specs.Rules.{Rule, are_safe, are_settled}
+use Rattle.dap_mask.specs.Ids.{leave_ids}
+use Rattle.dap_mask.proofs.ByPath.{masked_by_path, one_masked, keeps_others, none_new}
+use Rattle.dap_mask.proofs.ByPath.{ordered-masked, agree_from_equal, equal_from_agree}
+use Rattle.dap_mask.proofs.Keeping.{no_id_masked, utf8_masked}
+use Rattle.dap_mask.proofs.LeftIds.{keeps_ids}
+use Rattle.dap_mask.proofs.Loosening.{no_id_loose, read_loose}
+use Rattle.dap_mask.proofs.Settled.{masked_once}
+
+-- ---- the document of a value
+
+below_loose : (k : List ℕ) (ms : json.Members)
+    → is_below_all k (loose_members ms) ≡ data_below_all k ms
+below_loose k json.no_members = refl
+below_loose k (json.member l v ms) =
+    ap (λ b. is_lt (slice_cmp nat_cmp k l) && b) (below_loose k ms)
+
+mutual
+  ordered_loose : (v : json.Data) → is_ordered (loose v) ≡ data_ordered v
+  ordered_loose json.null = refl
+  ordered_loose (json.boolean b) = refl
+  ordered_loose (json.number n) = refl
+  ordered_loose (json.string s) = refl
+  ordered_loose (json.array vs) = items_ordered_loose vs
+  ordered_loose (json.object ms) = members_ordered_loose ms
+
+  items_ordered_loose : (vs : json.Items) → items_ordered (loose_items vs) ≡ items_data_ordered vs
+  items_ordered_loose json.no_items = refl
+  items_ordered_loose (json.item v vs) =
+      ap₂ (λ a b. a && b) (ordered_loose v) (items_ordered_loose vs)
+
+  members_ordered_loose : (ms : json.Members)
+      → members_ordered (loose_members ms) ≡ members_data_ordered ms
+  members_ordered_loose json.no_members = refl
+  members_ordered_loose (json.member k v ms) =
+      ap₂ (λ a b. a && b) (below_loose k ms)
+      (ap₂ (λ a b. a && b) (ordered_loose v) (members_ordered_loose ms))
+
+mutual
+  utf8_loose : (v : json.Data) → all_utf8 (loose v) ≡ data_utf8 v
+  utf8_loose json.null = refl
+  utf8_loose (json.boolean b) = refl
+  utf8_loose (json.number n) = refl
+  utf8_loose (json.string s) = refl
+  utf8_loose (json.array vs) = items_utf8_loose vs
+  utf8_loose (json.object ms) = members_utf8_loose ms
+
+  items_utf8_loose : (vs : json.Items) → items_utf8 (loose_items vs) ≡ items_data_utf8 vs
+  items_utf8_loose json.no_items = refl
+  items_utf8_loose (json.item v vs) = ap₂ (λ a b. a && b) (utf8_loose v) (items_utf8_loose vs)
+
+  members_utf8_loose : (ms : json.Members)
+      → members_utf8 (loose_members ms) ≡ members_data_utf8 ms
+  members_utf8_loose json.no_members = refl
+  members_utf8_loose (json.member k v ms) =
+      ap (λ b. is_utf8 k && b)
+      (ap₂ (λ a b. a && b) (utf8_loose v) (members_utf8_loose ms))
+
+-- ---- the document of a content
+
+pub one_loose_reading : (bytes : List ℕ) (d e : Doc) → IsReadLoosely bytes d
+    → IsReadLoosely bytes e → d ≡ e
+one_loose_reading bytes d e (v, reads, is) (w, also, is_other) =
+    let same : Some v ≡ Some w = sym reads.1 ∙ also.1 in
+    is ∙ ap loose (some_same v w same) ∙ sym is_other
+  where
+    some_same : (v w : json.Data) → Some v ≡ Some w → v ≡ w
+    some_same v w h = cc
+
+pub loosely_ordered : (bytes : List ℕ) (d : Doc) → IsReadLoosely bytes d → is_ordered d ≡ true
+loosely_ordered bytes d (v, reads, is) =
+    ap is_ordered is ∙ ordered_loose v ∙ ordered_read bytes v reads.1
+
+-- Each content is read so, or is no JSON text.
+pub some_loose_reading : (bytes : List ℕ) → ((d : Doc) × IsReadLoosely bytes d)
+    ⊎ HasNoReading bytes
+some_loose_reading bytes = by_outcome (some_outcome bytes).0 (some_outcome bytes).1
+  where
+    by_outcome : (o : Outcome) → HasOutcome bytes o
+        → ((d : Doc) × IsReadLoosely bytes d) ⊎ HasNoReading bytes
+    by_outcome (document d) is = inl (d, read_loose bytes d is)
+    by_outcome no_reading none = inr none
+    by_outcome fraction (v, reads, float) = inl (loose v, (v, reads, refl))
+
+loosely_utf8 : (bytes : List ℕ) (d : Doc) → IsReadLoosely bytes d → all_utf8 d ≡ true
+loosely_utf8 bytes d (v, reads, is) =
+    ap all_utf8 is ∙ utf8_loose v ∙ read-utf8 bytes v reads.0 reads.1
+
+loosely_no_id : (bytes : List ℕ) (d : Doc) → IsReadLoosely bytes d → has_id d ≡ false
+loosely_no_id bytes d (v, reads, is) = ap has_id is ∙ no_id_loose v
+
+-- ---- what is left of a content
+
+mutual
+  ranged_no_id : (d : Doc) → has_id d ≡ false → ids_in_range d ≡ true
+  ranged_no_id null h = refl
+  ranged_no_id (boolean b) h = refl
+  ranged_no_id (whole z) h = refl
+  ranged_no_id (text s) h = refl
+  ranged_no_id (list ds) h = items_ranged_no_id ds h
+  ranged_no_id (object ms) h = members_ranged_no_id ms h
+  ranged_no_id (id s z) h = cc
+
+  items_ranged_no_id : (ds : Items) → items_have_id ds ≡ false → items_ids_in_range ds ≡ true
+  items_ranged_no_id no_items h = refl
+  items_ranged_no_id (item d ds) h =
+      and_both _ _ (ranged_no_id d (or_left _ _ h))
+      (items_ranged_no_id ds (or_right (has_id d) _ h))
+
+  members_ranged_no_id : (ms : Members) → members_have_id ms ≡ false
+      → members_ids_in_range ms ≡ true
+  members_ranged_no_id no_members h = refl
+  members_ranged_no_id (member k d ms) h =
+      and_both _ _ (ranged_no_id d (or_left _ _ h))
+      (members_ranged_no_id ms (or_right (has_id d) _ h))
+
+pub left_is_read : (mask : Mask) (bytes : List ℕ) (e : Doc) → IsLeftOf mask bytes (Some e)
+    → IsRead (text_of e) e
+left_is_read mask bytes e (d, read, (kept, is, sound)) =
+    let rules = mask.changes in
+    let ordered : is_ordered e ≡ true =
+    ap is_ordered is ∙ ordered-masked rules d (loosely_ordered bytes d read) in
+    let utf8 : all_utf8 e ≡ true =
+    ap all_utf8 is ∙ utf8_masked rules d (loosely_utf8 bytes d read) in
+    let no_id : has_id e ≡ false =
+    ap has_id is ∙ no_id_masked rules d (loosely_no_id bytes d read) in
+    subst (IsRead (text_of e)) (without_no_id e no_id)
+    (text_is_read e sound (ranged_no_id e no_id) ordered utf8)
+
+-- ---- all that is promised
+
+pub content_masked : (rules : List Rule) (bytes : List ℕ) (d : Doc) → are_safe rules ≡ true
+    → are_settled rules ≡ true → leave_ids rules ≡ true → IsReadLoosely bytes d
+    → IsMaskedAs rules d (masked rules d)
+content_masked rules bytes d safe settled leave read =
+    let ordered = loosely_ordered bytes d read in
+    record {
+      places = masked_by_path rules d safe;
+      elsewhere = λ p apart. keeps_others rules d p safe apart;
+      none_new = λ p none. none_new rules d p safe none;
+      ids = keeps_ids rules d safe leave;
+      one = λ f is. one_masked rules d f safe ordered is;
+      again = masked_once rules d safe settled ordered;
+      equal = λ others f also. (
+        λ same. agree_from_equal rules d f safe same,
+        λ agree. equal_from_agree rules d f safe (loosely_ordered others f also) agree,
+      );
+    }

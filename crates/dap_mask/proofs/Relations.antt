@@ -1,0 +1,190 @@
+-- What is said of `digits` and `hex` in the subject's words is what the functions make.
+use Rattle.std.proofs.Common.{◌≡◌, ℕ, ◌==◌, true, false, List, [], ◌∷◌, ◌++◌}
+use Rattle.std.proofs.Common.{refl, sym, ap, ap₂, ◌∙◌, subst, true≢false}
+use Rattle.std.specs.Char.{is_ascii_digit, is_ascii_hexdigit}
+use Rattle.dap_message.proofs.Edits.{by_bool}
+use Rattle.dap_tree.proofs.Booleans.{and_left, and_right, and_both}
+use Rattle.dap_mask.specs.Texts.{all_of, begins_with, IsRun, AreDigitsOf, at_end, other, run}
+use Rattle.dap_mask.specs.Texts.{IsHexOf, number, is_x, goes_on_as_hex, begins_hex, digits_from}
+use Rattle.dap_mask.specs.Texts.{digits, hex, behind_zero, in_number}
+use Rattle.dap_mask.proofs.Squeezed.{begins_zero}
+
+-- ---- digits
+
+-- behind a digit, what does not begin with one is squeezed as anywhere
+outside_here : (s : List ℕ) → begins_with is_ascii_digit s ≡ false → digits_from true s
+    ≡ digits_from false s
+outside_here [] h = refl
+outside_here (b ∷ s) h = rw h refl
+
+run_gone : (ds s : List ℕ) → all_of is_ascii_digit ds ≡ true → digits_from true (ds ++ s)
+    ≡ digits_from true s
+run_gone [] s h = refl
+run_gone (b ∷ ds) s h = rw (and_left (is_ascii_digit b) (all_of is_ascii_digit ds) h)
+    (run_gone ds s (and_right (is_ascii_digit b) (all_of is_ascii_digit ds) h))
+
+run_squeezed : (ds s : List ℕ) → IsRun is_ascii_digit ds s → digits (ds ++ s) ≡ 48 ∷ digits s
+run_squeezed [] s h = let no = h.some in cc
+run_squeezed (b ∷ ds) s h =
+    rw h.some (ap (λ t. 48 ∷ t)
+    (run_gone ds s (and_right (is_ascii_digit b) (all_of is_ascii_digit ds) h.all)
+    ∙ outside_here s h.ends))
+
+digits_from_said : {s t : List ℕ} → AreDigitsOf s t → t ≡ digits s
+digits_from_said at_end = refl
+digits_from_said (other {b} {s} {t} h r) = rw h (ap (λ u. b ∷ u) (digits_from_said r))
+digits_from_said (run {u} {s} {t} ds e h r) = ap (λ x. 48 ∷ x) (digits_from_said r)
+    ∙ sym (run_squeezed ds s h) ∙ ap digits (sym e)
+
+-- where the run that goes on ends, and what is said of the rest
+pub record DigitsEnd (s t : List ℕ) : Type 0 where
+  pub digits : List ℕ
+  pub rest : List ℕ
+  pub whole : s ≡ digits ++ rest
+  pub all : all_of is_ascii_digit digits ≡ true
+  pub ends : begins_with is_ascii_digit rest ≡ false
+  pub said : AreDigitsOf rest t
+
+mutual
+  digits_said : (s : List ℕ) → AreDigitsOf s (digits_from false s)
+  digits_said [] = at_end
+  digits_said (b ∷ s) = by_bool (is_ascii_digit b)
+      (λ h. let e = digits_end s in
+      rw h (run (b ∷ e.digits) (ap (λ u. b ∷ u) e.whole) (record {
+        some = h;
+        all =
+            and_both _ _ h e.all;
+        ends = e.ends;
+      }) e.said))
+      (λ h. rw h (other h (digits_said s)))
+
+  digits_end : (s : List ℕ) → DigitsEnd s (digits_from true s)
+  digits_end [] = record {
+    digits = [];
+    rest = [];
+    whole = refl;
+    all = refl;
+    ends = refl;
+    said =
+        at_end;
+  }
+  digits_end (b ∷ s) = by_bool (is_ascii_digit b)
+      (λ h. let e = digits_end s in
+      rw h (record {
+        digits = b ∷ e.digits;
+        rest = e.rest;
+        whole = ap (λ u. b ∷ u) e.whole;
+        all =
+            and_both _ _ h e.all;
+        ends = e.ends;
+        said = e.said;
+      }))
+      (λ h. rw h (record {
+        digits = [];
+        rest = b ∷ s;
+        whole = refl;
+        all = refl;
+        ends = h;
+        said =
+            other h (digits_said s);
+      }))
+
+pub digits_are : (s t : List ℕ) → (AreDigitsOf s t → t ≡ digits s)
+    × (t ≡ digits s → AreDigitsOf s t)
+digits_are s t = (digits_from_said, λ e. subst (AreDigitsOf s) (sym e) (digits_said s))
+
+-- ---- hexadecimal numbers
+
+hexdigit_gone : (ds s : List ℕ) → all_of is_ascii_hexdigit ds ≡ true → in_number (ds ++ s)
+    ≡ in_number s
+hexdigit_gone [] s h = refl
+hexdigit_gone (b ∷ ds) s h = rw (and_left (is_ascii_hexdigit b) (all_of is_ascii_hexdigit ds) h)
+    (hexdigit_gone ds s (and_right (is_ascii_hexdigit b) (all_of is_ascii_hexdigit ds) h))
+
+begins_no : (b : ℕ) (s : List ℕ) → is_ascii_hexdigit b ≡ false → begins_hex b s ≡ false
+begins_no b s h = by_bool (begins_hex b s)
+    (λ k. absurd (true≢false (ap is_ascii_hexdigit (sym (begins_zero b s k)) ∙ h))) (λ k. k)
+
+-- behind a number, what does not go on with it is as anywhere
+outside_number : (s : List ℕ) → begins_with is_ascii_hexdigit s ≡ false → in_number s ≡ hex s
+outside_number [] h = refl
+outside_number (b ∷ s) h = rw (h, begins_no b s h) refl
+
+hex_squeezed : (x : ℕ) (ds s : List ℕ) → is_x x ≡ true → IsRun is_ascii_hexdigit ds s
+    → hex (48 ∷ x ∷ ds ++ s) ≡ 48 ∷ 120 ∷ 48 ∷ hex s
+hex_squeezed x [] s k h = let no = h.some in cc
+hex_squeezed x (d ∷ ds) s k h =
+    rw (k, h.some) (ap (λ t. 48 ∷ 120 ∷ 48 ∷ t)
+    (hexdigit_gone ds s (and_right (is_ascii_hexdigit d) (all_of is_ascii_hexdigit ds) h.all)
+    ∙ outside_number s h.ends))
+
+hex_from_said : {s t : List ℕ} → IsHexOf s t → t ≡ hex s
+hex_from_said at_end = refl
+hex_from_said (other {b} {s} {t} h r) = rw h (ap (λ u. b ∷ u) (hex_from_said r))
+hex_from_said (number {u} {s} {t} x ds e k h r) = ap (λ y. 48 ∷ 120 ∷ 48 ∷ y) (hex_from_said r)
+    ∙ sym (hex_squeezed x ds s k h) ∙ ap hex (sym e)
+
+-- where the number that goes on ends, and what is said of the rest
+pub record NumberEnd (s t : List ℕ) : Type 0 where
+  pub digits : List ℕ
+  pub rest : List ℕ
+  pub whole : s ≡ digits ++ rest
+  pub all : all_of is_ascii_hexdigit digits ≡ true
+  pub ends : begins_with is_ascii_hexdigit rest ≡ false
+  pub said : IsHexOf rest t
+
+mutual
+  hex_said : (s : List ℕ) → IsHexOf s (hex s)
+  hex_said [] = at_end
+  hex_said (b ∷ s) = by_bool (begins_hex b s)
+      (λ h. rw h (number_said b s (begins_zero b s h) (and_right (b == 48) (goes_on_as_hex s) h)))
+      (λ h. rw h (other h (hex_said s)))
+
+  number_said : (b : ℕ) (s : List ℕ) → b ≡ 48 → goes_on_as_hex s ≡ true
+      → IsHexOf (b ∷ s) (48 ∷ behind_zero s)
+  number_said b [] e h = cc
+  number_said b (x ∷ []) e h = cc
+  number_said b (x ∷ d ∷ s) e h =
+      let n = number_end s in
+      let k = and_right (is_x x) (is_ascii_hexdigit d) h in
+      number x (d ∷ n.digits) (ap₂ (λ y u. y ∷ x ∷ d ∷ u) e n.whole)
+      (and_left (is_x x) (is_ascii_hexdigit d) h) (record {
+        some = k;
+        all =
+            and_both _ _ k n.all;
+        ends = n.ends;
+      }) n.said
+
+  number_end : (s : List ℕ) → NumberEnd s (in_number s)
+  number_end [] = record {
+    digits = [];
+    rest = [];
+    whole = refl;
+    all = refl;
+    ends = refl;
+    said =
+        at_end;
+  }
+  number_end (b ∷ s) = by_bool (is_ascii_hexdigit b)
+      (λ h. let n = number_end s in
+      rw h (record {
+        digits = b ∷ n.digits;
+        rest = n.rest;
+        whole = ap (λ u. b ∷ u) n.whole;
+        all =
+            and_both _ _ h n.all;
+        ends = n.ends;
+        said = n.said;
+      }))
+      (λ h. rw h (record {
+        digits = [];
+        rest = b ∷ s;
+        whole = refl;
+        all = refl;
+        ends = h;
+        said =
+            other (begins_no b s h) (hex_said s);
+      }))
+
+pub hex_is : (s t : List ℕ) → (IsHexOf s t → t ≡ hex s) × (t ≡ hex s → IsHexOf s t)
+hex_is s t = (hex_from_said, λ e. subst (IsHexOf s) (sym e) (hex_said s))

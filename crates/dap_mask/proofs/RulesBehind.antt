@@ -1,0 +1,104 @@
+-- Rules with one more behind them.
+use Rattle.std.proofs.Common.{◌≡◌, Bool, true, false, cond, not, ◌||◌, List, [], ◌∷◌, ◌++◌}
+use Rattle.std.proofs.Common.{Option, Some, None, map, option_map, string_bytes, refl, ap}
+use Rattle.std.proofs.Common.{nat_le, String}
+use Rattle.std.proofs.Common.{◌∙◌}
+use Rattle.std.specs.declared.alloc.Global.{Global}
+use Rattle.dap_tree.proofs.Booleans.{and_left, and_right, and_both, or_left, or_right, or_both}
+use Rattle.dap_mask.specs.Ids.{takes_profile_id, leave_ids}
+use Rattle.dap_mask.specs.Mask.{Mask, change, rule_count}
+use Rattle.dap_mask.specs.Rules.{Rule, rule_of, rules_of, is_telling_place, are_safe, are_settled}
+use Rattle.dap_mask.specs.Rules.{clash, clashes_with, is_clashed_with, is_among}
+use Rattle.dap_mask.specs.RulesFile.{change_cause, cause_against}
+use Rattle.dap_mask.specs.declared.rules.MaskRule.{MaskRule}
+use Rattle.dap_mask.specs.declared.fault.RulesCause.TheVariants.{TooMany, BadPlace, Repeated}
+use Rattle.dap_mask.specs.declared.fault.RulesCause.TheVariants.{DigitsBehindHex}
+
+not_true : (b : Bool) → not b ≡ true → b ≡ false
+not_true true h = cc
+not_true false h = refl
+
+-- ---- lists of the program's rules
+
+pub rules_push : (xs : List MaskRule) (x : MaskRule)
+    → rules_of (xs ++ x ∷ []) ≡ rules_of xs ++ rule_of x ∷ []
+rules_push [] x = refl
+rules_push (y ∷ xs) x = ap (λ rs. rule_of y ∷ rs) (rules_push xs x)
+
+pub names_push : (xs : List (Option (String Global))) (x : Option (String Global))
+    → map (option_map string_bytes) (xs ++ x ∷ []) ≡ map (option_map string_bytes) xs
+    ++ option_map string_bytes x ∷ []
+names_push [] x = refl
+names_push (y ∷ xs) x = ap (λ ns. option_map string_bytes y ∷ ns) (names_push xs x)
+
+-- a test of rules holds behind a push, whether or not it had memory
+pub pushed_keeps : (b : Bool) (xs : List MaskRule) (x : MaskRule) (ys : List MaskRule)
+    → ys ≡ cond b (xs ++ x ∷ []) xs → (test : List Rule → Bool) → test (rules_of xs) ≡ true
+    → test (rules_of xs ++ rule_of x ∷ []) ≡ true → test (rules_of ys) ≡ true
+pushed_keeps true xs x ys e test h more = ap test (ap rules_of e ∙ rules_push xs x) ∙ more
+pushed_keeps false xs x ys e test h more = ap (λ zs. test (rules_of zs)) e ∙ h
+
+-- ---- what a rule that may stand there keeps
+
+pub safe_more : (rs : List Rule) (r : Rule) → are_safe rs ≡ true → is_telling_place r.place ≡ false
+    → are_safe (rs ++ r ∷ []) ≡ true
+safe_more [] r h t = and_both _ _ (ap not t) refl
+safe_more (q ∷ rs) r h t =
+    and_both _ _ (and_left (not (is_telling_place q.place)) (are_safe rs) h)
+    (safe_more rs r (and_right (not (is_telling_place q.place)) (are_safe rs) h) t)
+
+pub leave_more : (rs : List Rule) (r : Rule) → leave_ids rs ≡ true → takes_profile_id r ≡ false
+    → leave_ids (rs ++ r ∷ []) ≡ true
+leave_more [] r h t = and_both _ _ (ap not t) refl
+leave_more (q ∷ rs) r h t =
+    and_both _ _ (and_left (not (takes_profile_id q)) (leave_ids rs) h)
+    (leave_more rs r (and_right (not (takes_profile_id q)) (leave_ids rs) h) t)
+
+clash_more : (q r : Rule) (rs : List Rule) → clashes_with q rs ≡ false → clash q r ≡ false
+    → clashes_with q (rs ++ r ∷ []) ≡ false
+clash_more q r [] h g = or_both _ _ g refl
+clash_more q r (t ∷ ts) h g =
+    or_both _ _ (or_left (clash q t) (clashes_with q ts) h)
+    (clash_more q r ts (or_right (clash q t) (clashes_with q ts) h) g)
+
+pub settled_more : (rs : List Rule) (r : Rule) → are_settled rs ≡ true
+    → is_clashed_with rs r ≡ false → are_settled (rs ++ r ∷ []) ≡ true
+settled_more [] r h g = refl
+settled_more (q ∷ rs) r h g =
+    let earlier = not_true (clashes_with q rs)
+    (and_left (not (clashes_with q rs)) (are_settled rs) h) in
+    let apart = or_left (clash q r) (is_clashed_with rs r) g in
+    and_both _ _ (ap not (clash_more q r rs earlier apart))
+    (settled_more rs r (and_right (not (clashes_with q rs)) (are_settled rs) h)
+    (or_right (clash q r) (is_clashed_with rs r) g))
+
+-- ---- a rule that nothing is against
+
+pub record MayStand (rs : List Rule) (r : Rule) : Type 0 where
+  pub safe : is_telling_place r.place ≡ false
+  pub leaves : takes_profile_id r ≡ false
+  pub settled : is_clashed_with rs r ≡ false
+
+may_stand : (rs : List Rule) (r : Rule) → change_cause rs r ≡ None → MayStand rs r
+may_stand rs r h =
+    go (is_telling_place r.place) (takes_profile_id r) (is_among r rs) (is_clashed_with rs r) refl
+    refl refl h
+  where
+    go : (a b c d : Bool) → is_telling_place r.place ≡ a → takes_profile_id r ≡ b
+        → is_clashed_with rs r ≡ d
+        → cond (a || b) (Some BadPlace)
+        (cond c (Some Repeated) (cond d (Some DigitsBehindHex) None)) ≡ None
+        → MayStand rs r
+    go true b c d p q t k = cc
+    go false true c d p q t k = cc
+    go false false true d p q t k = cc
+    go false false false true p q t k = cc
+    go false false false false p q t k = record { safe = p; leaves = q; settled = t }
+
+pub change_may_stand : (m : Mask) (r : Rule) → cause_against m (change r) ≡ None
+    → MayStand m.changes r
+change_may_stand m r h = go (nat_le 1000 (rule_count m)) h
+  where
+    go : (b : Bool) → cond b (Some TooMany) (change_cause m.changes r) ≡ None → MayStand m.changes r
+    go true k = cc
+    go false k = may_stand m.changes r k

@@ -1,0 +1,14 @@
+use Rattle.std.proofs.Common.{None, ap, ◌∙◌}
+use Rattle.dap_mask.specs.Index.{groups, positions}
+use Rattle.dap_mask.specs.ListedRules.{listed_changes}
+use Rattle.dap_mask.specs.declared.index.KindRules.{KindRules}
+use Rattle.dap_mask.proofs.Indexed.{index_made}
+use Rattle.dap_mask.proofs.index.KindRules.new.Goals as goal
+
+pub returns : goal.returns
+returns c =
+    let made : KindRules = record { named = c.in_ok-named.named; any = c.in_ok-any.any } in
+    let same = c.changes-rules.ensures in
+    index_made c.args.kind (listed_changes c.args.list.now) made
+    (c.in_ok-named.ensures ∙ ap (groups c.args.kind) same)
+    (c.in_ok-any.ensures ∙ ap (positions c.args.kind None) same)

@@ -1,0 +1,11 @@
+use Rattle.std.proofs.Common.{◌≡◌, drop}
+use Rattle.dap_tree.specs.View.{view}
+use Rattle.dap_mask.specs.Index.{masked_at}
+use Rattle.dap_mask.specs.Rules.{rules_of}
+use Rattle.dap_mask.proofs.masking.mask_places.Given as goal
+
+-- the rules that are left make of the tree what all make of the first one
+abbrev pub invariant-loop-place : goal.invariant-loop-place
+invariant-loop-place l =
+    masked_at (rules_of l.rules) (drop l.place-index l.places) (view l.tree)
+    ≡ masked_at (rules_of l.rules) l.places (view l.initial.tree)

@@ -1,0 +1,30 @@
+use Rattle.std.proofs.Common.{◌∙◌, sym, ap}
+use Rattle.std.specs.Result.{is_ok}
+use Rattle.dap_mask.specs.Ids.{leave_ids}
+use Rattle.dap_mask.specs.ListedRules.{listed_mask, listed_changes}
+use Rattle.dap_mask.specs.Mask.{statement_of}
+use Rattle.dap_mask.specs.Rules.{rule_of, are_safe, are_settled}
+use Rattle.dap_mask.specs.RulesFile.{cause_against}
+use Rattle.dap_mask.proofs.RulesBehind.{MayStand, change_may_stand, pushed_keeps, safe_more}
+use Rattle.dap_mask.proofs.RulesBehind.{settled_more, leave_more}
+use Rattle.dap_mask.proofs.rule_list.RuleList.take.Goals as goal
+
+pub invariant_of-self : goal.invariant_of-self
+invariant_of-self c =
+    let old = c.args.self.now in
+    let rules = listed_changes c.args.self.now in
+    let rule = rule_of c.in-Change.rule in
+    let may : MayStand rules rule =
+    change_may_stand (listed_mask c.args.self.now) rule
+    (ap (λ st. cause_against (listed_mask c.args.self.now) (statement_of st)) (sym c.in-Change.is)
+    ∙ c.requires) in
+    let ok = is_ok c.push.result in
+    record {
+      safe = pushed_keeps ok old.changes.items c.in-Change.rule c.push.new.self.items
+          c.push.ensures.items are_safe old.safe (safe_more rules rule old.safe may.safe);
+      settled = pushed_keeps ok old.changes.items c.in-Change.rule c.push.new.self.items
+          c.push.ensures.items are_settled old.settled
+          (settled_more rules rule old.settled may.settled);
+      leave = pushed_keeps ok old.changes.items c.in-Change.rule c.push.new.self.items
+          c.push.ensures.items leave_ids old.leave (leave_more rules rule old.leave may.leaves);
+    }

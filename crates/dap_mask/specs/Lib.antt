@@ -1,0 +1,16 @@
+pub mod Texts
+pub mod Rules
+pub mod Mask
+pub mod Masked
+pub mod Ids
+pub mod Runs
+pub mod RuleText
+pub mod RulesFile
+pub mod ListedRules
+pub mod KeptRules
+pub mod RowSteps
+pub mod Index
+pub mod Laws
+pub mod Standing
+pub mod Loose
+pub mod Promises

@@ -1,0 +1,95 @@
+-- Contents whose fractions are judged after the masks.
+use Rattle.std.specs.Prelude.{◌≡◌, ◌↔◌, ℕ, ◌^◌, ℤ, pos, true, false, List, Option, Some, None}
+use Rattle.serde_json.specs.Data as json
+use Rattle.serde_json.specs.Data.{Num, unsigned, negative, float}
+use Rattle.dap_tree.specs.Doc.{Doc, null, boolean, whole, text, list, object, Items, no_items, item}
+use Rattle.dap_tree.specs.Doc.{Members, no_members, member, is_sound, is_ordered}
+use Rattle.dap_tree.specs.Json.{Reads, IsRead, HasNoReading, text_of}
+use Rattle.dap_tree.specs.declared.fault.TreeFault.{TreeFault}
+use Rattle.dap_tree.specs.declared.fault.TreeFault.TheVariants.{Json, Fraction, Memory}
+use Rattle.dap_mask.specs.Mask.{Mask, no_rules}
+use Rattle.dap_mask.specs.Masked.{masked}
+use Rattle.dap_mask.specs.Rules.{is_dropped}
+
+-- A number that no content has as a whole one, and that is out of range: it stands where a fraction
+-- was.
+abbrev pub no_whole : ℤ
+no_whole = pos (2 ^ 64)
+
+abbrev pub loose_number : Num → ℤ
+loose_number (unsigned n) = pos n
+loose_number (negative z) = z
+loose_number (float x) = no_whole
+
+-- The document of a JSON value (own), with that number for each that is not kept whole.
+abbrev mutual
+  pub loose : json.Data → Doc
+  loose json.null = null
+  loose (json.boolean b) = boolean b
+  loose (json.number n) = whole (loose_number n)
+  loose (json.string s) = text s
+  loose (json.array vs) = list (loose_items vs)
+  loose (json.object ms) = object (loose_members ms)
+
+  pub loose_items : json.Items → Items
+  loose_items json.no_items = no_items
+  loose_items (json.item v vs) = item (loose v) (loose_items vs)
+
+  pub loose_members : json.Members → Members
+  loose_members json.no_members = no_members
+  loose_members (json.member k v ms) = member k (loose v) (loose_members ms)
+
+-- The content is JSON text, and this is its document, with that number for each that is not kept
+-- whole.
+abbrev pub IsReadLoosely : List ℕ → Doc → Type 0
+IsReadLoosely bytes d = (v : json.Data) × Reads bytes v × (d ≡ loose v)
+
+-- What the rules leave of a document (own): nothing of an event that they leave out, and else the
+-- masked document, where no fraction is left in it.
+abbrev pub IsLeft : Mask → Doc → Option Doc → Type 0
+IsLeft mask d None = is_dropped mask.dropped d ≡ true
+IsLeft mask d (Some e) = (is_dropped mask.dropped d ≡ false) × (e ≡ masked mask.changes d)
+    × (is_sound e ≡ true)
+
+-- A fraction is left in the masked document.
+abbrev pub HasFractionLeft : Mask → Doc → Type 0
+HasFractionLeft mask d = (is_dropped mask.dropped d ≡ false)
+    × (is_sound (masked mask.changes d) ≡ false)
+
+-- The content is JSON text, and this is left of it.
+abbrev pub IsLeftOf : Mask → List ℕ → Option Doc → Type 0
+IsLeftOf mask bytes o = (d : Doc) × IsReadLoosely bytes d × IsLeft mask d o
+
+-- The content is JSON text in which a fraction is left behind the masks.
+abbrev pub LeavesFraction : Mask → List ℕ → Type 0
+LeavesFraction mask bytes = (d : Doc) × IsReadLoosely bytes d × HasFractionLeft mask d
+
+-- Without rules a content is what it is read as.
+abbrev pub UnmaskedIsRead : Type 0
+UnmaskedIsRead = (bytes : List ℕ) (d : Doc) → IsLeftOf no_rules bytes (Some d) ↔ IsRead bytes d
+
+-- A content is read as one document.
+abbrev pub OneLooseReading : Type 0
+OneLooseReading = (bytes : List ℕ) (d e : Doc) → IsReadLoosely bytes d → IsReadLoosely bytes e
+    → d ≡ e
+
+-- Its members stand in order.
+abbrev pub LooseIsOrdered : Type 0
+LooseIsOrdered = (bytes : List ℕ) (d : Doc) → IsReadLoosely bytes d → is_ordered d ≡ true
+
+-- What is left of a content is read from its own text.
+abbrev pub LeftIsRead : Type 0
+LeftIsRead = (mask : Mask) (bytes : List ℕ) (d : Doc) → IsLeftOf mask bytes (Some d)
+    → IsRead (text_of d) d
+
+-- What a fault tells of a content that is masked: memory that was refused tells nothing.
+abbrev pub ExplainsMasked : Mask → List ℕ → TreeFault → Type 0
+ExplainsMasked mask bytes Json = HasNoReading bytes
+ExplainsMasked mask bytes Fraction = LeavesFraction mask bytes
+ExplainsMasked mask bytes Memory = Unit {0}
+
+-- For private clauses: what a fault tells before the masks.
+abbrev pub ExplainsLoosely : List ℕ → TreeFault → Type 0
+ExplainsLoosely bytes Json = HasNoReading bytes
+ExplainsLoosely bytes Fraction = ⊥
+ExplainsLoosely bytes Memory = Unit {0}

@@ -1,0 +1,47 @@
+-- A mask as the definitions see it, and what the lines of a rules file may say.
+use Rattle.std.specs.Prelude.{ℕ, ◌+◌, List, [], ◌∷◌, ◌++◌, Option, length, option_map}
+use Rattle.std.specs.Prelude.{string_bytes}
+use Rattle.dap_mask.specs.Rules.{Rule, rule_of}
+use Rattle.dap_mask.specs.declared.statement.Line.{Line as ReadLine}
+use Rattle.dap_mask.specs.declared.statement.Line.TheVariants.{Nothing, Rule as ReadRule, Bad}
+use Rattle.dap_mask.specs.declared.statement.Statement.{Statement as ReadStatement}
+use Rattle.dap_mask.specs.declared.statement.Statement.TheVariants.{Change, LeaveOut}
+
+-- The rules that change values, in the order in which they apply, and the names of the events that
+-- are left out, where no name is any.
+pub record Mask : Type 0 where
+  pub changes : List Rule
+  pub dropped : List (Option (List ℕ))
+
+abbrev pub no_rules : Mask
+no_rules = record { changes = []; dropped = [] }
+
+abbrev pub rule_count : Mask → ℕ
+rule_count m = length m.changes + length m.dropped
+
+-- What a rules file says in one line: a change, or events that are left out.
+pub data Statement : Type 0 where
+  change : Rule → Statement
+  leave_out : Option (List ℕ) → Statement
+
+-- The mask with one rule more, behind the others.
+abbrev pub with_rule : Mask → Statement → Mask
+with_rule m (change r) = record { changes = m.changes ++ r ∷ []; dropped = m.dropped }
+with_rule m (leave_out n) = record { changes = m.changes; dropped = m.dropped ++ n ∷ [] }
+
+-- What a line says.
+pub data Line : Type 0 where
+  nothing : Line
+  rule : Statement → Line
+  bad : Line
+
+-- ---- the same of the program
+
+abbrev pub statement_of : ReadStatement → Statement
+statement_of (Change r) = change (rule_of r)
+statement_of (LeaveOut n) = leave_out (option_map string_bytes n)
+
+abbrev pub line_of : ReadLine → Line
+line_of Nothing = nothing
+line_of (ReadRule st) = rule (statement_of st)
+line_of Bad = bad

@@ -1,0 +1,74 @@
+-- Masked documents: what rules make of a document, said path by path, and the same as a document.
+use Rattle.std.specs.Prelude.{◌≡◌, Bool, true, false, cond, ◌&&◌, List, [], ◌∷◌, Option, None}
+use Rattle.std.specs.Prelude.{option_map, bytes_eq}
+use Rattle.dap_tree.specs.Doc.{Doc}
+use Rattle.dap_tree.specs.Path.{Step, name, place, at}
+use Rattle.dap_profile.specs.PlaceSteps.{PlaceStep, named, each}
+use Rattle.dap_message.specs.Places.{fits_place}
+use Rattle.dap_message.specs.Marks.{top, edit}
+use Rattle.dap_mask.specs.Rules.{Rule, of_verb, takes_parts, speaks_of}
+use Rattle.dap_mask.specs.declared.rules.Verb.{Verb}
+
+-- ---- path by path
+
+-- The path goes on below the place: the place speaks of a part of it that is shorter.
+abbrev pub is_below : List PlaceStep → List Step → Bool
+is_below [] (st ∷ p) = true
+is_below (named k ∷ ps) (name l ∷ p) = bytes_eq k l && is_below ps p
+is_below (each ∷ ps) (place i ∷ p) = is_below ps p
+is_below _ _ = false
+
+-- What a verb at a place leaves at a path, of what stood there (own): at the place what the verb
+-- makes of it, nothing below one that takes the parts, and what stood there at every other path.
+abbrev pub left_at : Verb → List PlaceStep → List Step → Option Doc → Option Doc
+left_at v ps p o = cond (fits_place ps p) (option_map (of_verb v) o)
+    (cond (is_below ps p && takes_parts v) None o)
+
+-- What a rule leaves at a path of the document d.
+abbrev pub left_by : Rule → Doc → List Step → Option Doc → Option Doc
+left_by r d p o = cond (speaks_of r d) (left_at r.verb r.place p o) o
+
+-- What the rules in turn leave there.
+abbrev pub left : List Rule → Doc → List Step → Option Doc → Option Doc
+left [] d p o = o
+left (r ∷ rs) d p o = left rs d p (left_by r d p o)
+
+-- The document e is d masked (own): at each path stands what the rules leave of what stands there
+-- in d.
+-- Of a list and an object a path shows how many items, and the names of the members: the values
+-- have paths of their own.
+unfoldable pub IsMasked : List Rule → Doc → Doc → Type 0
+IsMasked rules d e = (p : List Step) → option_map top (at p e)
+    ≡ option_map top (left rules d p (at p d))
+
+-- Two documents agree but for what the rules take away (own): at each path the rules leave the same
+-- of both.
+unfoldable pub AgreeBut : List Rule → Doc → Doc → Type 0
+AgreeBut rules d e = (p : List Step) → option_map top (left rules d p (at p d))
+    ≡ option_map top (left rules e p (at p e))
+
+-- No rule that speaks of the document has a place at the path, or takes the parts of one above it.
+abbrev pub is_apart : List Rule → Doc → List Step → Bool
+is_apart [] d p = true
+is_apart (r ∷ rs) d p =
+    cond (speaks_of r d) (cond (fits_place r.place p) false (cond (is_below r.place p
+    && takes_parts r.verb) false (is_apart rs d p))) (is_apart rs d p)
+
+-- Apart from the places every path of the masked document e has what it has in d.
+abbrev pub KeepsElsewhere : List Rule → Doc → Doc → Type 0
+KeepsElsewhere rules d e = (p : List Step) → is_apart rules d p ≡ true
+    → option_map top (at p e) ≡ option_map top (at p d)
+
+-- No path of e is new.
+abbrev pub HasNoNewPath : Doc → Doc → Type 0
+HasNoNewPath d e = (p : List Step) → at p d ≡ None → at p e ≡ None
+
+-- ---- as a document
+
+abbrev pub mask_by : Rule → Doc → Doc
+mask_by r d = cond (speaks_of r d) (edit r.place (of_verb r.verb) d) d
+
+-- The document that the rules in turn make.
+abbrev pub masked : List Rule → Doc → Doc
+masked [] d = d
+masked (r ∷ rs) d = masked rs (mask_by r d)

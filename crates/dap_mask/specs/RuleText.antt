@@ -1,0 +1,140 @@
+-- What the line of a rules file says, read from its front.
+use Rattle.std.specs.Prelude.{ℕ, zero, suc, ◌==◌, false, cond, ◌&&◌, List, [], ◌∷◌}
+use Rattle.std.specs.Prelude.{length, take, drop, Option, Some, None, option_map, option_and_then}
+use Rattle.std.specs.Prelude.{codes, bytes_eq}
+use Rattle.std.specs.Str.{is_utf8}
+use Rattle.serde_json.specs.Data as json
+use Rattle.serde_json.specs.Read.{read}
+use Rattle.dap_profile.specs.PlaceSteps.{PlaceStep, named, each}
+use Rattle.dap_profile.specs.declared.profile.Kind.{Kind}
+use Rattle.dap_profile.specs.declared.profile.Kind.TheVariants.{Request, Response, Event}
+use Rattle.dap_mask.specs.Mask.{Statement, change, leave_out, Line, nothing, rule, bad}
+use Rattle.dap_mask.specs.Rules.{same_kind}
+use Rattle.dap_mask.specs.Runs.{is_plain, front, behind, closing, gap, is_end, is_blank}
+use Rattle.dap_mask.specs.declared.rules.Verb.{Verb}
+use Rattle.dap_mask.specs.declared.rules.Verb.TheVariants.{Blank, Digits, Hex}
+
+-- ---- names
+
+-- The text of a JSON value that is one.
+abbrev pub text_in : Option json.Data → Option (List ℕ)
+text_in (Some (json.string k)) = Some k
+text_in _ = None
+
+-- The text that these bytes are as JSON (serde_json), where they are one.
+unfoldable pub string_of : List ℕ → Option (List ℕ)
+string_of token = cond (is_utf8 token) (text_in (read token)) None
+
+-- A JSON string at the front, and what stands behind it.
+abbrev pub quoted_at : List ℕ → Option (List ℕ × List ℕ)
+quoted_at [] = None
+quoted_at (b ∷ s) =
+    option_map (λ k. (k, drop (closing false s) s)) (string_of (b ∷ take (closing false s) s))
+
+-- A name of plain bytes at the front, and what stands behind it.
+abbrev pub plain_at : List ℕ → Option (List ℕ × List ℕ)
+plain_at s = cond (length (front is_plain s) == 0) None (Some (front is_plain s, behind is_plain s))
+
+-- A name at the front: in quotes, as a JSON string, or plain.
+abbrev pub name_at : List ℕ → Option (List ℕ × List ℕ)
+name_at [] = None
+name_at (b ∷ s) = cond (b == 34) (quoted_at (b ∷ s)) (plain_at (b ∷ s))
+
+abbrev pub this_name : List ℕ × List ℕ → Option (List ℕ) × List ℕ
+this_name n = (Some n.0, n.1)
+
+-- A name at the front, or `*`, which is any.
+abbrev pub any_name : List ℕ → Option (Option (List ℕ) × List ℕ)
+any_name [] = None
+any_name (b ∷ s) = cond (b == 42) (Some (None, s)) (option_map this_name (name_at (b ∷ s)))
+
+-- ---- places
+
+-- `[]`, behind its first bracket: each element.
+abbrev pub each_step : List ℕ → Option (PlaceStep × List ℕ)
+each_step [] = None
+each_step (b ∷ s) = cond (b == 93) (Some (each, s)) None
+
+abbrev pub member_step : List ℕ × List ℕ → PlaceStep × List ℕ
+member_step n = (named n.0, n.1)
+
+-- A further step of a place: a dot with a name behind it, or `[]`.
+abbrev pub next_step : List ℕ → Option (PlaceStep × List ℕ)
+next_step [] = None
+next_step (b ∷ s) = cond (b == 46) (option_map member_step (name_at s))
+    (cond (b == 91) (each_step s) None)
+
+-- No step, or this one and those that are told of the rest.
+abbrev pub step_then : List ℕ → (List ℕ → Option (List PlaceStep × List ℕ))
+    → Option (PlaceStep × List ℕ) → Option (List PlaceStep × List ℕ)
+step_then s more None = Some ([], s)
+step_then s more (Some p) = option_map (λ r. (p.0 ∷ r.0, r.1)) (more p.1)
+
+-- All further steps, at most so many, and what stands behind them.
+abbrev pub steps_from : ℕ → List ℕ → Option (List PlaceStep × List ℕ)
+steps_from zero s = None
+steps_from (suc n) s = step_then s (steps_from n) (next_step s)
+
+-- A place at the front, and what stands behind it: a name, and the steps behind it, of which a text
+-- has fewer than bytes.
+abbrev pub place_at : List ℕ → Option (List PlaceStep × List ℕ)
+place_at s = option_and_then (λ n. option_map (λ r. (named n.0 ∷ r.0, r.1))
+    (steps_from (length s) n.1)) (name_at s)
+
+-- ---- rules
+
+abbrev pub verb_named : List ℕ → Option Verb
+verb_named w =
+    cond (bytes_eq w (codes "blank")) (Some Blank)
+    (cond (bytes_eq w (codes "digits")) (Some Digits)
+    (cond (bytes_eq w (codes "hex")) (Some Hex) None))
+
+abbrev pub kind_named : List ℕ → Option Kind
+kind_named w =
+    cond (bytes_eq w (codes "request")) (Some Request)
+    (cond (bytes_eq w (codes "response")) (Some Response)
+    (cond (bytes_eq w (codes "event")) (Some Event) None))
+
+-- The messages that a rule speaks of: a kind, and a name or any; and what stands behind.
+abbrev pub Head : Type 0
+Head = Kind × Option (List ℕ) × List ℕ
+
+abbrev pub name_behind : Kind → List ℕ → Option Head
+name_behind k s = option_map (λ n. (k, n.0, n.1)) (any_name s)
+
+abbrev pub kind_then : List ℕ → Option Head
+kind_then s = option_and_then (λ k. option_and_then (name_behind k) (gap (behind is_plain s)))
+    (kind_named (front is_plain s))
+
+abbrev pub head_at : List ℕ → Option Head
+head_at s = option_and_then kind_then (gap s)
+
+abbrev pub placed : Verb → Kind → Option (List ℕ) → List PlaceStep × List ℕ → Option Statement
+placed v k n p = cond (is_end p.1)
+    (Some (change (record { verb = v; kind = k; name = n; place = p.0 }))) None
+
+abbrev pub place_behind : Verb → Kind → Option (List ℕ) → List ℕ → Option Statement
+place_behind v k n s = option_and_then (placed v k n) (place_at s)
+
+-- The rule of a verb, whose messages and place come.
+abbrev pub change_at : Verb → List ℕ → Option Statement
+change_at v s = option_and_then (λ h. option_and_then (place_behind v h.0 h.1) (gap h.2))
+    (head_at s)
+
+-- The rule that leaves out events, whose name comes.
+abbrev pub leave_out_at : List ℕ → Option Statement
+leave_out_at s = option_and_then (λ h. cond (same_kind h.0 Event && is_end h.2)
+    (Some (leave_out h.1)) None) (head_at s)
+
+abbrev pub statement_at : List ℕ → Option Statement
+statement_at s = cond (bytes_eq (front is_plain s) (codes "drop"))
+    (leave_out_at (behind is_plain s)) (option_and_then (λ v. change_at v (behind is_plain s))
+    (verb_named (front is_plain s)))
+
+abbrev pub told : Option Statement → Line
+told None = bad
+told (Some st) = rule st
+
+-- What a line says: a rule, nothing, or what is neither.
+abbrev pub line_said : List ℕ → Line
+line_said l = cond (is_end l) nothing (told (statement_at (behind is_blank l)))

@@ -1,0 +1,182 @@
+-- Rules of a mask, as the definitions see them: which messages one speaks of, and what it makes of
+-- a value.
+use Rattle.std.specs.Prelude.{ℕ, Bool, true, false, not, ◌&&◌, ◌||◌, pos, List, [], ◌∷◌, map}
+use Rattle.std.specs.Prelude.{Option, Some, None, option_map, codes, bytes_eq, string_bytes}
+use Rattle.dap_tree.specs.Doc.{Doc, null, boolean, whole, text, list, object, id, no_items}
+use Rattle.dap_tree.specs.Doc.{no_members, get}
+use Rattle.dap_profile.specs.PlaceSteps.{PlaceStep, named, each}
+use Rattle.dap_message.specs.Rows.{is_text, is_of_kind, name_key}
+use Rattle.dap_profile.specs.declared.profile.Kind.{Kind}
+use Rattle.dap_profile.specs.declared.profile.Kind.TheVariants.{Request, Response, Event}
+use Rattle.dap_mask.specs.Texts.{digits, hex}
+use Rattle.dap_mask.specs.declared.rules.Verb.{Verb}
+use Rattle.dap_mask.specs.declared.rules.Verb.TheVariants.{Blank, Digits, Hex}
+use Rattle.dap_mask.specs.declared.rules.Step.{Step as RuleStep}
+use Rattle.dap_mask.specs.declared.rules.Step.TheVariants.{Member, Each}
+use Rattle.dap_mask.specs.declared.rules.MaskRule.{MaskRule}
+
+-- A rule, as the definitions see it; no name stands for any.
+pub record Rule : Type 0 where
+  pub verb : Verb
+  pub kind : Kind
+  pub name : Option (List ℕ)
+  pub place : List PlaceStep
+
+abbrev pub step_of : RuleStep → PlaceStep
+step_of (Member s) = named (string_bytes s)
+step_of Each = each
+
+abbrev pub place_of : List RuleStep → List PlaceStep
+place_of steps = map step_of steps
+
+-- What the definitions see of a rule of the program.
+abbrev pub rule_of : MaskRule → Rule
+rule_of r = record {
+  verb = r.verb;
+  kind = r.kind;
+  name = option_map string_bytes r.name;
+  place =
+      place_of r.place.items;
+}
+
+abbrev pub rules_of : List MaskRule → List Rule
+rules_of rs = map rule_of rs
+
+-- ---- what a rule makes of a value
+
+-- The blank of a value (own): the least of its sort. Null stays, and so does an id.
+abbrev pub blank : Doc → Doc
+blank null = null
+blank (boolean b) = boolean false
+blank (whole z) = whole (pos 0)
+blank (text s) = text []
+blank (list ds) = list no_items
+blank (object ms) = object no_members
+blank (id s z) = id s z
+
+-- A value with f of its text (own): what is no text stays.
+abbrev pub change_text : (List ℕ → List ℕ) → Doc → Doc
+change_text f (text s) = text (f s)
+change_text f d = d
+
+abbrev pub of_verb : Verb → Doc → Doc
+of_verb Blank = blank
+of_verb Digits = change_text digits
+of_verb Hex = change_text hex
+
+-- Whether nothing is left of the parts of a value.
+abbrev pub takes_parts : Verb → Bool
+takes_parts Blank = true
+takes_parts Digits = false
+takes_parts Hex = false
+
+-- ---- the messages that a rule speaks of
+
+-- The message's command or event is that name, where one is asked.
+abbrev pub has_name : Kind → Option (List ℕ) → Doc → Bool
+has_name k None d = true
+has_name k (Some n) d = is_text n (get (name_key k) d)
+
+-- The message is one of the rule by its JSON alone (own): an object with that `type`, and with that
+-- `command` or `event` where the rule has a name.
+abbrev pub speaks_of : Rule → Doc → Bool
+speaks_of r d = is_of_kind r.kind d && has_name r.kind r.name d
+
+-- The event has one of these names, where None is any.
+abbrev pub is_event_of : List (Option (List ℕ)) → Doc → Bool
+is_event_of [] d = false
+is_event_of (n ∷ ns) d = has_name Event n d || is_event_of ns d
+
+-- The message is dropped: an event of one of these names.
+abbrev pub is_dropped : List (Option (List ℕ)) → Doc → Bool
+is_dropped names d = is_of_kind Event d && is_event_of names d
+
+-- ---- rules that stand in a mask
+
+-- The name of a member that names a message.
+abbrev pub is_naming : List ℕ → Bool
+is_naming k = bytes_eq (codes "command") k || bytes_eq (codes "event") k
+
+-- The name of a member by which a message is told: no rule may change it.
+abbrev pub is_telling : List ℕ → Bool
+is_telling k = bytes_eq (codes "type") k || (is_naming k || bytes_eq (codes "success") k)
+
+-- The place is the message itself, or a member by which it is told.
+abbrev pub is_telling_place : List PlaceStep → Bool
+is_telling_place [] = true
+is_telling_place (named k ∷ []) = is_telling k
+is_telling_place _ = false
+
+-- Each rule leaves the members by which a message is told.
+abbrev pub are_safe : List Rule → Bool
+are_safe [] = true
+are_safe (r ∷ rs) = not (is_telling_place r.place) && are_safe rs
+
+abbrev pub same_step : PlaceStep → PlaceStep → Bool
+same_step (named k) (named l) = bytes_eq k l
+same_step each each = true
+same_step _ _ = false
+
+abbrev pub same_place : List PlaceStep → List PlaceStep → Bool
+same_place [] [] = true
+same_place (p ∷ ps) (q ∷ qs) = same_step p q && same_place ps qs
+same_place _ _ = false
+
+abbrev pub same_kind : Kind → Kind → Bool
+same_kind Request Request = true
+same_kind Response Response = true
+same_kind Event Event = true
+same_kind _ _ = false
+
+-- Some message may have both names.
+abbrev pub share_name : Option (List ℕ) → Option (List ℕ) → Bool
+share_name (Some n) (Some m) = bytes_eq n m
+share_name _ _ = true
+
+-- The two rules are one and the same.
+abbrev pub same_name : Option (List ℕ) → Option (List ℕ) → Bool
+same_name (Some n) (Some m) = bytes_eq n m
+same_name None None = true
+same_name _ _ = false
+
+abbrev pub same_verb : Verb → Verb → Bool
+same_verb Blank Blank = true
+same_verb Digits Digits = true
+same_verb Hex Hex = true
+same_verb _ _ = false
+
+abbrev pub same_rule : Rule → Rule → Bool
+same_rule r t =
+    same_verb r.verb t.verb && (same_kind r.kind t.kind && (same_name r.name t.name
+    && same_place r.place t.place))
+
+-- The rule is one of these.
+abbrev pub is_among : Rule → List Rule → Bool
+is_among r [] = false
+is_among r (t ∷ ts) = same_rule r t || is_among r ts
+
+-- The later rule may undo that the earlier one is done (own): behind `hex`, `digits` can make a
+-- hexadecimal number of what was none.
+abbrev pub unsettles : Verb → Verb → Bool
+unsettles Hex Digits = true
+unsettles _ _ = false
+
+-- The two rules clash, the later one being the second: at one place of some message the second
+-- unsettles the first.
+abbrev pub clash : Rule → Rule → Bool
+clash r t = unsettles r.verb t.verb && (same_place r.place t.place && (same_kind r.kind t.kind
+    && share_name r.name t.name))
+
+abbrev pub clashes_with : Rule → List Rule → Bool
+clashes_with r [] = false
+clashes_with r (t ∷ ts) = clash r t || clashes_with r ts
+
+-- No rule clashes with a later one.
+abbrev pub are_settled : List Rule → Bool
+are_settled [] = true
+are_settled (r ∷ rs) = not (clashes_with r rs) && are_settled rs
+
+-- One of these rules clashes with the later one.
+abbrev pub is_clashed_with : List Rule → Rule → Bool
+is_clashed_with [] t = false
+is_clashed_with (r ∷ rs) t = clash r t || is_clashed_with rs t

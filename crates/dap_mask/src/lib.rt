@@ -1,0 +1,27 @@
+//! Masks: rules that take away of messages what changes from run to run.
+//!
+//! [`MaskRules::read`] reads the rules of a file, and [`mask`] blanks the values of a message at
+//! their places. `specs/` says what that means, and [`laws`] has the theorems.
+#![tactic(auto)]
+
+mod fault;
+mod index;
+pub mod laws;
+mod loose;
+mod mask_rules;
+mod masking;
+mod meets;
+mod names;
+mod places;
+mod profile_ids;
+mod rule_list;
+mod rules;
+mod runs;
+mod statement;
+mod texts;
+
+pub use fault::{RulesCause, RulesFault};
+pub use loose::read_masked;
+pub use mask_rules::MaskRules;
+pub use masking::{is_dropped, mask};
+pub use rules::{MaskRule, Step, Verb};

@@ -1,0 +1,96 @@
+//! The rules of a mask, with an index of them.
+ghost use Rattle.std.specs.Prelude.{◌≡◌, ◌≢◌, true, Ok, Err, map, option_map, string_bytes};
+ghost use Rattle.std.specs.Prelude.{IfOk, IfErr};
+ghost use Rattle.dap_profile.specs.declared.profile.Kind.TheVariants.{Request, Response, Event};
+ghost use Rattle.dap_mask.specs.Index.{is_index};
+ghost use Rattle.dap_mask.specs.ListedRules.{listed_changes};
+
+use crate::fault::{RulesCause, RulesFault};
+use crate::index::KindRules;
+use crate::rule_list::RuleList;
+use crate::rules::MaskRule;
+use dap_message::Kind;
+use std::alloc::{AllocError, Global};
+
+/// The rules of a mask.
+///
+/// None of them changes a member by which a message is told, or a number that the profile renames;
+/// and what is masked by them, masked again, is what it was.
+#[derive(Drop)]
+pub struct MaskRules {
+    list: RuleList,
+    requests: KindRules,
+    responses: KindRules,
+    events: KindRules,
+    ghost requests_found: { is_index Request (listed_changes list) requests ≡ true },
+    ghost responses_found: { is_index Response (listed_changes list) responses ≡ true },
+    ghost events_found: { is_index Event (listed_changes list) events ≡ true },
+}
+
+impl MaskRules {
+    ghost use Rattle.dap_mask.specs.Index.{positions};
+    ghost use Rattle.dap_mask.specs.KeptRules.{mask_of, changes_of, dropped_of};
+    ghost use Rattle.dap_mask.specs.ListedRules.{listed_mask};
+    ghost use Rattle.dap_mask.specs.Rules.{rules_of};
+    ghost use Rattle.dap_mask.specs.RulesFile.{rules_said};
+
+    /// Reads the rules of a file.
+    ///
+    /// A line is a rule, or nothing: `#` begins a comment. Of lines that are refused the first is
+    /// told, and why; `Memory`, and its line, say nothing of the file.
+    pub fn read(alloc: Global, text: &[u8]) -> Result<MaskRules, RulesFault>
+        ensures ok { IfOk result (λ r. rules_said text.now ≡ Ok (mask_of r)) }
+        ensures err { IfErr result
+            (λ f. f.cause ≢ RulesCause.Memory → rules_said text.now ≡ Err f) }
+    {
+        let list = RuleList::read(alloc, text)?;
+        match MaskRules::new(alloc, list) {
+            Ok(rules) => Ok(rules),
+            Err(_) => Err(RulesFault {
+                line: 1,
+                cause: RulesCause::Memory,
+            }),
+        }
+    }
+
+    fn new(alloc: Global, list: RuleList) -> Result<MaskRules, AllocError>
+        ensures { IfOk result (λ r. mask_of r ≡ listed_mask list) }
+    {
+        let requests = KindRules::new(alloc, &list, Kind::Request)?;
+        let responses = KindRules::new(alloc, &list, Kind::Response)?;
+        let events = KindRules::new(alloc, &list, Kind::Event)?;
+        Ok(MaskRules {
+            list,
+            requests,
+            responses,
+            events,
+        })
+    }
+
+    /// The changes, in the order in which they apply.
+    pub fn changes(&self) -> &[MaskRule]
+        ensures { rules_of result.now ≡ changes_of self.now }
+    {
+        self.list.changes()
+    }
+
+    /// The names of the events that are left out; all events, if one of them is `None`.
+    pub fn dropped(&self) -> &[Option<String>]
+        ensures { map (option_map string_bytes) result.now ≡ dropped_of self.now }
+    {
+        self.list.dropped()
+    }
+
+    /// The changes that may speak of messages of this kind and name, by their places among all, in
+    /// order.
+    pub(crate) fn places<'a>(&'a self, kind: Kind, name: Option<&str>) -> &'a [usize]
+        ensures { result.now
+            ≡ positions kind (option_map (λ s. s.now) name.entry) (changes_of self.now) }
+    {
+        match kind {
+            Kind::Request => self.requests.places(name),
+            Kind::Response => self.responses.places(name),
+            Kind::Event => self.events.places(name),
+        }
+    }
+}

@@ -1,0 +1,260 @@
+//! The values of a message that a mask takes away, changed in place.
+ghost use Rattle.std.specs.Prelude.{◌≡◌, ◌↔◌, true, Some, map, option_map, string_bytes};
+ghost use Rattle.std.specs.Prelude.{slice_get};
+ghost use Rattle.dap_tree.specs.Doc.{Doc, is_sound, is_ordered, get, change_child, change_items};
+ghost use Rattle.dap_tree.specs.Doc.{map_items};
+ghost use Rattle.dap_tree.specs.View.{view, items_view};
+ghost use Rattle.dap_message.specs.Marks.{edit};
+ghost use Rattle.dap_message.specs.Rows.{is_text, is_of_kind, name_key};
+ghost use Rattle.dap_mask.specs.Ids.{KeepsIds};
+ghost use Rattle.dap_mask.specs.Index.{told_kind, told_name, masked_by, masked_at};
+ghost use Rattle.dap_mask.specs.KeptRules.{changes_of, dropped_of};
+ghost use Rattle.dap_mask.specs.Masked.{mask_by, masked, IsMasked, AgreeBut, KeepsElsewhere};
+ghost use Rattle.dap_mask.specs.Masked.{HasNoNewPath};
+ghost use Rattle.dap_mask.specs.Rules.{rule_of, rules_of, place_of, of_verb, blank, has_name};
+ghost use Rattle.dap_mask.specs.Rules.{speaks_of, is_event_of, is_dropped};
+
+use crate::mask_rules::MaskRules;
+use crate::meets::text_of;
+use crate::rules::{MaskRule, Step, Verb};
+use crate::texts::{digits, hex};
+use dap_message::Kind;
+use dap_tree::Tree;
+use std::mem;
+
+/// Masks a message in place. No memory is taken.
+pub fn mask(tree: &mut Tree, rules: &MaskRules)
+    ensures masked { view tree.new ≡ masked (changes_of rules.now) (view tree.old) }
+
+    // Exactly those places: at each path stands what the rules leave there, and every other path
+    // has what it had.
+    ensures places { IsMasked (changes_of rules.now) (view tree.old) (view tree.new) }
+    ensures elsewhere { KeepsElsewhere (changes_of rules.now) (view tree.old) (view tree.new) }
+    ensures none_new { HasNoNewPath (view tree.old) (view tree.new) }
+    ensures ids { KeepsIds (view tree.old) (view tree.new) }
+
+    // Of a document whose members stand in order: no other one is masked so; masked again it is
+    // what it was; and it is what another one is masked to exactly if the two agree elsewhere.
+    ensures one { is_ordered (view tree.old) ≡ true
+        → (d : Doc) → IsMasked (changes_of rules.now) (view tree.old) d → d ≡ view tree.new }
+    ensures again { is_ordered (view tree.old) ≡ true
+        → masked (changes_of rules.now) (view tree.new) ≡ view tree.new }
+    ensures equal { is_ordered (view tree.old) ≡ true → (d : Doc) → is_ordered d ≡ true
+        → (view tree.new ≡ masked (changes_of rules.now) d)
+        ↔ AgreeBut (changes_of rules.now) (view tree.old) d }
+
+    // It can be written where it could, its members stand in order, and it is dropped as before.
+    ensures sound { is_sound (view tree.old) ≡ true → is_sound (view tree.new) ≡ true }
+    ensures ordered { is_ordered (view tree.old) ≡ true → is_ordered (view tree.new) ≡ true }
+    ensures dropped { is_dropped (dropped_of rules.now) (view tree.new)
+        ≡ is_dropped (dropped_of rules.now) (view tree.old) }
+{
+    mask_all(tree, rules);
+}
+
+fn mask_all(tree: &mut Tree, rules: &MaskRules)
+    ensures { view tree.new ≡ masked (changes_of rules.now) (view tree.old) }
+{
+    match told_kind(tree) {
+        Some(kind) => mask_told(tree, rules, kind),
+        None => {}
+    }
+}
+
+fn mask_told(tree: &mut Tree, rules: &MaskRules, kind: Kind)
+    requires { told_kind (view tree.old) ≡ Some kind }
+    ensures { view tree.new ≡ masked (changes_of rules.now) (view tree.old) }
+{
+    let found = rules.places(kind, told_name(tree, kind));
+    mask_places(tree, rules.changes(), found);
+}
+
+fn mask_places(tree: &mut Tree, rules: &[MaskRule], places: &[usize])
+    ensures { view tree.new ≡ masked_at (rules_of rules.now) places.now (view tree.old) }
+{
+    for place in places {
+        mask_at(tree, rules, *place);
+    }
+}
+
+fn mask_at(tree: &mut Tree, rules: &[MaskRule], place: usize)
+    ensures { view tree.new ≡ masked_by (slice_get (rules_of rules.now) place) (view tree.old) }
+{
+    match rules.get(place) {
+        Some(rule) => mask_by(tree, rule),
+        None => {}
+    }
+}
+
+fn told_kind(tree: &Tree) -> Option<Kind>
+    ensures { result ≡ told_kind (view tree.now) }
+{
+    if is_of_kind(tree, Kind::Request) {
+        Some(Kind::Request)
+    } else if is_of_kind(tree, Kind::Response) {
+        Some(Kind::Response)
+    } else if is_of_kind(tree, Kind::Event) {
+        Some(Kind::Event)
+    } else {
+        None
+    }
+}
+
+fn told_name(tree: &Tree, kind: Kind) -> Option<&str>
+    ensures { option_map (λ s. s.now) result ≡ told_name kind (view tree.now) }
+{
+    match tree.child(name_key(kind)) {
+        Some(Tree::Text(text)) => Some(text.as_str()),
+        _ => None,
+    }
+}
+
+/// Whether a message is an event that the rules leave out.
+pub fn is_dropped(tree: &Tree, rules: &MaskRules) -> bool
+    ensures { result ≡ is_dropped (dropped_of rules.now) (view tree.now) }
+{
+    is_of_kind(tree, Kind::Event) && is_event_of(tree, rules.dropped())
+}
+
+fn is_event_of(tree: &Tree, names: &[Option<String>]) -> bool
+    ensures { result ≡ is_event_of (map (option_map string_bytes) names.now) (view tree.now) }
+{
+    for name in names {
+        if has_name(tree, Kind::Event, text_of(name)) {
+            return true;
+        }
+    }
+    false
+}
+
+fn mask_by(tree: &mut Tree, rule: &MaskRule)
+    ensures { view tree.new ≡ mask_by (rule_of rule.now) (view tree.old) }
+{
+    if speaks_of(rule, tree) {
+        mask_path(tree, &rule.place, rule.verb);
+    }
+}
+
+fn has_text(tree: &Tree, name: &str, word: &str) -> bool
+    ensures { result ≡ is_text word.now (get name.now (view tree.now)) }
+{
+    match tree.child(name) {
+        Some(Tree::Text(text)) => text.as_str() == word,
+        _ => false,
+    }
+}
+
+fn is_of_kind(tree: &Tree, kind: Kind) -> bool
+    ensures { result ≡ is_of_kind kind (view tree.now) }
+{
+    match kind {
+        Kind::Request => has_text(tree, "type", "request"),
+        Kind::Response => has_text(tree, "type", "response"),
+        Kind::Event => has_text(tree, "type", "event"),
+    }
+}
+
+fn has_name(tree: &Tree, kind: Kind, name: Option<&str>) -> bool
+    ensures { result ≡ has_name kind (option_map (λ s. s.now) name.entry) (view tree.now) }
+{
+    match name {
+        Some(name) => has_text(tree, name_key(kind), name),
+        None => true,
+    }
+}
+
+fn name_key(kind: Kind) -> &'static str
+    ensures { result.now ≡ name_key kind }
+{
+    match kind {
+        Kind::Request | Kind::Response => "command",
+        Kind::Event => "event",
+    }
+}
+
+fn speaks_of(rule: &MaskRule, tree: &Tree) -> bool
+    ensures { result ≡ speaks_of (rule_of rule.now) (view tree.now) }
+{
+    is_of_kind(tree, rule.kind) && has_name(tree, rule.kind, text_of(&rule.name))
+}
+
+#[cycle(mask_path)]
+fn mask_path(tree: &mut Tree, path: &[Step], verb: Verb)
+    ensures { view tree.new ≡ edit (place_of path.now) (of_verb verb) (view tree.old) }
+{
+    match path {
+        [] => change(tree, verb),
+        [step, rest @ ..] => match step {
+            Step::Member(name) => mask_below(tree, name.as_str(), rest, verb),
+            Step::Each => mask_list(tree, rest, verb),
+        },
+    }
+}
+
+#[cycle(mask_path)]
+fn mask_below(tree: &mut Tree, name: &str, path: &[Step], verb: Verb)
+    ensures { view tree.new
+        ≡ change_child name.now (edit (place_of path.now) (of_verb verb)) (view tree.old) }
+{
+    if let Some(members) = tree.members_mut() {
+        if let Some(member) = members.get_mut(name) {
+            mask_path(member, path, verb);
+        }
+    }
+}
+
+#[cycle(mask_path)]
+fn mask_list(tree: &mut Tree, path: &[Step], verb: Verb)
+    ensures { view tree.new
+        ≡ change_items (edit (place_of path.now) (of_verb verb)) (view tree.old) }
+{
+    if let Tree::List(items) = tree {
+        mask_each(items, path, verb);
+    }
+}
+
+#[cycle(mask_path)]
+fn mask_each(items: &mut Vec<Tree>, path: &[Step], verb: Verb)
+    ensures { items_view items.new.items
+        ≡ map_items (edit (place_of path.now) (of_verb verb)) (items_view items.old.items) }
+{
+    for item in items.iter_mut() {
+        mask_path(item, path, verb);
+    }
+}
+
+fn change(tree: &mut Tree, verb: Verb)
+    ensures { view tree.new ≡ of_verb verb (view tree.old) }
+{
+    let old = mem::replace(tree, Tree::Null);
+    *tree = match (verb, old) {
+        (Verb::Blank, old) => blank(old),
+        (Verb::Digits, Tree::Text(text)) => Tree::Text(digits(text)),
+        (Verb::Hex, Tree::Text(text)) => Tree::Text(hex(text)),
+        (_, old) => old,
+    };
+}
+
+// The blank of a value, in the memory that it has.
+fn blank(tree: Tree) -> Tree
+    ensures { view result ≡ blank (view tree) }
+{
+    match tree {
+        Tree::Null => Tree::Null,
+        Tree::Bool(_) => Tree::Bool(false),
+        Tree::Whole(_) => Tree::Whole(0),
+        Tree::Text(mut text) => {
+            text.clear();
+            Tree::Text(text)
+        }
+        Tree::List(mut items) => {
+            items.clear();
+            Tree::List(items)
+        }
+        Tree::Object(mut members) => {
+            members.clear();
+            Tree::Object(members)
+        }
+        Tree::Id(sort, number) => Tree::Id(sort, number),
+    }
+}

@@ -1,0 +1,161 @@
+//! Whether rules are of the same messages and places.
+ghost use Rattle.std.specs.Prelude.{◌≡◌, option_map, string_bytes};
+ghost use Rattle.dap_mask.specs.Rules.{rule_of, rules_of, step_of, place_of, same_step, same_place};
+ghost use Rattle.dap_mask.specs.Rules.{same_kind, share_name, same_name, same_verb, same_rule};
+ghost use Rattle.dap_mask.specs.Rules.{is_among, unsettles, clash, is_clashed_with};
+ghost use Rattle.dap_mask.specs.Rules.{is_naming, is_telling, is_telling_place};
+
+use crate::rules::{MaskRule, Step, Verb};
+use dap_message::Kind;
+
+pub(crate) fn same_kind(kind: Kind, other: Kind) -> bool
+    ensures { result ≡ same_kind kind other }
+{
+    match kind {
+        Kind::Request => matches!(other, Kind::Request),
+        Kind::Response => matches!(other, Kind::Response),
+        Kind::Event => matches!(other, Kind::Event),
+    }
+}
+
+/// The text of a name; `None`, which is any, where there is none.
+pub(crate) fn text_of(name: &Option<String>) -> Option<&str>
+    ensures { option_map (λ s. s.now) result ≡ option_map string_bytes name.now }
+{
+    match name {
+        Some(name) => Some(name.as_str()),
+        None => None,
+    }
+}
+
+/// Whether a message may have both names.
+pub(crate) fn share_name(name: Option<&str>, other: Option<&str>) -> bool
+    ensures { result
+        ≡ share_name (option_map (λ s. s.now) name.entry) (option_map (λ s. s.now) other.entry) }
+{
+    match (name, other) {
+        (Some(name), Some(other)) => name == other,
+        _ => true,
+    }
+}
+
+pub(crate) fn same_name(name: Option<&str>, other: Option<&str>) -> bool
+    ensures { result
+        ≡ same_name (option_map (λ s. s.now) name.entry) (option_map (λ s. s.now) other.entry) }
+{
+    match (name, other) {
+        (Some(name), Some(other)) => name == other,
+        (None, None) => true,
+        _ => false,
+    }
+}
+
+fn same_verb(verb: Verb, other: Verb) -> bool
+    ensures { result ≡ same_verb verb other }
+{
+    match verb {
+        Verb::Blank => matches!(other, Verb::Blank),
+        Verb::Digits => matches!(other, Verb::Digits),
+        Verb::Hex => matches!(other, Verb::Hex),
+    }
+}
+
+fn same_step(step: &Step, other: &Step) -> bool
+    ensures { result ≡ same_step (step_of step.now) (step_of other.now) }
+{
+    match (step, other) {
+        (Step::Member(name), Step::Member(other)) => name.as_str() == other.as_str(),
+        (Step::Each, Step::Each) => true,
+        _ => false,
+    }
+}
+
+pub(crate) fn same_place(place: &[Step], other: &[Step]) -> bool
+    ensures { result ≡ same_place (place_of place.now) (place_of other.now) }
+{
+    let mut rest = other;
+    for step in place {
+        match rest {
+            [first, behind @ ..] => {
+                if !same_step(step, first) {
+                    return false;
+                }
+                rest = behind;
+            }
+            [] => return false,
+        }
+    }
+    rest.is_empty()
+}
+
+fn same_rule(rule: &MaskRule, other: &MaskRule) -> bool
+    ensures { result ≡ same_rule (rule_of rule.now) (rule_of other.now) }
+{
+    same_verb(rule.verb, other.verb)
+        && same_kind(rule.kind, other.kind)
+        && same_name(text_of(&rule.name), text_of(&other.name))
+        && same_place(&rule.place, &other.place)
+}
+
+pub(crate) fn is_among(rule: &MaskRule, rules: &[MaskRule]) -> bool
+    ensures { result ≡ is_among (rule_of rule.now) (rules_of rules.now) }
+{
+    for other in rules {
+        if same_rule(rule, other) {
+            return true;
+        }
+    }
+    false
+}
+
+fn unsettles(verb: Verb, later: Verb) -> bool
+    ensures { result ≡ unsettles verb later }
+{
+    matches!(verb, Verb::Hex) && matches!(later, Verb::Digits)
+}
+
+fn clash(rule: &MaskRule, later: &MaskRule) -> bool
+    ensures { result ≡ clash (rule_of rule.now) (rule_of later.now) }
+{
+    unsettles(rule.verb, later.verb)
+        && same_place(&rule.place, &later.place)
+        && same_kind(rule.kind, later.kind)
+        && share_name(text_of(&rule.name), text_of(&later.name))
+}
+
+/// Whether one of the rules clashes with this later one.
+pub(crate) fn is_clashed_with(rules: &[MaskRule], later: &MaskRule) -> bool
+    ensures { result ≡ is_clashed_with (rules_of rules.now) (rule_of later.now) }
+{
+    for rule in rules {
+        if clash(rule, later) {
+            return true;
+        }
+    }
+    false
+}
+
+fn is_naming(name: &str) -> bool
+    ensures { result ≡ is_naming name.now }
+{
+    name == "command" || name == "event"
+}
+
+fn is_telling(name: &str) -> bool
+    ensures { result ≡ is_telling name.now }
+{
+    name == "type" || is_naming(name) || name == "success"
+}
+
+/// Whether the place is the message itself, or a member by which it is told.
+pub(crate) fn is_telling_place(place: &[Step]) -> bool
+    ensures { result ≡ is_telling_place (place_of place.now) }
+{
+    match place {
+        [] => true,
+        [step, rest @ ..] => match step {
+            Step::Member(name) => rest.is_empty() && is_telling(name.as_str()),
+            Step::Each => false,
+        },
+    }
+}

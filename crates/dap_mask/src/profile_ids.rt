@@ -1,0 +1,114 @@
+//! Whether a rule has the place of an id of the profile.
+ghost use Rattle.std.specs.Prelude.{◌≡◌, map};
+ghost use Rattle.dap_profile.specs.ProfileRows.{row_of};
+ghost use Rattle.dap_profile.specs.PlaceSteps.{steps_of};
+ghost use Rattle.dap_mask.specs.Rules.{rule_of, step_of, place_of, same_step, same_place};
+ghost use Rattle.dap_mask.specs.Ids.{wants_id, meets, takes_id, takes_id_of, takes_profile_id};
+ghost use Rattle.dap_mask.specs.RowSteps.{row_step_of, row_place_of};
+
+use crate::meets::{same_kind, share_name, text_of};
+use crate::rules::{MaskRule, Step};
+use dap_message::{PROFILE, Place, Row, Want};
+
+/// One step of a row's place.
+#[derive(Clone, Copy, Drop)]
+enum RowStep {
+    Member(&'static str),
+    Each,
+}
+
+/// Whether some row of the profile has an id at the rule's place, in a message of both.
+pub(crate) fn takes_profile_id(rule: &MaskRule) -> bool
+    ensures { result ≡ takes_profile_id (rule_of rule.now) }
+{
+    takes_id_of(rule, &PROFILE)
+}
+
+fn takes_id_of(rule: &MaskRule, rows: &[Row]) -> bool
+    ensures { result ≡ takes_id_of (rule_of rule.now) (map row_of rows.now) }
+{
+    for row in rows {
+        if takes_id(rule, row) {
+            return true;
+        }
+    }
+    false
+}
+
+fn takes_id(rule: &MaskRule, row: &Row) -> bool
+    ensures { result ≡ takes_id (rule_of rule.now) (row_of row.now) }
+{
+    wants_id(row.want) && is_at(&rule.place, row.place) && meets(rule, row)
+}
+
+fn wants_id(want: Want) -> bool
+    ensures { result ≡ wants_id want }
+{
+    match want {
+        Want::OwnSeq | Want::OtherSeq | Want::Frame | Want::Reference => true,
+        Want::Bool | Want::Whole | Want::Text | Want::Object | Want::List => false,
+    }
+}
+
+fn meets(rule: &MaskRule, row: &Row) -> bool
+    ensures { result ≡ meets (rule_of rule.now) row.now.kind (row_of row.now).name }
+{
+    match row.kind {
+        None => true,
+        Some(kind) => same_kind(rule.kind, kind) && share_name(text_of(&rule.name), row.name),
+    }
+}
+
+fn is_at(place: &[Step], row_place: Place) -> bool
+    ensures { result ≡ same_place (place_of place.now) (steps_of row_place) }
+{
+    match row_place {
+        Place::Member(a) => is_same(place, &[RowStep::Member(a)]),
+        Place::Inner(a, b) => is_same(place, &[RowStep::Member(a), RowStep::Member(b)]),
+        Place::Element(a, b) => {
+            is_same(
+                place,
+                &[RowStep::Member(a), RowStep::Member(b), RowStep::Each],
+            )
+        }
+        Place::Part(a, b, c) => {
+            is_same(
+                place,
+                &[
+                    RowStep::Member(a),
+                    RowStep::Member(b),
+                    RowStep::Each,
+                    RowStep::Member(c),
+                ],
+            )
+        }
+    }
+}
+
+fn is_same(place: &[Step], row_place: &[RowStep]) -> bool
+    ensures { result ≡ same_place (place_of place.now) (row_place_of row_place.now) }
+{
+    let mut rest = row_place;
+    for step in place {
+        match rest {
+            [first, behind @ ..] => {
+                if !is_step(step, *first) {
+                    return false;
+                }
+                rest = behind;
+            }
+            [] => return false,
+        }
+    }
+    rest.is_empty()
+}
+
+fn is_step(step: &Step, row_step: RowStep) -> bool
+    ensures { result ≡ same_step (step_of step.now) (row_step_of row_step) }
+{
+    match (step, row_step) {
+        (Step::Member(name), RowStep::Member(other)) => name.as_str() == other,
+        (Step::Each, RowStep::Each) => true,
+        _ => false,
+    }
+}

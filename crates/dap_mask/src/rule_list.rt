@@ -1,0 +1,209 @@
+//! The rules of a mask in the order of their file, read from it.
+ghost use Rattle.std.specs.Prelude.{◌≡◌, ◌≢◌, ◌≤◌, true, None, Ok, Err, map, option_map};
+ghost use Rattle.std.specs.Prelude.{IfOk, IfErr, OnOk, length, string_bytes};
+ghost use Rattle.std.specs.Str.{is_utf8};
+ghost use Rattle.dap_mask.specs.Ids.{leave_ids};
+ghost use Rattle.dap_mask.specs.Rules.{rule_of, rules_of, are_safe, are_settled};
+ghost use Rattle.dap_mask.specs.RulesFile.{is_name_among, change_cause, last_line};
+
+use crate::fault::{RulesCause, RulesFault};
+use crate::meets::{is_among, is_clashed_with, is_telling_place, same_name, text_of};
+use crate::profile_ids::takes_profile_id;
+use crate::rules::MaskRule;
+use crate::runs::{ByteClass, split_run};
+use crate::statement::{Line, Statement, read_line};
+use std::alloc::{AllocError, Global};
+use std::str;
+
+/// How many bytes a file of rules may have.
+const MAX_BYTES: usize = 65_536;
+
+/// How many rules a mask may have.
+const MAX_RULES: usize = 1_000;
+
+/// The rules of a mask in the order of their file.
+///
+/// None of them changes a member by which a message is told, or a number that the profile renames;
+/// and what is masked by them, masked again, is what it was.
+#[derive(Drop)]
+pub(crate) struct RuleList {
+    changes: Vec<MaskRule>,
+    dropped: Vec<Option<String>>,
+    ghost safe: { are_safe (rules_of changes.items) ≡ true },
+    ghost settled: { are_settled (rules_of changes.items) ≡ true },
+    ghost leave: { leave_ids (rules_of changes.items) ≡ true },
+}
+
+impl RuleList {
+    ghost use Rattle.dap_mask.specs.ListedRules.{listed_mask, listed_changes, listed_dropped};
+    ghost use Rattle.dap_mask.specs.Mask.{no_rules, with_rule, statement_of};
+    ghost use Rattle.dap_mask.specs.RulesFile.{cause_against, line_outcome, rules_from, rules_said};
+    ghost use Rattle.dap_mask.specs.Runs.{lines_of};
+
+    /// Reads the rules of a file.
+    ///
+    /// A line is a rule, or nothing: `#` begins a comment. Of lines that are refused the first is
+    /// told, and why; `Memory` says nothing of the file.
+    #[tactic(auto, unfolding(crate::specs::RulesFile::rules_said))]
+    pub(crate) fn read(alloc: Global, text: &[u8]) -> Result<RuleList, RulesFault>
+        ensures ok { IfOk result (λ r. rules_said text.now ≡ Ok (listed_mask r)) }
+        ensures err { IfErr result
+            (λ f. f.cause ≢ RulesCause.Memory → rules_said text.now ≡ Err f) }
+    {
+        if text.len() > MAX_BYTES {
+            return Err(RulesFault {
+                line: last_line(&text[..MAX_BYTES]),
+                cause: RulesCause::TooLong,
+            });
+        }
+        let mut rules = RuleList::new(alloc);
+        rules.take_lines(alloc, text)?;
+        Ok(rules)
+    }
+
+    fn new(alloc: Global) -> RuleList
+        ensures { listed_mask result ≡ no_rules }
+    {
+        RuleList {
+            changes: Vec::new(alloc),
+            dropped: Vec::new(alloc),
+        }
+    }
+
+    /// The changes, in the order in which they apply.
+    pub(crate) fn changes(&self) -> &[MaskRule]
+        ensures { rules_of result.now ≡ listed_changes self.now }
+    {
+        self.changes.as_slice()
+    }
+
+    /// The names of the events that are left out; all events, if one of them is `None`.
+    pub(crate) fn dropped(&self) -> &[Option<String>]
+        ensures { map (option_map string_bytes) result.now ≡ listed_dropped self.now }
+    {
+        self.dropped.as_slice()
+    }
+
+    fn take_lines(&mut self, alloc: Global, text: &[u8]) -> Result<(), RulesFault>
+        requires { length text.now ≤ 65536 }
+        ensures ok { OnOk result
+            (rules_from (listed_mask self.old) 1 (lines_of text.now) ≡ Ok (listed_mask self.new)) }
+        ensures err { IfErr result (λ f. f.cause ≢ RulesCause.Memory
+            → rules_from (listed_mask self.old) 1 (lines_of text.now) ≡ Err f) }
+    {
+        let mut rest = text;
+        let mut number = 1;
+        loop {
+            let (line, behind) = split_run(rest, ByteClass::InLine);
+            if let Err(cause) = self.take_line(alloc, line) {
+                return Err(RulesFault {
+                    line: number,
+                    cause,
+                });
+            }
+            match behind {
+                [] => return Ok(()),
+                [_, next @ ..] => {
+                    rest = next;
+                    number += 1;
+                }
+            }
+        }
+    }
+
+    fn take_line(&mut self, alloc: Global, line: &[u8]) -> Result<(), RulesCause>
+        ensures ok { OnOk result
+            (line_outcome (listed_mask self.old) line.now ≡ Ok (listed_mask self.new)) }
+        ensures err { IfErr result (λ c. c ≢ RulesCause.Memory
+            → line_outcome (listed_mask self.old) line.now ≡ Err c) }
+    {
+        if !is_utf8(line) {
+            return Err(RulesCause::NotUtf8);
+        }
+        match read_line(alloc, line)? {
+            Line::Nothing => Ok(()),
+            Line::Bad => Err(RulesCause::BadRule),
+            Line::Rule(statement) => match self.cause_against(&statement) {
+                Some(cause) => Err(cause),
+                None => {
+                    self.take(statement)?;
+                    Ok(())
+                }
+            },
+        }
+    }
+
+    /// Why the rule may not stand behind these.
+    fn cause_against(&self, statement: &Statement) -> Option<RulesCause>
+        ensures { result ≡ cause_against (listed_mask self.now) (statement_of statement.now) }
+    {
+        if self.changes.len() + self.dropped.len() >= MAX_RULES {
+            return Some(RulesCause::TooMany);
+        }
+        match statement {
+            Statement::Change(rule) => change_cause(&self.changes, rule),
+            Statement::LeaveOut(name) => {
+                if is_name_among(name, &self.dropped) {
+                    Some(RulesCause::Repeated)
+                } else {
+                    None
+                }
+            }
+        }
+    }
+
+    fn take(&mut self, statement: Statement) -> Result<(), AllocError>
+        requires { cause_against (listed_mask self.old) (statement_of statement) ≡ None }
+        ensures { OnOk result
+            (listed_mask self.new ≡ with_rule (listed_mask self.old) (statement_of statement)) }
+    {
+        match statement {
+            Statement::Change(rule) => self.changes.push(rule)?,
+            Statement::LeaveOut(name) => self.dropped.push(name)?,
+        }
+        Ok(())
+    }
+}
+
+fn is_utf8(line: &[u8]) -> bool
+    ensures { result ≡ is_utf8 line.now }
+{
+    match str::from_utf8(line) {
+        Ok(_) => true,
+        Err(_) => false,
+    }
+}
+
+// The number of the line in which the text ends.
+fn last_line(text: &[u8]) -> usize
+    requires { length text.now ≤ 65536 }
+    ensures { result ≡ last_line text.now }
+{
+    text.iter().filter(|byte| **byte == b'\n').count() + 1
+}
+
+fn change_cause(changes: &[MaskRule], rule: &MaskRule) -> Option<RulesCause>
+    ensures { result ≡ change_cause (rules_of changes.now) (rule_of rule.now) }
+{
+    if is_telling_place(&rule.place) || takes_profile_id(rule) {
+        Some(RulesCause::BadPlace)
+    } else if is_among(rule, changes) {
+        Some(RulesCause::Repeated)
+    } else if is_clashed_with(changes, rule) {
+        Some(RulesCause::DigitsBehindHex)
+    } else {
+        None
+    }
+}
+
+fn is_name_among(name: &Option<String>, names: &[Option<String>]) -> bool
+    ensures { result ≡ is_name_among (option_map string_bytes name.now)
+        (map (option_map string_bytes) names.now) }
+{
+    for other in names {
+        if same_name(text_of(name), text_of(other)) {
+            return true;
+        }
+    }
+    false
+}

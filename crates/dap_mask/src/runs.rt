@@ -1,0 +1,74 @@
+//! Runs of bytes at the front of a text.
+ghost use Rattle.std.specs.Prelude.{◌≡◌, ◌==◌, ◌≤◌, false, length, option_map};
+ghost use Rattle.dap_mask.specs.Runs.{has_class, front, behind, closing, gap, is_end};
+
+/// A class of bytes.
+#[derive(Clone, Copy, Drop)]
+pub(crate) enum ByteClass {
+    /// Spaces, tabs, and the carriage return of a line end.
+    Blank,
+    /// What a name has that is written as it is: letters, digits, `_`, `-` and `$`.
+    Plain,
+    /// All bytes but a line feed.
+    InLine,
+}
+
+fn has_class(class: ByteClass, byte: u8) -> bool
+    ensures { result ≡ has_class class byte }
+{
+    match class {
+        ByteClass::Blank => byte == b' ' || byte == b'\t' || byte == b'\r',
+        ByteClass::Plain => {
+            byte.is_ascii_alphanumeric() || byte == b'_' || byte == b'-' || byte == b'$'
+        }
+        ByteClass::InLine => byte != b'\n',
+    }
+}
+
+/// The bytes of a class at the front, and the rest.
+pub(crate) fn split_run(text: &[u8], class: ByteClass) -> (&[u8], &[u8])
+    ensures front { result.0.now ≡ front (has_class class) text.now }
+    ensures behind { result.1.now ≡ behind (has_class class) text.now }
+{
+    for (i, byte) in text.iter().enumerate() {
+        if !has_class(class, *byte) {
+            return text.split_at(i);
+        }
+    }
+    (text, &[])
+}
+
+/// How many bytes go up to the quote that closes a string, and with it; all, where none does. The
+/// text begins behind the string's first quote.
+pub(crate) fn closing(text: &[u8]) -> usize
+    ensures end { result ≡ closing false text.now }
+    ensures within { result ≤ length text.now }
+{
+    let mut escaped = false;
+    for (i, byte) in text.iter().enumerate() {
+        if *byte == b'"' && !escaped {
+            return i + 1;
+        }
+        escaped = *byte == b'\\' && !escaped;
+    }
+    text.len()
+}
+
+/// What stands behind one blank or more; `None` where there is none.
+pub(crate) fn gap(text: &[u8]) -> Option<&[u8]>
+    ensures { option_map (λ r. r.now) result ≡ gap text.now }
+{
+    let (blanks, rest) = split_run(text, ByteClass::Blank);
+    if blanks.is_empty() { None } else { Some(rest) }
+}
+
+/// Whether nothing comes but blanks and a comment.
+pub(crate) fn is_end(text: &[u8]) -> bool
+    ensures { result ≡ is_end text.now }
+{
+    let (_, rest) = split_run(text, ByteClass::Blank);
+    match rest {
+        [] => true,
+        [first, ..] => *first == b'#',
+    }
+}

@@ -1,0 +1,143 @@
+//! What a line of a rules file says.
+ghost use Rattle.std.specs.Prelude.{◌≡◌, IfOk, option_map, string_bytes};
+ghost use Rattle.dap_mask.specs.Mask.{statement_of, line_of};
+ghost use Rattle.dap_mask.specs.RuleText.{verb_named, kind_named, head_at, change_at, leave_out_at};
+ghost use Rattle.dap_mask.specs.RuleText.{statement_at, line_said};
+
+use crate::meets::same_kind;
+use crate::names::any_name;
+use crate::places::place_at;
+use crate::rules::{MaskRule, Verb};
+use crate::runs::{ByteClass, gap, is_end, split_run};
+use dap_message::Kind;
+use std::alloc::{AllocError, Global};
+
+/// A rule, as a line has it.
+#[derive(Drop)]
+pub(crate) enum Statement {
+    /// Values are changed.
+    Change(MaskRule),
+    /// Events of this name are left out; all of them, if `None`.
+    LeaveOut(Option<String>),
+}
+
+/// What a line says.
+#[derive(Drop)]
+pub(crate) enum Line {
+    /// It is empty but for blanks and a comment.
+    Nothing,
+    Rule(Statement),
+    /// It is neither.
+    Bad,
+}
+
+pub(crate) fn read_line(alloc: Global, line: &[u8]) -> Result<Line, AllocError>
+    ensures { IfOk result (λ l. line_of l ≡ line_said line.now) }
+{
+    if is_end(line) {
+        return Ok(Line::Nothing);
+    }
+    let (_, text) = split_run(line, ByteClass::Blank);
+    match statement_at(alloc, text)? {
+        Some(statement) => Ok(Line::Rule(statement)),
+        None => Ok(Line::Bad),
+    }
+}
+
+fn statement_at(alloc: Global, text: &[u8]) -> Result<Option<Statement>, AllocError>
+    ensures { IfOk result (λ o. option_map statement_of o ≡ statement_at text.now) }
+{
+    let (word, rest) = split_run(text, ByteClass::Plain);
+    if word == b"drop".as_slice() {
+        return leave_out_at(alloc, rest);
+    }
+    match verb_named(word) {
+        Some(verb) => change_at(alloc, verb, rest),
+        None => Ok(None),
+    }
+}
+
+fn verb_named(word: &[u8]) -> Option<Verb>
+    ensures { result ≡ verb_named word.now }
+{
+    if word == b"blank".as_slice() {
+        Some(Verb::Blank)
+    } else if word == b"digits".as_slice() {
+        Some(Verb::Digits)
+    } else if word == b"hex".as_slice() {
+        Some(Verb::Hex)
+    } else {
+        None
+    }
+}
+
+fn kind_named(word: &[u8]) -> Option<Kind>
+    ensures { result ≡ kind_named word.now }
+{
+    if word == b"request".as_slice() {
+        Some(Kind::Request)
+    } else if word == b"response".as_slice() {
+        Some(Kind::Response)
+    } else if word == b"event".as_slice() {
+        Some(Kind::Event)
+    } else {
+        None
+    }
+}
+
+// The messages that a rule speaks of, and the rest.
+fn head_at(alloc: Global, text: &[u8]) -> Result<Option<(Kind, Option<String>, &[u8])>, AllocError>
+    ensures { IfOk result
+        (λ o. option_map (λ h. (h.0, option_map string_bytes h.1, h.2.now)) o ≡ head_at text.now) }
+{
+    let Some(text) = gap(text) else {
+        return Ok(None);
+    };
+    let (word, text) = split_run(text, ByteClass::Plain);
+    let Some(kind) = kind_named(word) else {
+        return Ok(None);
+    };
+    let Some(text) = gap(text) else {
+        return Ok(None);
+    };
+    match any_name(alloc, text)? {
+        Some((name, rest)) => Ok(Some((kind, name, rest))),
+        None => Ok(None),
+    }
+}
+
+fn change_at(alloc: Global, verb: Verb, text: &[u8]) -> Result<Option<Statement>, AllocError>
+    ensures { IfOk result (λ o. option_map statement_of o ≡ change_at verb text.now) }
+{
+    let Some((kind, name, text)) = head_at(alloc, text)? else {
+        return Ok(None);
+    };
+    let Some(text) = gap(text) else {
+        return Ok(None);
+    };
+    let Some((place, text)) = place_at(alloc, text)? else {
+        return Ok(None);
+    };
+    if !is_end(text) {
+        return Ok(None);
+    }
+    Ok(Some(Statement::Change(MaskRule {
+        verb,
+        kind,
+        name,
+        place,
+    })))
+}
+
+fn leave_out_at(alloc: Global, text: &[u8]) -> Result<Option<Statement>, AllocError>
+    ensures { IfOk result (λ o. option_map statement_of o ≡ leave_out_at text.now) }
+{
+    let Some((kind, name, text)) = head_at(alloc, text)? else {
+        return Ok(None);
+    };
+    if same_kind(kind, Kind::Event) && is_end(text) {
+        Ok(Some(Statement::LeaveOut(name)))
+    } else {
+        Ok(None)
+    }
+}

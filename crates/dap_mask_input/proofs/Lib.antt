@@ -1,0 +1,5 @@
+pub mod LeftLists
+pub mod MaskingFacts
+pub mod MaskedTexts
+pub mod MaskedRecords
+pub mod MaskingLoop

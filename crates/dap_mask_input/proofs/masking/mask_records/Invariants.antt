@@ -1,0 +1,13 @@
+use Rattle.std.proofs.Common.{◌+◌, ◌-◌, length}
+use Rattle.dap_mask.specs.KeptRules.{mask_of}
+use Rattle.dap_mask_input.proofs.MaskingLoop.{Going}
+use Rattle.dap_mask_input.proofs.masking.mask_records.Given as goal
+
+abbrev pub invariant-loop-whole : goal.invariant-loop-whole
+invariant-loop-whole g l =
+    Going l.fn.limits (mask_of l.fn.rules) g.R.Source g.W.Sink l.fn.reader l.reader l.fn.writer
+    l.writer l.records l.written
+
+abbrev pub decreases-loop-whole : goal.decreases-loop-whole
+decreases-loop-whole g l =
+    (l.records.pieces.limit - l.records.pieces.taken) + length l.records.pieces.unread

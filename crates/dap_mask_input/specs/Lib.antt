@@ -1,0 +1,4 @@
+pub mod Masking
+pub mod MaskedRecordings
+pub mod MaskingSteps
+pub mod Outcomes

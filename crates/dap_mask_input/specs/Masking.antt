@@ -1,0 +1,97 @@
+-- What is left of the messages of a recording, and what a recording is first refused for. Source:
+-- own, over recordings and the rules of a mask.
+use Rattle.std.specs.Prelude.{◌≡◌, ℕ, ◌≤◌, Bool, true, not, List, [], ◌∷◌, ◌++◌, length, map}
+use Rattle.std.specs.List.{filter, AllByRecursion}
+use Rattle.dap_tree.specs.Doc.{is_sound}
+use Rattle.dap_tree.specs.Json.{HasNoReading}
+use Rattle.dap_message.specs.Message.{Sent, no_reading, fraction}
+use Rattle.dap_recording.specs.Recording.{IsRecording, records}
+use Rattle.dap_mask.specs.Loose.{IsReadLoosely}
+use Rattle.dap_mask.specs.Mask.{Mask}
+use Rattle.dap_mask.specs.Masked.{masked}
+use Rattle.dap_mask.specs.Rules.{is_dropped}
+use Rattle.dap_input.specs.declared.limits.Limits.{Limits}
+use Rattle.dap_input.specs.Judging.{Judging, Objection, no_message, grew}
+use Rattle.dap_normal.specs.Accepting.{Held, Fits, text}
+
+-- The content that the record holds is JSON text, and this is what its side sent; each number that
+-- is not kept whole is out of range.
+abbrev pub IsMessage : Held → Sent → Type 0
+IsMessage held message = (message.side ≡ held.0) × IsReadLoosely held.1 message.doc
+
+-- The records hold these messages, in order.
+abbrev pub AreMessages : List Held → List Sent → Type 0
+AreMessages [] [] = Unit {0}
+AreMessages [] (message ∷ messages) = ⊥
+AreMessages (held ∷ records) [] = ⊥
+AreMessages (held ∷ records) (message ∷ messages) = IsMessage held message
+    × AreMessages records messages
+
+-- ---- what is left
+
+-- No rule leaves the message out.
+abbrev pub is_kept : Mask → Sent → Bool
+is_kept mask message = not (is_dropped mask.dropped message.doc)
+
+-- The messages that no rule leaves out, in their order.
+abbrev pub kept : Mask → List Sent → List Sent
+kept mask messages = filter (is_kept mask) messages
+
+-- The message masked, on its side.
+abbrev pub mask_message : Mask → Sent → Sent
+mask_message mask message =
+    record { side = message.side; doc = masked mask.changes message.doc }
+
+-- What is left of the messages.
+abbrev pub left_of : Mask → List Sent → List Sent
+left_of mask messages = map (mask_message mask) (kept mask messages)
+
+-- The text of what is left.
+abbrev pub masked_text : Mask → List Sent → List ℕ
+masked_text mask messages = text (left_of mask messages)
+
+-- Each message can be written: no fraction is left in it.
+abbrev pub AreWhole : List Sent → Type 0
+AreWhole messages = AllByRecursion (λ message. is_sound message.doc ≡ true) messages
+
+-- ---- what is accepted and refused
+
+-- The bytes are a recording of these messages within the limits, and what is left of them can be
+-- written within the limits.
+pub record IsAccepted (limits : Limits) (mask : Mask) (bytes : List ℕ)
+    (messages : List Sent) : Type 0 where
+  pub short : length bytes ≤ limits.input
+  pub records : List Held
+  pub recording : IsRecording limits.frame bytes records
+  pub read : AreMessages records messages
+  pub whole : AreWhole (left_of mask messages)
+  pub fits : Fits limits (left_of mask messages)
+
+-- The message that a record holds is accepted behind these.
+pub record IsNext (limits : Limits) (mask : Mask) (before : List Sent) (held : Held)
+    (message : Sent) : Type 0 where
+  pub is_message : IsMessage held message
+  pub whole : AreWhole (left_of mask (message ∷ []))
+  pub fits : Fits limits (left_of mask (before ++ message ∷ []))
+
+-- Behind these messages, what a record holds is refused for this, in this order.
+abbrev pub Objects : Limits → Mask → List Sent → Held → Objection → Type 0
+Objects limits mask before held (no_message no_reading) = HasNoReading held.1
+Objects limits mask before held (no_message fraction) =
+    (message : Sent) × IsMessage held message × (AreWhole (left_of mask (message ∷ [])) → ⊥)
+Objects limits mask before held grew =
+    (message : Sent) × IsMessage held message × AreWhole (left_of mask (message ∷ []))
+    × (Fits limits (left_of mask (before ++ message ∷ [])) → ⊥)
+Objects limits mask before held why = ⊥
+
+-- recordings as they are masked
+abbrev pub masking : Limits → Mask → Judging
+masking limits mask = record {
+  Held = Held;
+  Value = Sent;
+  input = limits.input;
+  records = records limits.frame;
+  IsNext = IsNext limits mask;
+  Objects = Objects limits mask;
+  IsAccepted = IsAccepted limits mask;
+}

@@ -1,0 +1,147 @@
+//! The lines of the profile's rows.
+ghost use Rattle.std.specs.Prelude.{◌≡◌, ◌++◌, IfOk, OnOk, codes, option_map, string_bytes};
+ghost use Rattle.dap_profile.specs.PlaceSteps.{steps_of};
+ghost use Rattle.dap_profile.specs.ProfileRows.{row_of};
+ghost use Rattle.dap_rows.specs.RowLines.{asked_line, has_number, kind_word, lines_of};
+ghost use Rattle.dap_rows.specs.RowLines.{messages_words};
+ghost use Rattle.dap_rows.specs.RowLines.{need_word, place_words, row_line, want_word};
+
+use dap_profile::{Kind, Place, Row, Want, profile_rows};
+use itoa::Buffer;
+use std::alloc::{AllocError, Global};
+
+/// The word for a kind of message.
+fn kind_word(kind: Option<Kind>) -> &'static str
+    ensures { result.now ≡ kind_word kind }
+{
+    match kind {
+        None => "*",
+        Some(Kind::Request) => "request",
+        Some(Kind::Response) => "response",
+        Some(Kind::Event) => "event",
+    }
+}
+
+/// The word for what is to stand at a place.
+fn want_word(want: Want) -> &'static str
+    ensures { result.now ≡ want_word want }
+{
+    match want {
+        Want::Bool => "boolean",
+        Want::Whole => "integer",
+        Want::Text => "string",
+        Want::Object => "object",
+        Want::List => "array",
+        Want::OwnSeq => "own-seq",
+        Want::OtherSeq => "other-seq",
+        Want::Frame => "frame",
+        Want::Reference => "reference",
+    }
+}
+
+/// Whether the place may be absent, between spaces.
+fn need_word(needed: bool) -> &'static str
+    ensures { result.now ≡ need_word needed }
+{
+    if needed { " needed " } else { " optional " }
+}
+
+/// Appends two names of members, the way into an object.
+fn push_inner(out: &mut String, outer: &str, member: &str) -> Result<(), AllocError>
+    ensures { OnOk result (string_bytes out.new
+        ≡ string_bytes out.old ++ outer.now ++ codes "." ++ member.now) }
+{
+    out.push_str(outer)?;
+    out.push_str(".")?;
+    out.push_str(member)
+}
+
+/// Appends a place, as `body.stackFrames[].id`.
+fn push_place(out: &mut String, place: Place) -> Result<(), AllocError>
+    ensures { OnOk result (string_bytes out.new
+        ≡ string_bytes out.old ++ place_words (steps_of place)) }
+{
+    match place {
+        Place::Member(member) => out.push_str(member),
+        Place::Inner(outer, member) => push_inner(out, outer, member),
+        Place::Element(outer, list) => {
+            push_inner(out, outer, list)?;
+            out.push_str("[]")
+        }
+        Place::Part(outer, list, member) => {
+            push_inner(out, outer, list)?;
+            out.push_str("[].")?;
+            out.push_str(member)
+        }
+    }
+}
+
+/// Appends the messages that a row is asked of.
+fn push_messages(out: &mut String, row: &Row) -> Result<(), AllocError>
+    ensures { OnOk result (string_bytes out.new
+        ≡ string_bytes out.old ++ messages_words (row_of row.now)) }
+{
+    out.push_str(kind_word(row.kind))?;
+    out.push_str(" ")?;
+    out.push_str(row.name.unwrap_or("*"))
+}
+
+/// Appends the line of a row.
+fn push_row(out: &mut String, row: &Row) -> Result<(), AllocError>
+    ensures { OnOk result (string_bytes out.new
+        ≡ string_bytes out.old ++ row_line (row_of row.now)) }
+{
+    let mut digits = Buffer::new();
+    out.push_str(digits.format(row.number))?;
+    out.push_str(" ")?;
+    push_messages(out, row)?;
+    out.push_str(" ")?;
+    push_place(out, row.place)?;
+    out.push_str(need_word(row.needed))?;
+    out.push_str(want_word(row.want))?;
+    out.push_str("\n")
+}
+
+/// Whether a row has the number that this text writes, or any number is asked for.
+fn has_number(row: &Row, number: Option<&str>) -> bool
+    ensures { result ≡ has_number (option_map (λ s. s.now) number.entry) (row_of row.now) }
+{
+    match number {
+        Some(text) => Buffer::new().format(row.number) == text,
+        None => true,
+    }
+}
+
+/// Appends the line of a row that is asked for.
+fn push_asked(out: &mut String, row: &Row, number: Option<&str>) -> Result<(), AllocError>
+    ensures { OnOk result (string_bytes out.new
+        ≡ string_bytes out.old
+        ++ asked_line (option_map (λ s. s.now) number.entry) (row_of row.now)) }
+{
+    if has_number(row, number) {
+        push_row(out, row)
+    } else {
+        Ok(())
+    }
+}
+
+/// The rows of the profile in lines, or the one with the number that the text writes.
+///
+/// A line is the row's number, the kind and the name of the messages that it is asked of (`*` is
+/// any), its place, whether it is needed, and what is to stand there. No row has the number: the
+/// answer is empty.
+///
+/// # Errors
+///
+/// Memory was refused.
+pub fn row_lines(alloc: Global, number: Option<&str>) -> Result<String, AllocError>
+    ensures { IfOk result (λ lines. string_bytes lines
+        ≡ lines_of (option_map (λ s. s.now) number.entry)) }
+{
+    let mut out = String::new(alloc);
+    let rows: &[Row] = profile_rows();
+    for row in rows {
+        push_asked(&mut out, row, number)?;
+    }
+    Ok(out)
+}
