@@ -139,7 +139,7 @@ pub fn verdict<A: Source, B: Source>(
     compare(alloc, a, b, limits)
 }
 
-/// The status of the program for a job, which is none that compares.
+/// The status of the program for a job of one input and no rules; none where it is another.
 pub fn status<R: Source, W: Sink, E: Sink>(
     alloc: Global,
     job: &Job,
@@ -154,7 +154,7 @@ pub fn status<R: Source, W: Sink, E: Sink>(
     requires write_failures { W.failures writer.old < 2 ^ 62 }
     requires error_failures { E.failures errors.old < 2 ^ 62 }
 {
-    if matches!(job, Job::Compare { .. }) {
+    if matches!(job, Job::Compare { .. } | Job::Mask { .. }) {
         return None;
     }
     Some(run_stream(alloc, job, reader, writer, errors, limits))

@@ -166,13 +166,13 @@ fn stream_by<R: Source, W: Sink, E: Sink, T: NameTable + Drop>(
     requires write_failures { W.failures writer.old < 2 ^ 62 }
     requires error_failures { E.failures errors.old < 2 ^ 62 }
 {
-    if matches!(job, Job::Compare { .. }) {
+    if matches!(job, Job::Compare { .. } | Job::Mask { .. }) {
         return None;
     }
     Some(run_stream_with(alloc, job, reader, writer, errors, limits, tables))
 }
 
-/// The status of the program for a job, which is none that compares.
+/// The status of the program for a job of one input and no rules; none where it is another.
 pub fn status_with<R: Source, W: Sink, E: Sink>(
     handed: Handed,
     alloc: Global,
