@@ -10,8 +10,8 @@ use Rattle.dap_tree.specs.Doc.{Doc}
 use Rattle.dap_tree.specs.Json.{IsRead, HasFraction, HasNoReading, text_of}
 use Rattle.dap_input.specs.declared.limits.Limits.{Limits}
 use Rattle.dap_input.specs.Limits.{AreSound}
-use Rattle.dap_input.specs.Judging.{Judging, Objection, no_message, grew, HasOneOutcome}
-use Rattle.dap_input.specs.Judging.{RefusalStays}
+use Rattle.dap_input.specs.Judging.{Judging, Objection, no_message, grew}
+use Rattle.dap_input.specs.Refusals.{HasOneOutcome, RefusalStays}
 
 -- the text of these trees: for each a frame of its canonical text
 abbrev pub text : List Doc → List ℕ
@@ -64,10 +64,10 @@ abbrev pub Compacts : Limits → List ℕ → List ℕ → Type 0
 Compacts limits whole written = (values : List Doc) × IsCompactable limits whole values
     × (written ≡ text values)
 
--- An input is accepted as one list of values, or has one first refusal, and not both.
+-- An input is accepted as one list of values, or has one refusal, and not both.
 abbrev pub CompactHasOneOutcome : Type 0
 CompactHasOneOutcome = (limits : Limits) → AreSound limits → HasOneOutcome (compacting limits)
 
--- A first refusal stays when more bytes come, unless the record was only cut.
+-- A refusal stays when more bytes come, unless the record was only cut.
 abbrev pub CompactRefusalStays : Type 0
 CompactRefusalStays = (limits : Limits) → AreSound limits → RefusalStays (compacting limits)

@@ -34,6 +34,10 @@ shown_cause limits bytes why place shows =
       ]
     ]
 
+pub shown_frame_cause : (limits : FrameLimits) (bytes : List ℕ) (why : RecordCause) (place : ℕ)
+    → items.Shows (frame_items limits) bytes why place → IsShownCause why
+shown_frame_cause limits bytes why place shows = subst IsShownCause (sym shows.ends.1) tt
+
 -- ---- framers
 
 module _ (limits : FrameLimits) (bytes piece : List ℕ) (old new : Reading)

@@ -5,6 +5,7 @@ pub mod InputRefusals
 pub mod InputSteps
 pub mod ItemReaders
 pub mod NextRecord
+pub mod OneOutcome
 pub mod Outcomes
 pub mod ReadBounds
 pub mod RecordLoop

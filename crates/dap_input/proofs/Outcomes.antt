@@ -9,7 +9,7 @@ use Rattle.std.proofs.lemmas.List.{append_cancel_left}
 use Rattle.dap_items.proofs.Fronts.{same_front, shorter_front}
 use Rattle.dap_items.proofs.Ends.{IsReadable, fault_early, fault_stays}
 use Rattle.dap_input.specs.Judging.{Judging, Reason, faulty, input_too_long, cut, objected, Refuses}
-use Rattle.dap_input.specs.Judging.{IsFirstRefusal, HasOneOutcome, RefusalStays}
+use Rattle.dap_input.specs.Judging.{IsFirstRefusal}
 use Rattle.dap_input.proofs.Runs.{ValueLaws, ValueFacts, AcceptedFacts, Run}
 use Rattle.dap_input.proofs.Runs.{run_none, run_push, run_within, run_goes_on, some_bytes, one_run}
 use Rattle.dap_input.proofs.NextRecord.{NextPasses, refuses_some, one_reason, run_stops, judge_next}
@@ -129,7 +129,9 @@ module _ (j : Judging) where
     objects = r.objects;
   }
 
-  pub refusal_stays : IsReadable j.records → ValueLaws j → AcceptedFacts j → RefusalStays j
+  pub refusal_stays : IsReadable j.records → ValueLaws j → AcceptedFacts j
+      → (whole more : List ℕ) (number : ℕ) (why : Reason) → why ≢ cut
+      → IsFirstRefusal j whole number why → IsFirstRefusal j (whole ++ more) number why
   refusal_stays records judged accepted whole more number why not_cut first =
       let run = accepted.run_of_accepted first.front first.values first.accepted in
       let refuses =
@@ -179,11 +181,3 @@ module _ (j : Judging) (records : IsReadable j.records) (judged : ValueFacts j)
   some_outcome_of whole =
       some_outcome_behind (suc (length whole)) whole [] whole [] (omega arith) refl
       (run_none j [] 0)
-
-  pub has_one_outcome : HasOneOutcome j
-  has_one_outcome = record {
-    some = some_outcome_of;
-    one_list = one_list j records judged.laws accepted;
-    one_refusal = one_refusal j records judged.laws accepted;
-    not_both = not_both j;
-  }

@@ -1,6 +1,6 @@
 -- Inputs judged record by record: the first refusal of what is not accepted, whatever a record is
 -- and whatever is asked of it. Source: own.
-use Rattle.std.specs.Prelude.{◌≡◌, ◌≢◌, ◌⊎◌, ℕ, ◌+◌, ◌<◌, ◌≤◌, List, [], ◌++◌, length}
+use Rattle.std.specs.Prelude.{◌≡◌, ◌≢◌, ℕ, ◌+◌, ◌<◌, ◌≤◌, List, [], ◌++◌, length}
 use Rattle.dap_items.specs.Items.{Items, IsItem, Shows}
 use Rattle.dap_message.specs.Message.{Refusal}
 use Rattle.dap_recording.specs.declared.record_fault.RecordCause.{RecordCause}
@@ -89,21 +89,3 @@ module _ (j : Judging) where
     pub is_number : number ≡ length values + 1
     pub not_accepted : (others : List j.Value) → j.IsAccepted whole others → ⊥
     pub refuses : Refuses values (length front) rest why
-
-  -- An input is accepted as one list of values, or has one first refusal, and not both.
-  pub record HasOneOutcome : Type 0 where
-    pub some : (whole : List ℕ)
-        → ((values : List j.Value) × j.IsAccepted whole values)
-        ⊎ ((number : ℕ) × (why : Reason) × IsFirstRefusal whole number why)
-    pub one_list : (whole : List ℕ) (values others : List j.Value) → j.IsAccepted whole values
-        → j.IsAccepted whole others → values ≡ others
-    pub one_refusal : (whole : List ℕ) (number other : ℕ) (why because : Reason)
-        → IsFirstRefusal whole number why → IsFirstRefusal whole other because
-        → (number ≡ other) × (why ≡ because)
-    pub not_both : (whole : List ℕ) (values : List j.Value) (number : ℕ) (why : Reason)
-        → j.IsAccepted whole values → IsFirstRefusal whole number why → ⊥
-
-  -- A first refusal stays when more bytes come, unless the record was only cut.
-  abbrev pub RefusalStays : Type 0
-  RefusalStays = (whole more : List ℕ) (number : ℕ) (why : Reason) → why ≢ cut
-      → IsFirstRefusal whole number why → IsFirstRefusal (whole ++ more) number why

@@ -1,5 +1,5 @@
 -- What a refusal says: of which record it is, and why that is refused. Source: own.
-use Rattle.std.specs.Prelude.{◌≡◌, ℕ, List, Option, Some, None, MatchOption}
+use Rattle.std.specs.Prelude.{◌≡◌, ◌≢◌, ◌⊎◌, ℕ, List, ◌++◌, Option, Some, None, MatchOption}
 use Rattle.dap_message.specs.Message.{no_reading, fraction, faulty as profile_fault}
 use Rattle.dap_recording.specs.declared.record_fault.RecordCause.TheVariants.{Cut}
 use Rattle.dap_recording.specs.declared.record_fault.RecordCause.TheVariants.{Memory as NoMemory}
@@ -57,3 +57,20 @@ module _ (j : Judging) where
     pub fault : Fault
     pub tells : Tells because number fault
     pub is_refused : IsRefusedAt j input number fault
+
+  -- An input is accepted as one list of values, or has one refusal, and not both.
+  pub record HasOneOutcome : Type 0 where
+    pub some : (whole : List ℕ)
+        → ((values : List j.Value) × j.IsAccepted whole values)
+        ⊎ ((because : Refused) × IsRefused whole because)
+    pub one_list : (whole : List ℕ) (values others : List j.Value) → j.IsAccepted whole values
+        → j.IsAccepted whole others → values ≡ others
+    pub one_refusal : (whole : List ℕ) (because other : Refused) → IsRefused whole because
+        → IsRefused whole other → because ≡ other
+    pub not_both : (whole : List ℕ) (values : List j.Value) (because : Refused)
+        → j.IsAccepted whole values → IsRefused whole because → ⊥
+
+  -- A refusal stays when more bytes come, unless the record was only cut.
+  abbrev pub RefusalStays : Type 0
+  RefusalStays = (whole more : List ℕ) (because : Refused) → ((n : ℕ) → because ≢ Record n Cut)
+      → IsRefused whole because → IsRefused (whole ++ more) because

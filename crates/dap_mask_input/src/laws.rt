@@ -3,7 +3,7 @@
 ghost use Rattle.dap_mask_input.specs.Outcomes.{MaskHasOneOutcome, MaskReadingIsBounded};
 ghost use Rattle.dap_mask_input.specs.Outcomes.{MaskRefusalStays};
 
-/// `mask` accepts a recording as one list of messages, or has one first refusal of it, and not
+/// `mask` accepts a recording as one list of messages, or has one refusal of it, and not
 /// both. A refusal stays when more bytes come, unless the recording only ended too early.
 pub fn mask_has_one_outcome()
     ensures outcome { MaskHasOneOutcome }

@@ -13,8 +13,8 @@ use Rattle.dap_session.specs.Rules.{KeepsRules, first_broken}
 use Rattle.dap_input.specs.declared.limits.Limits.{Limits}
 use Rattle.dap_input.specs.Limits.{AreSound}
 use Rattle.dap_input.specs.Judging.{Judging, Objection, no_message, broken, too_many_ids, grew}
-use Rattle.dap_input.specs.Judging.{HasOneOutcome, RefusalStays}
 use Rattle.dap_input.specs.ReadTo.{IsBounded, IsReadTo}
+use Rattle.dap_input.specs.Refusals.{HasOneOutcome, RefusalStays}
 
 -- what a record holds: who sent it, and its content
 abbrev pub Held : Type 0
@@ -106,11 +106,11 @@ accepting limits = record {
   IsAccepted = IsAccepted limits;
 }
 
--- An input is accepted as one list of messages, or has one first refusal, and not both.
+-- An input is accepted as one list of messages, or has one refusal, and not both.
 abbrev pub RecordingHasOneOutcome : Type 0
 RecordingHasOneOutcome = (limits : Limits) → AreSound limits → HasOneOutcome (accepting limits)
 
--- A first refusal stays when more bytes come, unless the record was only cut.
+-- A refusal stays when more bytes come, unless the record was only cut.
 abbrev pub RecordingRefusalStays : Type 0
 RecordingRefusalStays = (limits : Limits) → AreSound limits → RefusalStays (accepting limits)
 

@@ -6,7 +6,7 @@ ghost use Rattle.dap_normal.specs.Normalising.{HasOneNormalForm, NormalIsAccepte
 ghost use Rattle.dap_normal.specs.Normalising.{AcceptedIsNormalised, OneNormalText};
 ghost use Rattle.dap_normal.specs.Normalising.{NormalStandsStill, EqualTextsTell};
 
-/// A recording is accepted as one list of messages, or has one first refusal, and not both. A
+/// A recording is accepted as one list of messages, or has one refusal, and not both. A
 /// refusal stays when more bytes come, unless the input only ended too early. `check` and
 /// `normalise` both accept and refuse so.
 pub fn recording_has_one_outcome()

@@ -18,7 +18,8 @@ use Rattle.dap_recording.specs.Recording.{IsRecording, records}
 use Rattle.dap_input.specs.declared.limits.Limits.{Limits}
 use Rattle.dap_normal.specs.Accepting.{Held, IsMessage, HoldsNoMessage, AreMessages}
 use Rattle.dap_input.specs.Limits.{AreSound}
-use Rattle.dap_input.specs.Judging.{Judging, HasOneOutcome, RefusalStays}
+use Rattle.dap_input.specs.Judging.{Judging}
+use Rattle.dap_input.specs.Refusals.{HasOneOutcome, RefusalStays}
 
 -- ---- the lines
 
@@ -120,10 +121,10 @@ abbrev pub IsShownBy : Limits → List ℕ → List ℕ → Type 0
 IsShownBy limits whole written = (messages : List Sent) × IsShowable limits whole messages
     × (written ≡ lines_from 1 messages)
 
--- An input is accepted as one list of messages, or has one first refusal, and not both.
+-- An input is accepted as one list of messages, or has one refusal, and not both.
 abbrev pub ShowHasOneOutcome : Type 0
 ShowHasOneOutcome = (limits : Limits) → AreSound limits → HasOneOutcome (showing limits)
 
--- A first refusal stays when more bytes come, unless the record was only cut.
+-- A refusal stays when more bytes come, unless the record was only cut.
 abbrev pub ShowRefusalStays : Type 0
 ShowRefusalStays = (limits : Limits) → AreSound limits → RefusalStays (showing limits)

@@ -2,7 +2,7 @@
 //! it gives its clauses to a proof.
 ghost use Rattle.dap_show.specs.Showing.{ShowHasOneOutcome, ShowRefusalStays};
 
-/// `show` accepts a recording as one list of messages, or has one first refusal of it, and not
+/// `show` accepts a recording as one list of messages, or has one refusal of it, and not
 /// both. A refusal stays when more bytes come, unless the input only ended too early.
 pub fn show_has_one_outcome()
     ensures outcome { ShowHasOneOutcome }
