@@ -1,3 +1,2 @@
-pub mod FilledVectors
 pub mod Sending
 pub mod Windows

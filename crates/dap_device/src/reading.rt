@@ -1,8 +1,9 @@
 //! Reads a whole input.
-ghost use Rattle.std.specs.Prelude.{◌≤◌, ◌+◌, ◌^◌, ◌<◌, IfOk};
+ghost use Rattle.std.specs.Prelude.{◌≡◌, ◌≤◌, ◌+◌, ◌^◌, ◌<◌, IfOk, OnOk, drop, length, take};
+ghost use Rattle.dap_device.specs.Device.{HasRead};
 ghost use Rattle.dap_device.specs.Reading.{HasCome};
 
-use crate::device::Source;
+use crate::device::{DeviceFault, Source};
 use std::alloc::{AllocError, Global};
 
 /// How many bytes are asked of a source at once.
@@ -26,6 +27,51 @@ pub struct Input {
     pub stop: Stop,
 }
 
+/// Makes the bytes longer where all of them are read.
+fn make_room(bytes: &mut Vec<u8>, count: usize, most: usize) -> Result<(), AllocError>
+    requires read { count ≤ length bytes.old.items }
+    requires within { length bytes.old.items ≤ most }
+    requires piece { length bytes.old.items ≤ count + 65536 }
+    requires goes_on { count < most }
+    requires small { most ≤ 2 ^ 62 + 1 }
+    ensures front { OnOk result (take count bytes.new.items ≡ take count bytes.old.items) }
+    ensures room { OnOk result (count < length bytes.new.items) }
+    ensures within { OnOk result (length bytes.new.items ≤ most) }
+    ensures piece { OnOk result (length bytes.new.items ≤ count + 65536) }
+{
+    if count == bytes.len() {
+        bytes.resize(most.min(count + PIECE), 0)?;
+    }
+    Ok(())
+}
+
+/// Reads into the bytes from a place on.
+fn read_behind<R: Source>(
+    reader: &mut R,
+    bytes: &mut Vec<u8>,
+    count: usize,
+) -> Result<usize, DeviceFault>
+    requires within { count ≤ length bytes.old.items }
+    requires piece { length bytes.old.items ≤ count + 65536 }
+    requires given { R.given reader.old < 2 ^ 63 }
+    requires failures { R.failures reader.old < 2 ^ 63 }
+    ensures read { HasRead R.left R.given R.failures reader.old reader.new result
+        (drop count bytes.new.items) }
+    ensures front { take count bytes.new.items ≡ take count bytes.old.items }
+    ensures len { length bytes.new.items ≡ length bytes.old.items }
+{
+    reader.read(&mut bytes.as_mut_slice()[count..])
+}
+
+/// What was read, of bytes of which so many came.
+fn first_bytes(mut bytes: Vec<u8>, count: usize, stop: Stop) -> Input
+    ensures bytes { result.bytes.items ≡ take count bytes.items }
+    ensures stop { result.stop ≡ stop }
+{
+    bytes.truncate(count);
+    Input { bytes, stop }
+}
+
 /// Reads until the end, a failure, or a byte past the limit.
 pub fn read_all<R: Source>(alloc: Global, reader: &mut R, limit: u64) -> Result<Input, AllocError>
     requires small { limit ≤ 2 ^ 62 }
@@ -37,33 +83,16 @@ pub fn read_all<R: Source>(alloc: Global, reader: &mut R, limit: u64) -> Result<
 {
     let most = limit as usize + 1;
     let mut bytes = Vec::new(alloc);
+    let mut count = 0;
     loop {
-        let len = bytes.len();
-        if len == most {
-            return Ok(Input {
-                bytes,
-                stop: Stop::Full,
-            });
+        if count == most {
+            return Ok(first_bytes(bytes, count, Stop::Full));
         }
-        let room = (most - len).min(PIECE);
-        bytes.resize(len + room, 0)?;
-        match reader.read(&mut bytes.as_mut_slice()[len..]) {
-            Err(_) => {
-                bytes.truncate(len);
-                return Ok(Input {
-                    bytes,
-                    stop: Stop::Failed,
-                });
-            }
-            Ok(count) => {
-                bytes.truncate(len + count);
-                if count == 0 {
-                    return Ok(Input {
-                        bytes,
-                        stop: Stop::End,
-                    });
-                }
-            }
+        make_room(&mut bytes, count, most)?;
+        match read_behind(reader, &mut bytes, count) {
+            Err(_) => return Ok(first_bytes(bytes, count, Stop::Failed)),
+            Ok(0) => return Ok(first_bytes(bytes, count, Stop::End)),
+            Ok(more) => count += more,
         }
     }
 }
