@@ -31,7 +31,11 @@ use std::alloc::Global;
 #[derive(Drop)]
 pub struct Message {
     side: Side,
+    /// The tree says it; it is kept so that it is read once.
+    kind: Kind,
     tree: Tree,
+    ghost kind_same: { kind ≡ kind_of (view tree) },
+    ghost kind_told: { is_of_kind kind (view tree) ≡ true },
     ghost sound: { is_sound (view tree) ≡ true },
     ghost proper: { is_proper (view tree) ≡ true },
     ghost enveloped: { has_envelope (view tree) ≡ true },
@@ -55,7 +59,8 @@ impl Message {
         ensures side { side_of result ≡ side }
         ensures doc { doc_of result ≡ view tree }
     {
-        Message { side, tree }
+        let kind = kind_of(&tree);
+        Message { side, kind, tree }
     }
 
     /// The side that sent it.
@@ -70,20 +75,14 @@ impl Message {
         ensures same { result ≡ kind_of (doc_of self.now) }
         ensures told { is_of_kind result (doc_of self.now) ≡ true }
     {
-        if is_of_kind(&self.tree, Kind::Request) {
-            Kind::Request
-        } else if is_of_kind(&self.tree, Kind::Response) {
-            Kind::Response
-        } else {
-            Kind::Event
-        }
+        self.kind
     }
 
     /// The command of a request or response, the name of an event.
     pub fn name(&self) -> &str
         ensures { name_of (doc_of self.now) ≡ Some result.now }
     {
-        let name = match self.kind() {
+        let name = match self.kind {
             Kind::Request | Kind::Response => text_at(&self.tree, "command"),
             Kind::Event => text_at(&self.tree, "event"),
         };
@@ -109,10 +108,9 @@ impl Message {
         ensures same { result ≡ request_seq_of (doc_of self.now) }
         ensures of_responses { is_some result ≡ is_of_kind Kind.Response (doc_of self.now) }
     {
-        if is_of_kind(&self.tree, Kind::Response) {
-            number_at(&self.tree, "request_seq")
-        } else {
-            None
+        match self.kind {
+            Kind::Response => number_at(&self.tree, "request_seq"),
+            Kind::Request | Kind::Event => None,
         }
     }
 
@@ -121,10 +119,9 @@ impl Message {
         ensures same { result ≡ success_of (doc_of self.now) }
         ensures of_responses { is_some result ≡ is_of_kind Kind.Response (doc_of self.now) }
     {
-        if is_of_kind(&self.tree, Kind::Response) {
-            boolean_at(&self.tree, "success")
-        } else {
-            None
+        match self.kind {
+            Kind::Response => boolean_at(&self.tree, "success"),
+            Kind::Request | Kind::Event => None,
         }
     }
 
@@ -187,7 +184,7 @@ impl Message {
         ensures doc { IfOk result (λ m. doc_of m ≡ doc_of self.now) }
         ensures memory { IfErr result (λ f. f ≡ MessageFault.Memory) }
     {
-        let Message { side, tree } = self;
+        let Message { side, tree, .. } = self;
         match tree.copy(alloc) {
             Ok(tree) => Ok(Message::new(*side, tree)),
             Err(_) => Err(MessageFault::Memory),
@@ -258,9 +255,23 @@ impl Message {
         ensures skeleton { skeleton (doc_of result) ≡ skeleton (doc_of self) }
         ensures doc { doc_of result ≡ with_ids (doc_of self) numbers.now }
     {
-        let Message { side, mut tree } = self;
+        let Message { side, mut tree, .. } = self;
         tree.replace_ids(numbers);
         Message::new(side, tree)
+    }
+}
+
+fn kind_of(tree: &Tree) -> Kind
+    requires enveloped { has_envelope (view tree.now) ≡ true }
+    ensures same { result ≡ kind_of (view tree.now) }
+    ensures told { is_of_kind result (view tree.now) ≡ true }
+{
+    if is_of_kind(tree, Kind::Request) {
+        Kind::Request
+    } else if is_of_kind(tree, Kind::Response) {
+        Kind::Response
+    } else {
+        Kind::Event
     }
 }
 
