@@ -32,7 +32,8 @@ reads_frames limits sound = record {
 }
 
 -- The records before the next one are judged, and the text of their values is made.
-pub record Compacting {R : Type 0} (limits : Limits) (source : Source R) (start reader : R) (records : Records Reading)
+pub record Compacting {R : Type 0} (limits : Limits) (source : Source R) (start reader : R)
+    (records : Records Reading)
     (out : List ℕ) : Type 0 where
   pub values : List Doc
   pub going : Going (compacting limits) (StandsForFrame limits.frame) source start
@@ -78,7 +79,8 @@ module _ {R : Type 0} (limits : Limits) (sound : AreSound limits) (source : Sour
       (was : Compacting limits source start reader records out)
       (new : Records Reading) (after : R) where
     abbrev Reads : Result (Option (List ℕ)) Refused → Type 0
-    Reads answer = ReadsNext (frame_items limits.frame) (StandsForFrame limits.frame) source records new reader after answer
+    Reads answer = ReadsNext (frame_items limits.frame) (StandsForFrame limits.frame) source records
+        new reader after answer
 
     abbrev Refuses : Refused → Type 0
     Refuses because = RefusesOne (compacting limits) source start after new because

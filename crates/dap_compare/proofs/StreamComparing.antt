@@ -51,7 +51,8 @@ use Rattle.dap_normal.proofs.StreamLoop.{Going, before_in, next_in}
 use Rattle.dap_compare.proofs.Verdicts.{same_lengths}
 
 -- What is answered of the next record is that memory was refused, or a refusal there.
-pub as_told : {T R : Type 0} {numbers : T → List ℤ} {table_limit : T → ℕ} (source : Source R) (limits : Limits) (bytes : List ℕ) (messages normal : List Sent)
+pub as_told : {T R : Type 0} {numbers : T → List ℤ} {table_limit : T → ℕ} (source : Source R)
+    (limits : Limits) (bytes : List ℕ) (messages normal : List Sent)
     (old new : NormalRecords T) (before after : R) (refused : Refused)
     → (stopped : HasStoppedAt numbers table_limit source limits bytes messages normal
     old new before after refused)
@@ -64,7 +65,8 @@ as_told source limits bytes messages normal old new before after why.Memory stop
 as_told source limits bytes messages normal old new before after refused stopped =
     inr ((λ same. absurd (let e = same in cc)), stopped.says)
 
-module _ {T R S : Type 0} {numbers : T → List ℤ} {table_limit : T → ℕ} (source_a : Source R) (source_b : Source S) (limits : Limits)
+module _ {T R S : Type 0} {numbers : T → List ℤ} {table_limit : T → ℕ} (source_a : Source R)
+    (source_b : Source S) (limits : Limits)
     (start_a reader_a : R) (records_a : NormalRecords T)
     (a : Going numbers table_limit source_a limits start_a reader_a records_a)
     (start_b reader_b : S) (records_b : NormalRecords T)

@@ -12,7 +12,8 @@ use Rattle.dap_input.specs.declared.records.Records.{Records}
 use Rattle.dap_input.proofs.Coming.{came_on, nothing_came}
 
 -- So much more has come, and may have.
-pub record Draining {I R : Type 0} (source : Source R) (old now : Records I) (before mid : R) : Type 0 where
+pub record Draining {I R : Type 0} (source : Source R) (old now : Records I) (before mid : R)
+    : Type 0 where
   pub more : List ℕ
   pub came : HasComeSoFar source before mid more None
   pub taken : now.pieces.taken ≡ old.pieces.taken + length more

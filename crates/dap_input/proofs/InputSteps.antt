@@ -26,7 +26,8 @@ use Rattle.dap_input.proofs.Refusals.{IsShownCause, faulty_told, objected_not_cu
 use Rattle.dap_input.proofs.Refusals.{objection_told}
 
 module _ {I A R : Type 0} (j : Judging) (g : Items A RecordCause) (held_of : A → j.Held)
-    (facts : ReadsAs j g held_of) (stands : I → List ℕ → Type 0) (source : Source R) (bytes : List ℕ) (old : Records I) (values : List j.Value)
+    (facts : ReadsAs j g held_of) (stands : I → List ℕ → Type 0) (source : Source R)
+    (bytes : List ℕ) (old : Records I) (values : List j.Value)
     (was : StandsBehind j stands bytes old values) (new : Records I) (before after : R) where
   module _ (answer : Result (Option A) Refused)
       (read : ReadsNext g stands source old new before after answer) where

@@ -24,14 +24,16 @@ use Rattle.dap_input.specs.declared.refused.Refused.TheVariants.{Memory}
 use Rattle.dap_input.proofs.Coming.{came_on, nothing_came}
 
 -- What is kept of a reader and of counts, whatever the records stand for.
-pub record AreCounted {I R : Type 0} (source : Source R) (old now : Records I) (before mid : R) : Type 0 where
+pub record AreCounted {I R : Type 0} (source : Source R) (old now : Records I) (before mid : R)
+    : Type 0 where
   pub room : source.given mid + (now.pieces.limit - now.pieces.taken)
       ≤ source.given before + (old.pieces.limit - old.pieces.taken)
   pub no_failure : source.failures mid ≡ source.failures before
   pub number_is : now.number ≡ old.number
 
 -- A piece came, and some of it was read.
-pub counted_on : {I R : Type 0} (source : Source R) (old now next : Records I) (before mid after : R) (filled : Window)
+pub counted_on : {I R : Type 0} (source : Source R) (old now next : Records I)
+    (before mid after : R) (filled : Window)
     → AreCounted source old now before mid
     → HasNextPiece source now.pieces filled mid after
     → next.pieces.taken ≡ filled.taken → next.pieces.limit ≡ filled.limit → next.number ≡ now.number

@@ -30,7 +30,8 @@ use Rattle.dap_input.proofs.InputSteps as steps
 use Rattle.dap_input.proofs.Refusals.{refused_as, refused_in, untold}
 
 -- So much has come, and the records before the next one are judged as these values.
-pub record Going {I R : Type 0} (j : Judging) (stands : I → List ℕ → Type 0) (source : Source R) (start reader : R) (records : Records I)
+pub record Going {I R : Type 0} (j : Judging) (stands : I → List ℕ → Type 0) (source : Source R)
+    (start reader : R) (records : Records I)
     (values : List j.Value) : Type 0 where
   pub bytes : List ℕ
   pub came : HasComeSoFar source start reader bytes None
@@ -160,7 +161,8 @@ module _ {I A R : Type 0} (j : Judging) (g : Items A RecordCause) (held_of : A �
 -- ---- what the engine answers
 
 -- The source has stopped, and what it gave is refused.
-pub record RefusesRead {R : Type 0} (j : Judging) (source : Source R) (old new : R) (because : Refused) : Type 0 where
+pub record RefusesRead {R : Type 0} (j : Judging) (source : Source R) (old new : R)
+    (because : Refused) : Type 0 where
   pub bytes : List ℕ
   pub stop : Stop
   pub came : HasComeSoFar source old new bytes (Some stop)

@@ -72,7 +72,8 @@ none_read limits new start stands judge_limits_are =
     (accepted_facts limits) start)
     stands judge_limits_are
 
-module _ {T R : Type 0} {numbers : T → List ℤ} {table_limit : T → ℕ} (source : Source R) (limits : Limits) (bytes : List ℕ) (old : NormalRecords T) (messages normal : List Sent)
+module _ {T R : Type 0} {numbers : T → List ℤ} {table_limit : T → ℕ} (source : Source R)
+    (limits : Limits) (bytes : List ℕ) (old : NormalRecords T) (messages normal : List Sent)
     (was : StandsBefore numbers table_limit limits bytes old messages normal)
     (new : Records RecordReading) (before after : R) where
   behind : StandsBehind (accepting limits) (StandsForRecord limits.frame) bytes old.records messages
@@ -89,7 +90,8 @@ module _ {T R : Type 0} {numbers : T → List ℤ} {table_limit : T → ℕ} (so
   }
 
   abbrev Reads : Result (Option WholeRecord) Refused → Type 0
-  Reads answer = ReadsNext (record_items limits.frame) (StandsForRecord limits.frame) source old.records new before after answer
+  Reads answer = ReadsNext (record_items limits.frame) (StandsForRecord limits.frame) source
+      old.records new before after answer
 
   stopped_for : (judge : Judge T) (answer : Result (Option WholeRecord) Refused)
       (read : Reads answer) (because : Refused)

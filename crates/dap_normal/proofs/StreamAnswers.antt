@@ -19,7 +19,8 @@ use Rattle.dap_normal.specs.JudgingSteps.{StandsFor}
 use Rattle.dap_normal.specs.NormalSteps.{HasEnded, HasGone, HasNext, HasStoppedAt}
 use Rattle.dap_normal.proofs.StreamLoop.{Going, all_came, refuses_next}
 
-module _ {T R : Type 0} {numbers : T → List ℤ} {table_limit : T → ℕ} (source : Source R) (limits : Limits) (start reader : R) (records : NormalRecords T)
+module _ {T R : Type 0} {numbers : T → List ℤ} {table_limit : T → ℕ} (source : Source R)
+    (limits : Limits) (start reader : R) (records : NormalRecords T)
     (was : Going numbers table_limit source limits start reader records)
     (new : NormalRecords T) (after : R) where
   abbrev pub Next : List ℕ → List ℕ → Result Bool Refused → Type 0
@@ -108,7 +109,8 @@ module _ {T R : Type 0} {numbers : T → List ℤ} {table_limit : T → ℕ} (so
         }
 
 -- Whether a complete session is asked for does not matter to a refusal.
-pub refuses_all_the_same : {R : Type 0} (source : Source R) (limits : Limits) (complete : Bool) (start after : R) (because : Refused)
+pub refuses_all_the_same : {R : Type 0} (source : Source R) (limits : Limits) (complete : Bool)
+    (start after : R) (because : Refused)
     → Checks source limits false start after (Err because)
     → Checks source limits complete start after (Err because)
 refuses_all_the_same source limits complete start after (Incomplete client adapter)

@@ -34,7 +34,8 @@ module _ {R : Type 0} (source : Source R) where
         stopped = came.paused;
       }
 
-module _ {T R : Type 0} (numbers : T → List ℤ) (table_limit : T → ℕ) (source : Source R) (limits : Limits) where
+module _ {T R : Type 0} (numbers : T → List ℤ) (table_limit : T → ℕ) (source : Source R)
+    (limits : Limits) where
   -- So much has come, and the records before the next one are accepted.
   pub record Going (start reader : R) (records : NormalRecords T) : Type 0 where
     pub bytes : List ℕ
@@ -43,7 +44,8 @@ module _ {T R : Type 0} (numbers : T → List ℤ) (table_limit : T → ℕ) (so
     pub normal : List Sent
     pub stands : StandsBefore numbers table_limit limits bytes records messages normal
 
-module _ {T R : Type 0} {numbers : T → List ℤ} {table_limit : T → ℕ} (source : Source R) (limits : Limits) where
+module _ {T R : Type 0} {numbers : T → List ℤ} {table_limit : T → ℕ} (source : Source R)
+    (limits : Limits) where
   abbrev pub at_start : (reader : R) (records : NormalRecords T)
       → StandsBefore numbers table_limit limits [] records [] []
       → Going numbers table_limit source limits reader reader records
@@ -73,7 +75,8 @@ module _ {T R : Type 0} {numbers : T → List ℤ} {table_limit : T → ℕ} (so
         sound.input in omega (arith, few, most, taken_within, front_within)
 
     pub small_count : AreSound limits → source.given start < 2 ^ 62
-        → source.given reader + (records.records.pieces.limit - records.records.pieces.taken) < 2 ^ 63
+        → source.given reader + (records.records.pieces.limit - records.records.pieces.taken)
+        < 2 ^ 63
     small_count sound small =
         let most = sound.input in
         let came = was.came.counted in

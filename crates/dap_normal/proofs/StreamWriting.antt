@@ -1,6 +1,7 @@
 -- What `normalise` answers, and what it has then written.
-use Rattle.std.proofs.Common.{◌≡◌, ◌≢◌, inl, inr, ℕ, ℤ, ◌+◌, List, [], ◌∷◌, ◌++◌, length, Option, Some, None}
-use Rattle.std.proofs.Common.{Result, Ok, Err, refl, sym, ◌∙◌, ap, subst, arith, append-nil}
+use Rattle.std.proofs.Common.{◌≡◌, ◌≢◌, inl, inr, ℕ, ℤ, ◌+◌, List, [], ◌∷◌, ◌++◌, length}
+use Rattle.std.proofs.Common.{Option, Some, None, Result, Ok, Err, refl, sym, ◌∙◌, ap, subst}
+use Rattle.std.proofs.Common.{arith, append-nil}
 use Rattle.std.proofs.lemmas.Bool.{true≢false}
 use Rattle.std.proofs.lemmas.List.{length_push}
 use Rattle.std.specs.Prelude.{is_err, true, false}
@@ -36,19 +37,22 @@ use Rattle.dap_normal.proofs.StreamLoop.{Going, all_came, come_to, refused_to}
 use Rattle.dap_normal.proofs.StreamLoop.{refuses_next}
 
 -- What a text that was sent out made of the writer.
-pub all_written : {W U : Type 0} (sink : Sink W) (old new : W) (answer : Result U DeviceFault) (bytes : List ℕ)
+pub all_written : {W U : Type 0} (sink : Sink W) (old new : W) (answer : Result U DeviceFault)
+    (bytes : List ℕ)
     → HasWrittenAll sink old new answer bytes → is_err answer ≡ false
     → AllWritten sink old new bytes
 all_written sink old new (Ok done) bytes sent none = sent
 all_written sink old new (Err fault) bytes sent none = absurd (true≢false none)
 
-pub front_written : {W U : Type 0} (sink : Sink W) (old new : W) (answer : Result U DeviceFault) (bytes : List ℕ)
+pub front_written : {W U : Type 0} (sink : Sink W) (old new : W) (answer : Result U DeviceFault)
+    (bytes : List ℕ)
     → HasWrittenAll sink old new answer bytes → is_err answer ≡ true
     → FrontWritten sink old new bytes
 front_written sink old new (Ok done) bytes sent some = absurd (true≢false (sym some))
 front_written sink old new (Err fault) bytes sent some = sent
 
-module _ {R W : Type 0} (source : Source R) (sink : Sink W) (limits : Limits) (start : R) (before : W) where
+module _ {R W : Type 0} (source : Source R) (sink : Sink W) (limits : Limits) (start : R)
+    (before : W) where
   -- Nothing has been read or written.
   pub given_up : HasGivenUp source sink limits start start before
       before

@@ -101,7 +101,10 @@ macro_rules! is_needed {
 }
 
 macro_rules! profile_rows {
-    ($($number:literal $kind:ident $(($name:literal))? $place:ident($($part:literal),+) $want:ident $needed:ident;)*) => {
+    ($(
+        $number:literal $kind:ident $(($name:literal))? $place:ident($($part:literal),+)
+        $want:ident $needed:ident;
+    )*) => {
         [$(Row {
             number: $number,
             kind: kind!($kind),

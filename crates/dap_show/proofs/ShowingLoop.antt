@@ -32,7 +32,8 @@ reads_records limits = record {
 }
 
 -- The records before the next one are messages, and their lines are made.
-pub record Showing {R : Type 0} (limits : Limits) (source : Source R) (start reader : R) (records : Records RecordReading)
+pub record Showing {R : Type 0} (limits : Limits) (source : Source R) (start reader : R)
+    (records : Records RecordReading)
     (out : List ℕ) : Type 0 where
   pub messages : List Sent
   pub going : Going (showing limits) (StandsForRecord limits.frame) source start reader
@@ -75,7 +76,8 @@ module _ {R : Type 0} (limits : Limits) (source : Source R) where
       (was : Showing limits source start reader records out)
       (new : Records RecordReading) (after : R) where
     abbrev Reads : Result (Option WholeRecord) Refused → Type 0
-    Reads answer = ReadsNext (record_items limits.frame) (StandsForRecord limits.frame) source records new reader after answer
+    Reads answer = ReadsNext (record_items limits.frame) (StandsForRecord limits.frame) source
+        records new reader after answer
 
     abbrev Refuses : Refused → Type 0
     Refuses because = RefusesOne (showing limits) source start after new because

@@ -96,4 +96,5 @@ module _ {R : Type 0} (limits : Limits) (source : Source R)
     rest_failures small =
         let came =
         subst (HasComeSoFar source old mid one.bytes) not_stopped one.came in
-        let same : source.failures mid ≡ source.failures old = came.paused in omega (arith, small, same)
+        let same : source.failures mid ≡ source.failures old = came.paused in
+        omega (arith, small, same)

@@ -729,7 +729,8 @@ module _ (limits : Limits) (sound : AreSound limits) (whole rest : List ℕ) (re
 -- ---- the answer
 
 -- Where the records of a trace were sent, the trace is answered for.
-module _ {R W : Type 0} (U : Type 0) (source : Source R) (sink : Sink W) (limits : Limits) (old new : R) (before after : W)
+module _ {R W : Type 0} (U : Type 0) (source : Source R) (sink : Sink W) (limits : Limits)
+    (old new : R) (before after : W)
     (bytes : List ℕ) (stop : Stop)
     (came : HasCome source old new limits.input bytes stop)
     (recorder : RecorderReading) where

@@ -214,8 +214,8 @@ pub fn run_stream_with<R: Source, W: Sink, E: Sink, T: NameTable + Drop>(
 /// Tells the user why the words were no job, and answers the program's status.
 ///
 /// Help, or the version, that was asked for goes to `writer`: the status is 0, or 4 where the
-/// writer fails. What is wrong with the words goes to `errors`, with status 3, and want of memory, with status 5. A
-/// failure of `errors` is not told.
+/// writer fails. What is wrong with the words goes to `errors`, with status 3, and want of memory,
+/// with status 5. A failure of `errors` is not told.
 pub fn run_usage<W: Sink, E: Sink>(fault: &UsageFault, writer: &mut W, errors: &mut E) -> u8
     requires write_failures { W.failures writer.old < 2 ^ 62 }
     requires error_failures { E.failures errors.old < 2 ^ 62 }

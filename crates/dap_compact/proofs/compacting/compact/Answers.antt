@@ -10,6 +10,7 @@ returns-clause-answer g c =
     text c.args.reader.now c.drain.new.reader g.W.Sink c.args.writer.now
     c.in-Err-compact_records.refused
     (drained (compacting c.args.limits) (frame_items c.args.limits.frame) (λ content. content)
-    (reads_frames c.args.limits c.requires.limits) g.R.Source c.args.reader.now c.compact_records.new.reader c.drain.new.reader
+    (reads_frames c.args.limits c.requires.limits) g.R.Source c.args.reader.now
+    c.compact_records.new.reader c.drain.new.reader
     c.compact_records.new.records c.in-Err-compact_records.refused c.in-Err-compact_records.ensures
     c.drain.ensures.over c.drain.ensures.rest)

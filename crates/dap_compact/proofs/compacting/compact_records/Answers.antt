@@ -11,35 +11,36 @@ pub loop-out-init : goal.loop-out-init
 loop-out-init g c =
     subst (Compacting c.args.limits g.R.Source
     c.args.reader.now c.args.reader.now c.args.records.now) (sym c.new-out.ensures.items)
-    (none_read c.args.limits c.requires.sound g.R.Source c.args.reader.now c.args.records.now c.requires.start)
+    (none_read c.args.limits c.requires.sound g.R.Source c.args.reader.now c.args.records.now
+    c.requires.start)
 
 pub next-requires-clause-number : goal.next-requires-clause-number
 next-requires-clause-number g c =
-    few_records c.args.limits c.requires.sound g.R.Source c.args.reader.now c.loop-out.reader c.loop-out.records
-    c.loop-out.out.items c.loop-out.invariant
+    few_records c.args.limits c.requires.sound g.R.Source c.args.reader.now c.loop-out.reader
+    c.loop-out.records c.loop-out.out.items c.loop-out.invariant
 
 pub next-requires-clause-given : goal.next-requires-clause-given
 next-requires-clause-given g c =
-    few_given c.args.limits c.requires.sound g.R.Source c.args.reader.now c.loop-out.reader c.loop-out.records
-    c.loop-out.out.items c.loop-out.invariant c.requires.given
+    few_given c.args.limits c.requires.sound g.R.Source c.args.reader.now c.loop-out.reader
+    c.loop-out.records c.loop-out.out.items c.loop-out.invariant c.requires.given
 
 pub next-requires-clause-failures : goal.next-requires-clause-failures
 next-requires-clause-failures g c =
-    few_failed c.args.limits c.requires.sound g.R.Source c.args.reader.now c.loop-out.reader c.loop-out.records
-    c.loop-out.out.items c.loop-out.invariant c.requires.failures
+    few_failed c.args.limits c.requires.sound g.R.Source c.args.reader.now c.loop-out.reader
+    c.loop-out.records c.loop-out.out.items c.loop-out.invariant c.requires.failures
 
 pub returns-in_err-content : goal.returns-in_err-content
 returns-in_err-content g c =
     let because = err_from_is_err_and c.from_residual.result c.from_residual.ensures.1 in
     rw (because.1, because.2)
-    (not_read c.args.limits c.requires.sound g.R.Source c.args.reader.now c.loop-out.reader c.loop-out.records
-    c.loop-out.out.items c.loop-out.invariant c.next.new.self c.next.new.reader _
+    (not_read c.args.limits c.requires.sound g.R.Source c.args.reader.now c.loop-out.reader
+    c.loop-out.records c.loop-out.out.items c.loop-out.invariant c.next.new.self c.next.new.reader _
     (c.in_err-content.ensures c.args.limits.frame c.loop-out.invariant.going.behind.between))
 
 pub returns-in_default : goal.returns-in_default
 returns-in_default g c =
-    all_compacted c.args.limits c.requires.sound g.R.Source c.args.reader.now c.loop-out.reader c.loop-out.records
-    c.loop-out.out.items c.loop-out.invariant c.next.new.self c.next.new.reader
+    all_compacted c.args.limits c.requires.sound g.R.Source c.args.reader.now c.loop-out.reader
+    c.loop-out.records c.loop-out.out.items c.loop-out.invariant c.next.new.self c.next.new.reader
     (subst (λ o. ReadsNext (frame_items c.args.limits.frame) (StandsForFrame c.args.limits.frame)
     g.R.Source c.loop-out.records c.next.new.self
     c.loop-out.reader c.next.new.reader (Ok o)) c.in_default.is
@@ -55,8 +56,8 @@ returns-in_err-append_compact g c =
     c.loop-out.reader c.next.new.reader (Ok o)) c.in-Some.is
     (c.in_ok-content.ensures c.args.limits.frame c.loop-out.invariant.going.behind.between) in
     rw (because.1, because.2)
-    (not_appended c.args.limits c.requires.sound g.R.Source c.args.reader.now c.loop-out.reader c.loop-out.records
-    c.loop-out.out.items c.loop-out.invariant c.next.new.self c.next.new.reader
+    (not_appended c.args.limits c.requires.sound g.R.Source c.args.reader.now c.loop-out.reader
+    c.loop-out.records c.loop-out.out.items c.loop-out.invariant c.next.new.self c.next.new.reader
     c.in-Some.content c.append_compact.new.out.items _ read
     (rw (c.number-number.ensures, c.as_slice.ensures) at c.in_err-append_compact.ensures))
 
@@ -67,15 +68,16 @@ loop-out-preserved g c =
     g.R.Source c.loop-out.records c.next.new.self
     c.loop-out.reader c.next.new.reader (Ok o)) c.in-Some.is
     (c.in_ok-content.ensures c.args.limits.frame c.loop-out.invariant.going.behind.between) in
-    one_more c.args.limits c.requires.sound g.R.Source c.args.reader.now c.loop-out.reader c.loop-out.records
+    one_more c.args.limits c.requires.sound g.R.Source c.args.reader.now c.loop-out.reader
+    c.loop-out.records
     c.loop-out.out.items c.loop-out.invariant c.next.new.self c.next.new.reader (tt {0})
     c.in-Some.content c.append_compact.new.out.items read
     (rw c.as_slice.ensures at c.in_ok-append_compact.ensures)
 
 pub loop-out-smaller : goal.loop-out-smaller
 loop-out-smaller g c =
-    fewer c.args.limits c.requires.sound g.R.Source c.args.reader.now c.loop-out.reader c.loop-out.records
-    c.loop-out.out.items c.loop-out.invariant c.next.new.self c.next.new.reader
+    fewer c.args.limits c.requires.sound g.R.Source c.args.reader.now c.loop-out.reader
+    c.loop-out.records c.loop-out.out.items c.loop-out.invariant c.next.new.self c.next.new.reader
     c.in-Some.content
     (subst (λ o. ReadsNext (frame_items c.args.limits.frame) (StandsForFrame c.args.limits.frame)
     g.R.Source c.loop-out.records c.next.new.self

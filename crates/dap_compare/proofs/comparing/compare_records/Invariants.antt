@@ -5,8 +5,10 @@ use Rattle.dap_compare.proofs.comparing.compare_records.Given as goal
 
 abbrev pub invariant-loop-text_b : goal.invariant-loop-text_b
 invariant-loop-text_b g l = record {
-  a : Going g.T.NameTable.numbers g.T.NameTable.limit g.A.Source l.fn.limits l.fn.reader_a l.reader_a l.records_a;
-  b : Going g.T.NameTable.numbers g.T.NameTable.limit g.B.Source l.fn.limits l.fn.reader_b l.reader_b l.records_b;
+  a : Going g.T.NameTable.numbers g.T.NameTable.limit g.A.Source l.fn.limits l.fn.reader_a
+      l.reader_a l.records_a;
+  b : Going g.T.NameTable.numbers g.T.NameTable.limit g.B.Source l.fn.limits l.fn.reader_b
+      l.reader_b l.records_b;
   alike : a.normal ≡ b.normal;
 }
 

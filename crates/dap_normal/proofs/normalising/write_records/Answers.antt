@@ -43,8 +43,8 @@ loop-writer-preserved g c =
     c.write_all.result c.as_slice.result.now c.write_all.ensures (sym c.is_err.ensures.value
     ∙ c.if-is_err.false)) in
     let written =
-    written_on g.R.Source g.W.Sink c.args.limits c.args.reader.now c.args.writer.now c.loop-writer.reader
-    c.loop-writer.records was
+    written_on g.R.Source g.W.Sink c.args.limits c.args.reader.now c.args.writer.now
+    c.loop-writer.reader c.loop-writer.records was
     c.loop-writer.writer c.loop-writer.invariant.written
     c.next.new.self c.next.new.reader c.next.new.text.items here c.write_all.new.writer all in
     record {
@@ -69,8 +69,8 @@ returns-then-is_err-clause-answer g c =
     (front_written g.W.Sink c.loop-writer.writer c.write_all.new.writer
     c.write_all.result c.as_slice.result.now c.write_all.ensures (sym c.is_err.ensures.value
     ∙ c.if-is_err.true)) in
-    failed_to_write g.R.Source g.W.Sink c.args.limits c.args.reader.now c.args.writer.now c.loop-writer.reader
-    c.loop-writer.records was
+    failed_to_write g.R.Source g.W.Sink c.args.limits c.args.reader.now c.args.writer.now
+    c.loop-writer.reader c.loop-writer.records was
     c.loop-writer.writer c.loop-writer.invariant.written
     c.next.new.self c.next.new.reader c.next.new.text.items here c.write_all.new.writer front
 
@@ -131,10 +131,11 @@ returns-in_default g c =
     let was = c.loop-writer.invariant.going in
     let stopped = c.in-Err.ensures c.args.limits was.bytes was.messages was.normal was.stands in
     record {
-      answer = has_refused g.R.Source g.W.Sink c.args.limits c.args.reader.now c.args.writer.now c.loop-writer.reader
-          c.loop-writer.records was
+      answer = has_refused g.R.Source g.W.Sink c.args.limits c.args.reader.now c.args.writer.now
+          c.loop-writer.reader c.loop-writer.records was
           c.loop-writer.writer c.loop-writer.invariant.written
-          c.next.new.self c.next.new.reader _ c.in_default.not-Memory stopped c.flushed-in_default.new.writer
+          c.next.new.self c.next.new.reader _ c.in_default.not-Memory stopped
+          c.flushed-in_default.new.writer
           c.flushed-in_default.result c.flushed-in_default.ensures;
       taken = few_taken g.R.Source c.args.limits
           c.args.reader.now c.loop-writer.reader c.loop-writer.records was c.next.new.reader

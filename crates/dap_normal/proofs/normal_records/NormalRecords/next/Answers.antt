@@ -29,7 +29,8 @@ returns-in_err-judge g c = λ limits bytes messages normal was.
     err_from_is_err_and c.from_residual-in_err-judge.result
     c.from_residual-in_err-judge.ensures.1 in
     let read = subst
-    (λ o. ReadsNext (record_items limits.frame) (StandsForRecord limits.frame) g.R.Source c.args.self.now.records c.next.new.self
+    (λ o. ReadsNext (record_items limits.frame) (StandsForRecord limits.frame) g.R.Source
+    c.args.self.now.records c.next.new.self
     c.args.reader.now c.next.new.reader (Ok o)) c.in-Some.is
     (c.in_ok-whole.ensures limits.frame was.between) in
     rw (because.1, because.2)
@@ -41,7 +42,8 @@ returns-in_err-judge g c = λ limits bytes messages normal was.
 pub returns : goal.returns
 returns g c = λ limits bytes messages normal was.
     let read = subst
-    (λ o. ReadsNext (record_items limits.frame) (StandsForRecord limits.frame) g.R.Source c.args.self.now.records c.next.new.self
+    (λ o. ReadsNext (record_items limits.frame) (StandsForRecord limits.frame) g.R.Source
+    c.args.self.now.records c.next.new.self
     c.args.reader.now c.next.new.reader (Ok o)) c.in-Some.is
     (c.in_ok-whole.ensures limits.frame was.between) in
     gone_on g.R.Source limits bytes c.args.self.now
