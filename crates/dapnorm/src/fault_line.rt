@@ -198,12 +198,20 @@ fn compare_fault_line(refused: CompareRefused) -> ArrayString<LINE>
     line
 }
 
+/// Sends a text to the errors. A failure to write it is not told.
+pub(crate) fn send<E: Sink>(errors: &mut E, text: &str)
+    requires { E.failures errors.old < 2 ^ 63 }
+    ensures { HasSent E.Sink errors.old errors.new text.now }
+{
+    let _ = write_and_flush(errors, text.as_bytes());
+}
+
 /// Sends a line to the errors. A failure to write it is not told.
-fn send<E: Sink>(errors: &mut E, line: &ArrayString<LINE>)
+pub(crate) fn send_line<E: Sink>(errors: &mut E, line: &ArrayString<LINE>)
     requires { E.failures errors.old < 2 ^ 63 }
     ensures { HasSent E.Sink errors.old errors.new line.now.bytes }
 {
-    let _ = write_and_flush(errors, line.as_bytes());
+    send(errors, line.as_str());
 }
 
 /// Tells a refusal in one line.
@@ -211,7 +219,7 @@ pub(crate) fn tell<E: Sink>(errors: &mut E, refused: Refused)
     requires { E.failures errors.old < 2 ^ 63 }
     ensures { HasSent E.Sink errors.old errors.new (fault_line (refused_text refused)) }
 {
-    send(errors, &fault_line(refused));
+    send_line(errors, &fault_line(refused));
 }
 
 /// Tells the refusal of one of two inputs in one line.
@@ -220,5 +228,5 @@ pub(crate) fn tell_of_input<E: Sink>(errors: &mut E, refused: CompareRefused)
     ensures { HasSent E.Sink errors.old errors.new
         (fault_line (compare_refused_text refused)) }
 {
-    send(errors, &compare_fault_line(refused));
+    send_line(errors, &compare_fault_line(refused));
 }

@@ -5,11 +5,11 @@ ghost use Rattle.dapnorm.specs.MaskRun.{MaskIsTold, ReadsRules, cause_word, outc
 ghost use Rattle.dapnorm.specs.MaskRun.{rules_line};
 ghost use Rattle.dapnorm.specs.Run.{HasSent};
 
-use crate::fault_line::{LINE, tell};
+use crate::fault_line::{LINE, send, send_line, tell};
 use crate::run_job::tell_answer;
 use crate::status::{FAULT, MEMORY, REFUSED};
 use arrayvec::ArrayString;
-use dap_device::{Sink, Source, Stop, read_all, write_and_flush};
+use dap_device::{Sink, Source, Stop, read_all};
 use dap_input::{Limits, Refused};
 use dap_mask::{MaskRules, RulesCause, RulesFault};
 use dap_mask_input::mask;
@@ -85,20 +85,12 @@ fn rules_line(fault: RulesFault) -> ArrayString<LINE>
     line
 }
 
-/// Sends a text to the errors. A failure to write it is not told.
-fn send<E: Sink>(errors: &mut E, text: &str)
-    requires { E.failures errors.old < 2 ^ 63 }
-    ensures { HasSent E.Sink errors.old errors.new text.now }
-{
-    let _ = write_and_flush(errors, text.as_bytes());
-}
-
 /// Tells which line of a file of rules is refused.
 fn tell_line<E: Sink>(errors: &mut E, fault: RulesFault)
     requires { E.failures errors.old < 2 ^ 63 }
     ensures { HasSent E.Sink errors.old errors.new (rules_line fault) }
 {
-    send(errors, rules_line(fault).as_str());
+    send_line(errors, &rules_line(fault));
 }
 
 /// Masks the recording of `reader` by the rules of a file, writes it to `writer`, and answers the

@@ -1,9 +1,9 @@
 //! Prints rows of the profile.
 ghost use Rattle.std.specs.Prelude.{◌≡◌, ◌<◌, ◌^◌, option_map};
 ghost use Rattle.dapnorm.specs.RowsRun.{RowsArePrinted, TellsRows};
-ghost use Rattle.dapnorm.specs.Run.{HasSent};
 ghost use Rattle.dap_rows.specs.RowLines.{lines_of};
 
+use crate::fault_line::send;
 use crate::run_job::tell_answer;
 use crate::status::USAGE;
 use dap_device::{Sink, write_and_flush};
@@ -40,14 +40,6 @@ pub(crate) fn tell_rows<W: Sink, E: Sink>(
     }
     let answer = print_lines(writer, lines.as_str());
     tell_answer(errors, answer)
-}
-
-/// Sends a text to the errors. A failure to write it is not told.
-fn send<E: Sink>(errors: &mut E, text: &str)
-    requires { E.failures errors.old < 2 ^ 63 }
-    ensures { HasSent E.Sink errors.old errors.new text.now }
-{
-    let _ = write_and_flush(errors, text.as_bytes());
 }
 
 fn print_lines<W: Sink>(writer: &mut W, lines: &str) -> Result<(), Refused>

@@ -14,7 +14,7 @@ ghost use Rattle.dapnorm.specs.Run.{TellsUsage, accepted_line, status_of};
 ghost use Rattle.dap_show.specs.Showing.{IsShownBy, showing};
 ghost use Rattle.dap_trace.specs.TracingRun.{RecordsTrace};
 
-use crate::fault_line::{LINE, tell};
+use crate::fault_line::{LINE, send, tell};
 use crate::jobs::{Job, UsageFault};
 use crate::rows_run::tell_rows;
 use crate::status::{DONE, FAULT, MEMORY, USAGE, refused_status};
@@ -228,7 +228,7 @@ pub fn run_usage<W: Sink, E: Sink>(fault: &UsageFault, writer: &mut W, errors: &
             Err(_) => FAULT,
         },
         UsageFault::Usage(text) => {
-            let _ = write_and_flush(errors, text.as_bytes());
+            send(errors, text);
             USAGE
         }
         UsageFault::Memory => {
