@@ -12,5 +12,6 @@ pub mod RecordLoop
 pub mod Refusals
 pub mod RunFronts
 pub mod Runs
+pub mod StreamEnds
 pub mod Streams
 pub mod WholeInputs

@@ -1,57 +1,36 @@
 -- An engine that writes the text of each record once it is judged: what it keeps, and what it
 -- answers.
-use Rattle.std.proofs.Common.{◌≡◌, ◌≢◌, inl, inr, ℕ, ◌+◌, ◌-◌, ◌<◌, ◌≤◌, ◌^◌, true, false, List, []}
-use Rattle.std.proofs.Common.{◌∷◌, ◌++◌, length, Option, Some, None, Result, Ok, Err, refl, sym}
-use Rattle.std.proofs.Common.{◌∙◌, ap, subst, arith, append_assoc, append-nil, length-append}
-use Rattle.std.proofs.lemmas.Bool.{true≢false}
+use Rattle.std.proofs.Common.{◌≡◌, inr, ℕ, ◌+◌, ◌-◌, ◌<◌, ◌≤◌, ◌^◌, List, [], ◌∷◌, ◌++◌, length}
+use Rattle.std.proofs.Common.{Option, Some, None, Result, Ok, Err, sym, ◌∙◌, ap, subst, arith}
+use Rattle.std.proofs.Common.{append_assoc, length-append}
 use Rattle.std.proofs.lemmas.List.{length_push}
-use Rattle.std.specs.Prelude.{is_err}
-use Rattle.std.specs.Io.KnownBytes.{Appends}
-use Rattle.std.proofs.KnownBytes.{Appends-nil, Appends-trans}
 use Rattle.dap_device.specs.declared.device.Source.{Ghosts as Source}
 use Rattle.dap_device.specs.declared.device.Sink.{Ghosts as Sink}
-use Rattle.dap_device.specs.Device.{HasFlushedAll, HasTakenNothing}
-use Rattle.dap_device.specs.Written.{AllSent, AllWritten, FrontWritten, HasWrittenAll}
+use Rattle.dap_device.specs.Written.{AllWritten, FrontWritten}
 use Rattle.dap_device.specs.Pieces.{HasComeSoFar}
-use Rattle.dap_device.specs.declared.device.DeviceFault.{DeviceFault}
-use Rattle.dap_device.specs.declared.reading.Stop.{Stop}
 use Rattle.dap_device.specs.declared.reading.Stop.TheVariants.{End}
-use Rattle.dap_device.proofs.Sending.{all_then_all, kept, nothing_awaits, some_of_both}
+use Rattle.dap_device.proofs.Sending.{all_then_all}
 use Rattle.dap_items.specs.Items.{Items}
 use Rattle.dap_recording.specs.declared.record_fault.RecordCause.{RecordCause}
 use Rattle.dap_recording.specs.declared.record_fault.RecordCause.TheVariants.{Cut}
 use Rattle.dap_input.specs.InputSteps.{Says}
-use Rattle.dap_input.specs.Inputs.{AcceptedBefore}
 use Rattle.dap_input.specs.Judging.{Judging}
-use Rattle.dap_input.specs.ReadTo.{so_far}
 use Rattle.dap_input.specs.RecordSteps.{IsAtStart, ReadsNext}
-use Rattle.dap_input.specs.Refusals.{RefusesAt, RefusesHeld}
+use Rattle.dap_input.specs.Refusals.{RefusesHeld}
 use Rattle.dap_input.specs.Streaming.{AnswersRefusal, Flushes, HasComeTo, HasFailedToWrite}
-use Rattle.dap_input.specs.Streaming.{HasGivenUp, HasRefused, Streams}
+use Rattle.dap_input.specs.Streaming.{HasGivenUp, Streams}
 use Rattle.dap_input.specs.declared.records.Records.{Records}
 use Rattle.dap_input.specs.declared.refused.Refused.{Refused}
-use Rattle.dap_input.specs.declared.refused.Refused.TheVariants.{Record, WriteFault, Memory}
-use Rattle.dap_input.proofs.Coming.{came_on, nothing_came}
+use Rattle.dap_input.specs.declared.refused.Refused.TheVariants.{Record}
+use Rattle.dap_input.proofs.Coming.{came_on}
 use Rattle.dap_input.proofs.InputLoop.{ReadsAs, StandsBehind}
 use Rattle.dap_input.proofs.InputSteps as steps
-use Rattle.dap_input.proofs.Refusals.{untold}
 use Rattle.dap_input.proofs.Runs.{run_none}
+use Rattle.dap_input.proofs.StreamEnds.{nothing_written}
+use Rattle.dap_input.proofs.StreamEnds as ends
 use Rattle.dap_input.proofs.WholeInputs.{Going, at_start, few_failures, on, small_count}
 use Rattle.dap_input.proofs.WholeInputs.{small_number}
 use Rattle.dap_input.proofs.WholeInputs as whole
-
--- What a text that was sent out made of the writer.
-pub all_written : {W U : Type 0} (sink : Sink W) (old new : W) (answer : Result U DeviceFault)
-    (bytes : List ℕ) → HasWrittenAll sink old new answer bytes → is_err answer ≡ false
-    → AllWritten sink old new bytes
-all_written sink old new (Ok done) bytes sent none = sent
-all_written sink old new (Err fault) bytes sent none = absurd (true≢false none)
-
-pub front_written : {W U : Type 0} (sink : Sink W) (old new : W) (answer : Result U DeviceFault)
-    (bytes : List ℕ) → HasWrittenAll sink old new answer bytes → is_err answer ≡ true
-    → FrontWritten sink old new bytes
-front_written sink old new (Ok done) bytes sent some = absurd (true≢false (sym some))
-front_written sink old new (Err fault) bytes sent some = sent
 
 -- The records before the next one are judged as these values, and their text went out.
 pub record Streaming {I R W : Type 0} (j : Judging) (stands : I → List ℕ → Type 0)
@@ -73,39 +52,12 @@ module _ {I A R W : Type 0} (j : Judging) (g : Items A RecordCause) (held_of : A
       Streams j Gives Promises source sink start after before end
       answer
 
-  nothing_written : AllWritten sink before before []
-  nothing_written = record {
-    appended = Appends-nil (sink.out before);
-    awaits = nothing_awaits sink.unflushed before before refl;
-    no_failure = refl;
-  }
-
   -- Nothing has been read or written.
-  pub given_up : HasGivenUp j Gives Promises source sink start start
-      before before
+  pub given_up : HasGivenUp j Gives Promises source sink start start before before
   given_up =
       let accepted = facts.accepted.accepted_of_run [] [] (run_none j [] 0) in
-      record {
-        number = 1;
-        stop = None;
-        text = [];
-        to = record {
-          bytes = [];
-          came = nothing_came source start;
-          read_to = record
-              { before = []; last = []; split = refl; few = omega arith; ends = inl refl };
-          before = record {
-            values = [];
-            front = [];
-            rest = [];
-            split = refl;
-            accepted = accepted;
-            is_number = omega arith;
-          };
-          gives = subst (Gives []) no_text (gives [] [] accepted);
-        };
-        written = nothing_written;
-      }
+      ends.given_up j Gives Promises source sink start before accepted
+      (subst (Gives []) no_text (gives [] [] accepted))
 
   abbrev pub Stands : R → W → Records I → List j.Value → Type 0
   Stands reader writer records values =
@@ -116,7 +68,7 @@ module _ {I A R W : Type 0} (j : Judging) (g : Items A RecordCause) (held_of : A
       → Stands start before records []
   none_written records is = record {
     going = at_start j g held_of facts stands source start records is;
-    written = subst (AllWritten sink before before) (sym no_text) nothing_written;
+    written = subst (AllWritten sink before before) (sym no_text) (nothing_written sink before);
   }
 
   module _ (reader : R) (writer : W) (records : Records I) (values : List j.Value)
@@ -185,87 +137,13 @@ module _ {I A R W : Type 0} (j : Judging) (g : Items A RecordCause) (held_of : A
 
         -- ---- the engine stops here
 
-        -- a flush that fails
-        failed_to_flush : (end : W)
-            → HasTakenNothing sink.out sink.unflushed sink.failures writer end
-            → HasFailedToWrite j Gives Promises source sink start after before end
-        failed_to_flush end nothing = record {
-          number = records.number;
-          stop = read.stop;
-          text = text values;
-          to = to;
-          next = [];
-          is_next = inl refl;
-          count = 0;
-          within = omega arith;
-          written = subst (Appends (sink.out before) (sink.out end))
-              (sym (append-nil (text values)))
-              (kept (sink.out before) (sink.out writer) (sink.out end) (text values)
-              was.written.appended nothing.kept);
-          awaits = some_of_both sink.unflushed before writer end (length (text values)) 0
-              was.written.awaits (nothing_awaits sink.unflushed writer end nothing.awaits);
-          failure = let none = was.written.no_failure in nothing.failure ∙ ap (λ n. n + 1) none;
-        }
-
-        -- a flush that is done
-        flushed : (end : W) → HasFlushedAll sink.out sink.unflushed sink.failures writer end
-            → AllSent sink before end (text values)
-        flushed end done = record {
-          appended = kept (sink.out before) (sink.out writer) (sink.out end) (text values)
-              was.written.appended done.kept;
-          flushed = done.flushed;
-          no_failure = let none = was.written.no_failure in done.no_failure ∙ none;
-        }
-
-        has_given_up : HasGivenUp j Gives Promises source sink start after before writer
-        has_given_up = record {
-          number = records.number;
-          stop = read.stop;
-          text = text values;
-          to = to;
-          written = was.written;
-        }
-
-        abbrev Told : Refused → Type 0
-        Told because = Says j come read.stop records.number because
+        refused : (because : Refused)
+            → Says j come read.stop records.number because
             × ((n : ℕ) → because ≡ Record n Cut → read.stop ≡ Some End)
-
-        refused_for : (because : Refused) → because ≢ Memory → Told because → (end : W)
-            → HasFlushedAll sink.out sink.unflushed sink.failures writer end
-            → Answer after end (Err because)
-        refused_for WriteFault other told end done =
-            absurd (untold WriteFault records.number told.0.fault refl
-            (λ e. absurd (let same = e in cc)) told.0.tells)
-        refused_for Memory other told end done = absurd (other refl)
-        refused_for because other told end done = record {
-          text = text values;
-          refuses = record {
-            number = records.number;
-            stop = read.stop;
-            to = to;
-            refuses = told.0;
-            cut = told.1;
-          };
-          written = flushed end done;
-        }
-
-        once_flushed : (because : Refused) → because ≢ Memory → Told because → (end : W)
-            (result : Result (Unit {0}) Refused) → Flushes sink writer end (Err because) result
-            → Answer after end result
-        once_flushed because other told end result (inl done) =
-            subst (Answer after end) (sym done.0) (refused_for because other told end done.1)
-        once_flushed because other told end result (inr failed) =
-            subst (Answer after end) (sym failed.0) (failed_to_flush end failed.1)
-
-        refused : (because : Refused) → Told because → (end : W)
-            (result : Result (Unit {0}) Refused) → AnswersRefusal sink writer end because result
-            → Answer after end result
-        refused Memory told end result (is, same) =
-            subst (Answer after end) (sym is)
-            (subst (HasGivenUp j Gives Promises source sink start after before) (sym same)
-            has_given_up)
-        refused because told end result given =
-            once_flushed because (λ same. absurd (let e = same in cc)) told end result given
+            → (end : W) (result : Result (Unit {0}) Refused)
+            → AnswersRefusal sink writer end because result → Answer after end result
+        refused = ends.refused j Gives Promises source sink start before after writer read.stop
+            records.number (text values) to was.written
 
       -- No record has come.
       pub not_read : (because : Refused) → Reads (Err because) → (end : W)
@@ -279,26 +157,20 @@ module _ {I A R W : Type 0} (j : Judging) (g : Items A RecordCause) (held_of : A
       -- All records have come.
       pub streamed : Reads (Ok None) → (end : W) (result : Result (Unit {0}) Refused)
           → Flushes sink writer end (Ok tt) result → Answer after end result
-      streamed read end result (inl done) =
+      streamed read =
           let all = whole.accepts_all j g held_of facts stands source start reader
           records values was.going new after read in
-          subst (Answer after end) (sym done.0) (record {
-            text = text values;
-            accepts = record {
-              whole = all.whole;
-              came = record {
-                came = all.came.came;
-                counted = all.came.counted;
-                has_length = all.within;
-                stopped = all.came.paused;
-              };
-              gives = promised all.whole values all.accepted;
+          ends.streamed j Gives Promises source sink start before after writer read.stop
+          records.number (text values) (to (Ok None) read) was.written (record {
+            whole = all.whole;
+            came = record {
+              came = all.came.came;
+              counted = all.came.counted;
+              has_length = all.within;
+              stopped = all.came.paused;
             };
-            written = flushed (Ok None) read end done.1;
+            gives = promised all.whole values all.accepted;
           })
-      streamed read end result (inr failed) =
-          subst (Answer after end) (sym failed.0)
-          (failed_to_flush (Ok None) read end failed.1)
 
       -- A record has come.
       module _ (held : A) (read : Reads (Ok (Some held))) where
@@ -332,32 +204,21 @@ module _ {I A R W : Type 0} (j : Judging) (g : Items A RecordCause) (held_of : A
           pub failed_to_write : (end : W) → FrontWritten sink writer end longer
               → HasFailedToWrite j Gives Promises source sink start
               after before end
-          failed_to_write end front = record {
-            number = records.number;
-            stop = read.stop;
-            text = text values;
-            to = to (Ok (Some held)) read;
-            next = longer;
-            is_next = inr (
-              record {
-                values = values ++ value ∷ [];
-                front = next.front;
-                rest = new.pieces.unread;
-                split = next.came;
-                accepted = next.accepted;
-                is_number =
-                    (let is = behind.number_is in omega (arith, is, length_push values value));
-              },
-              subst (Gives next.front) text_is (gives next.front (values ++ value ∷ [])
-                  next.accepted),
-            );
-            count = front.count;
-            within = front.within;
-            written = Appends-trans _ _ _ _ _ was.written.appended front.appended;
-            awaits = some_of_both sink.unflushed before writer end (length (text values))
-                front.count was.written.awaits front.awaits;
-            failure = let none = was.written.no_failure in front.failure ∙ ap (λ n. n + 1) none;
-          }
+          failed_to_write =
+              ends.failed_to_write j Gives Promises source sink start before after writer read.stop
+              records.number (text values) (to (Ok (Some held)) read) was.written longer (inr (
+                record {
+                  values = values ++ value ∷ [];
+                  front = next.front;
+                  rest = new.pieces.unread;
+                  split = next.came;
+                  accepted = next.accepted;
+                  is_number =
+                      (let is = behind.number_is in omega (arith, is, length_push values value));
+                },
+                subst (Gives next.front) text_is (gives next.front (values ++ value ∷ [])
+                    next.accepted),
+              ))
 
         pub fewer : (new.pieces.limit - new.pieces.taken) + length new.pieces.unread
             < (records.pieces.limit - records.pieces.taken) + length records.pieces.unread

@@ -1,5 +1,5 @@
 -- What an engine keeps that judges a recording record by record, as its bytes come.
-use Rattle.std.proofs.Common.{◌≡◌, ℕ, ℤ, ◌+◌, ◌-◌, ◌<◌, ◌≤◌, ◌^◌, true, false, Ok, Bool, List, []}
+use Rattle.std.proofs.Common.{◌≡◌, ℕ, ℤ, ◌+◌, ◌≤◌, true, false, Ok, Bool, List, []}
 use Rattle.std.proofs.Common.{◌∷◌, ◌++◌, length, Option, Some, None, refl, ◌∙◌, ap, arith}
 use Rattle.std.proofs.Common.{append_assoc, length-append}
 use Rattle.std.proofs.lemmas.List.{length_push}
@@ -14,7 +14,6 @@ use Rattle.dap_normal.specs.declared.normal_records.NormalRecords.{NormalRecords
 use Rattle.dap_input.specs.declared.refused.Refused.{Refused}
 use Rattle.dap_normal.specs.Accepting.{accepting, text}
 use Rattle.dap_input.specs.Inputs.{AcceptedBefore, Input}
-use Rattle.dap_input.specs.Limits.{AreSound}
 use Rattle.dap_normal.specs.NormalSteps.{HasEnded, HasGone, HasNext, HasStoppedAt, StandsBefore}
 use Rattle.dap_input.specs.ReadTo.{IsReadTo, so_far}
 use Rattle.dap_normal.specs.Streaming.{HasComeTo, RefusesNext}
@@ -60,33 +59,6 @@ module _ {T R : Type 0} {numbers : T → List ℤ} {table_limit : T → ℕ} (so
 
   module _ (start reader : R) (records : NormalRecords T)
       (was : Going numbers table_limit source limits start reader records) where
-    taken_within : length was.bytes ≤ limits.input
-    taken_within = let taken = was.stands.taken in let limit = was.stands.limit_is in let within =
-        was.stands.between.within in omega (arith, taken, limit, within)
-
-    front_within : length was.stands.front ≤ length was.bytes
-    front_within = let came =
-        was.stands.came in omega
-        (arith, ap length came, length-append was.stands.front records.records.pieces.unread)
-
-    -- There are fewer records than bytes may be.
-    pub small_number : AreSound limits → records.records.number < 2 ^ 63
-    small_number sound = let few = was.stands.few in let most =
-        sound.input in omega (arith, few, most, taken_within, front_within)
-
-    pub small_count : AreSound limits → source.given start < 2 ^ 62
-        → source.given reader + (records.records.pieces.limit - records.records.pieces.taken)
-        < 2 ^ 63
-    small_count sound small =
-        let most = sound.input in
-        let came = was.came.counted in
-        let taken = was.stands.taken in
-        let limit = was.stands.limit_is in
-        omega (arith, small, most, came, taken, limit, taken_within)
-
-    pub few_failures : source.failures start < 2 ^ 62 → source.failures reader < 2 ^ 63
-    few_failures small = let same = was.came.paused in omega (arith, small, same)
-
     -- ---- one more record
 
     abbrev pub on : (new : NormalRecords T) (after : R) (before longer : List ℕ)

@@ -1,5 +1,5 @@
 use Rattle.std.proofs.Common.{◌∙◌, sym}
-use Rattle.dap_input.proofs.Streams.{all_written, front_written}
+use Rattle.dap_input.proofs.StreamEnds.{all_written, front_written}
 use Rattle.dap_mask_input.proofs.MaskingLoop.{all_masked, failed_to_write}
 use Rattle.dap_mask_input.proofs.MaskingLoop.{fewer, none_read, not_masked, not_read}
 use Rattle.dap_mask_input.proofs.MaskingLoop.{written_on}

@@ -1,22 +1,17 @@
-use Rattle.std.proofs.Common.{refl, sym, ◌∙◌, subst}
-use Rattle.std.proofs.KnownBytes.{Appends-nil}
+use Rattle.std.proofs.Common.{sym, ◌∙◌, subst}
 use Rattle.dap_device.specs.Written.{AllWritten, FrontWritten}
-use Rattle.dap_device.proofs.Sending.{nothing_awaits}
+use Rattle.dap_input.proofs.StreamEnds.{all_written, front_written, nothing_written}
 use Rattle.dap_normal.proofs.StreamAnswers.{ended, gone}
 use Rattle.dap_normal.proofs.StreamLoop.{all_taken, at_start, few_taken, gone_taken, on}
-use Rattle.dap_normal.proofs.StreamWriting.{all_written, failed_to_write, front_written}
-use Rattle.dap_normal.proofs.StreamWriting.{given_up_at, has_refused, has_streamed, written_on}
+use Rattle.dap_normal.proofs.StreamWriting.{failed_to_write, given_up_at, has_refused}
+use Rattle.dap_normal.proofs.StreamWriting.{has_streamed, written_on}
 use Rattle.dap_normal.proofs.normalising.write_records.Goals as goal
 
 pub loop-writer-init : goal.loop-writer-init
 loop-writer-init g c = record {
   going = at_start g.R.Source c.args.limits
       c.args.reader.now c.args.records.now c.requires.stands;
-  written = record {
-    appended = Appends-nil (g.W.Sink.out c.args.writer.now);
-    awaits = nothing_awaits g.W.Sink.unflushed c.args.writer.now c.args.writer.now refl;
-    no_failure = refl;
-  };
+  written = nothing_written g.W.Sink c.args.writer.now;
 }
 
 pub loop-writer-smaller : goal.loop-writer-smaller

@@ -1,0 +1,192 @@
+-- What an engine answers that writes the text of each record once it is judged, where it goes no
+-- further: whatever it keeps of the records, their text went out.
+use Rattle.std.proofs.Common.{◌≡◌, ◌≢◌, inl, inr, ℕ, ◌+◌, true, false, List, [], length, Option}
+use Rattle.std.proofs.Common.{Some, None, Result, Ok, Err, refl, sym, ◌∙◌, ap, subst, arith}
+use Rattle.std.proofs.Common.{append-nil}
+use Rattle.std.proofs.lemmas.Bool.{true≢false}
+use Rattle.std.specs.Prelude.{is_err}
+use Rattle.std.specs.Io.KnownBytes.{Appends}
+use Rattle.std.proofs.KnownBytes.{Appends-nil, Appends-trans}
+use Rattle.dap_device.specs.declared.device.Source.{Ghosts as Source}
+use Rattle.dap_device.specs.declared.device.Sink.{Ghosts as Sink}
+use Rattle.dap_device.specs.Device.{HasFlushedAll, HasTakenNothing}
+use Rattle.dap_device.specs.Written.{AllSent, AllWritten, FrontWritten, HasWrittenAll}
+use Rattle.dap_device.specs.declared.device.DeviceFault.{DeviceFault}
+use Rattle.dap_device.specs.declared.reading.Stop.{Stop}
+use Rattle.dap_device.specs.declared.reading.Stop.TheVariants.{End}
+use Rattle.dap_device.proofs.Sending.{kept, nothing_awaits, some_of_both}
+use Rattle.dap_recording.specs.declared.record_fault.RecordCause.TheVariants.{Cut}
+use Rattle.dap_input.specs.Engine.{Accepts}
+use Rattle.dap_input.specs.InputSteps.{Says}
+use Rattle.dap_input.specs.Judging.{Judging}
+use Rattle.dap_input.specs.Streaming.{AnswersRefusal, Flushes, HasComeTo, HasFailedToWrite}
+use Rattle.dap_input.specs.Streaming.{HasGivenUp, IsNextText, Streams}
+use Rattle.dap_input.specs.declared.refused.Refused.{Refused}
+use Rattle.dap_input.specs.declared.refused.Refused.TheVariants.{Record, WriteFault, Memory}
+use Rattle.dap_input.proofs.Coming.{nothing_came}
+use Rattle.dap_input.proofs.Refusals.{untold}
+
+-- What a text that was sent out made of the writer.
+pub all_written : {W U : Type 0} (sink : Sink W) (old new : W) (answer : Result U DeviceFault)
+    (bytes : List ℕ) → HasWrittenAll sink old new answer bytes → is_err answer ≡ false
+    → AllWritten sink old new bytes
+all_written sink old new (Ok done) bytes sent none = sent
+all_written sink old new (Err fault) bytes sent none = absurd (true≢false none)
+
+pub front_written : {W U : Type 0} (sink : Sink W) (old new : W) (answer : Result U DeviceFault)
+    (bytes : List ℕ) → HasWrittenAll sink old new answer bytes → is_err answer ≡ true
+    → FrontWritten sink old new bytes
+front_written sink old new (Ok done) bytes sent some = absurd (true≢false (sym some))
+front_written sink old new (Err fault) bytes sent some = sent
+
+pub nothing_written : {W : Type 0} (sink : Sink W) (before : W) → AllWritten sink before before []
+nothing_written sink before = record {
+  appended = Appends-nil (sink.out before);
+  awaits = nothing_awaits sink.unflushed before before refl;
+  no_failure = refl;
+}
+
+module _ {R W : Type 0} (j : Judging) (Gives Promises : List ℕ → List ℕ → Type 0)
+    (source : Source R) (sink : Sink W) (start : R) (before : W) where
+  -- Nothing has been read or written.
+  pub given_up : j.IsAccepted [] [] → Gives [] []
+      → HasGivenUp j Gives Promises source sink start start before before
+  given_up accepted gives = record {
+    number = 1;
+    stop = None;
+    text = [];
+    to = record {
+      bytes = [];
+      came = nothing_came source start;
+      read_to = record { before = []; last = []; split = refl; few = omega arith; ends = inl refl };
+      before = record {
+        values = [];
+        front = [];
+        rest = [];
+        split = refl;
+        accepted = accepted;
+        is_number = omega arith;
+      };
+      gives = gives;
+    };
+    written = nothing_written sink before;
+  }
+
+  -- So much has come, and the text of the records before this one went out.
+  module _ (after : R) (writer : W) (stop : Option Stop) (number : ℕ) (text : List ℕ)
+      (to : HasComeTo j Gives source start after stop number text)
+      (written : AllWritten sink before writer text) where
+    abbrev pub Answer : W → Result (Unit {0}) Refused → Type 0
+    Answer end answer = Streams j Gives Promises source sink start after before end answer
+
+    pub given_up_at : HasGivenUp j Gives Promises source sink start after before writer
+    given_up_at = record {
+      number = number;
+      stop = stop;
+      text = text;
+      to = to;
+      written = written;
+    }
+
+    -- a write that fails
+    pub failed_to_write : (next : List ℕ)
+        → IsNextText j Gives Promises source sink to.bytes stop number text next → (end : W)
+        → FrontWritten sink writer end next
+        → HasFailedToWrite j Gives Promises source sink start after before end
+    failed_to_write next is_next end front = record {
+      number = number;
+      stop = stop;
+      text = text;
+      to = to;
+      next = next;
+      is_next = is_next;
+      count = front.count;
+      within = front.within;
+      written = Appends-trans _ _ _ _ _ written.appended front.appended;
+      awaits = some_of_both sink.unflushed before writer end (length text) front.count
+          written.awaits front.awaits;
+      failure = front.failure ∙ ap (λ n. n + 1) written.no_failure;
+    }
+
+    -- a flush that fails
+    failed_to_flush : (end : W)
+        → HasTakenNothing sink.out sink.unflushed sink.failures writer end
+        → HasFailedToWrite j Gives Promises source sink start after before end
+    failed_to_flush end nothing = record {
+      number = number;
+      stop = stop;
+      text = text;
+      to = to;
+      next = [];
+      is_next = inl refl;
+      count = 0;
+      within = omega arith;
+      written = subst (Appends (sink.out before) (sink.out end)) (sym (append-nil text))
+          (kept (sink.out before) (sink.out writer) (sink.out end) text written.appended
+          nothing.kept);
+      awaits = some_of_both sink.unflushed before writer end (length text) 0 written.awaits
+          (nothing_awaits sink.unflushed writer end nothing.awaits);
+      failure = nothing.failure ∙ ap (λ n. n + 1) written.no_failure;
+    }
+
+    -- a flush that is done
+    flushed : (end : W) → HasFlushedAll sink.out sink.unflushed sink.failures writer end
+        → AllSent sink before end text
+    flushed end done = record {
+      appended = kept (sink.out before) (sink.out writer) (sink.out end) text written.appended
+          done.kept;
+      flushed = done.flushed;
+      no_failure = done.no_failure ∙ written.no_failure;
+    }
+
+    -- All records have come.
+    pub streamed : Accepts source j.input Promises start after text → (end : W)
+        (result : Result (Unit {0}) Refused) → Flushes sink writer end (Ok tt) result
+        → Answer end result
+    streamed accepts end result (inl done) =
+        subst (Answer end) (sym done.0)
+        (record { text = text; accepts = accepts; written = flushed end done.1 })
+    streamed accepts end result (inr failed) =
+        subst (Answer end) (sym failed.0) (failed_to_flush end failed.1)
+
+    -- This record is refused, or cannot be read.
+    abbrev pub Told : Refused → Type 0
+    Told because = Says j to.bytes stop number because
+        × ((n : ℕ) → because ≡ Record n Cut → stop ≡ Some End)
+
+    refused_for : (because : Refused) → because ≢ Memory → Told because → (end : W)
+        → HasFlushedAll sink.out sink.unflushed sink.failures writer end
+        → Answer end (Err because)
+    refused_for WriteFault other told end done =
+        absurd (untold WriteFault number told.0.fault refl (λ e. absurd (let same = e in cc))
+        told.0.tells)
+    refused_for Memory other told end done = absurd (other refl)
+    refused_for because other told end done = record {
+      text = text;
+      refuses = record {
+        number = number;
+        stop = stop;
+        to = to;
+        refuses = told.0;
+        cut = told.1;
+      };
+      written = flushed end done;
+    }
+
+    pub once_flushed : (because : Refused) → because ≢ Memory → Told because → (end : W)
+        (result : Result (Unit {0}) Refused) → Flushes sink writer end (Err because) result
+        → Answer end result
+    once_flushed because other told end result (inl done) =
+        subst (Answer end) (sym done.0) (refused_for because other told end done.1)
+    once_flushed because other told end result (inr failed) =
+        subst (Answer end) (sym failed.0) (failed_to_flush end failed.1)
+
+    pub refused : (because : Refused) → Told because → (end : W)
+        (result : Result (Unit {0}) Refused) → AnswersRefusal sink writer end because result
+        → Answer end result
+    refused Memory told end result (is, same) =
+        subst (Answer end) (sym is)
+        (subst (HasGivenUp j Gives Promises source sink start after before) (sym same)
+        given_up_at)
+    refused because told end result given =
+        once_flushed because (λ same. absurd (let e = same in cc)) told end result given
