@@ -51,6 +51,7 @@ def main():
             ("recordings of fresh runs masked", "masks.py"),
             ("recordings shown", "showing.py"),
             ("growths of memory refused in turn", "fault_injection.py"),
+            ("hostile inputs and failing devices", "hostile.py"),
             ("the examples", "examples.py"),
             ("the man page, completions and installation", "manual.py"),
             ("the packages", "package.py"),

@@ -1,31 +1,23 @@
-"""Runs the built tests and the program under the shim that refuses growths of memory."""
+"""Runs the built tests and the program under the shim that refuses growths of memory, each in turn."""
 import glob
 import os
+import re
 import subprocess
 import sys
 import tempfile
 
-from report import PROGRAM, TOP, Report, run, toolchain
+from faulty import Faulty, side_by_side
+from report import PROGRAM, TOP, Report
+from worked_runs import Run, all_runs
 
-FRAME = b'Content-Length: 15\r\n\r\n{ "b":1,"a":2 }'
-CANONICAL = b'Content-Length: 13\r\n\r\n{"a":2,"b":1}'
-REQUEST = b'{"arguments":{"adapterID":"mock"},"command":"initialize","seq":1,"type":"request"}'
-RECORD = b">Content-Length: %d\r\n\r\n%s\n" % (len(REQUEST), REQUEST)
-TRACE = b">%d\n%s" % (len(RECORD) - 2, RECORD[1:-1])
-
-
-def build_shim(folder):
-    kit = toolchain()
-    shim = os.path.join(folder, "fault_injection.so")
-    subprocess.run(
-        [
-            os.path.join(kit, "toolchain", "bin", "clang"), "--target=x86_64-unknown-linux-gnu", "-O2", "-shared",
-            "-fPIC", "-nostdlib", "-fuse-ld=" + os.path.join(kit, "toolchain", "bin", "ld.lld"),
-            "-o", shim, os.path.join(TOP, "tests", "fault_injection.c"),
-        ],
-        check=True,
-    )
-    return shim
+# Runs that are counted from the start of the program on: one of each command, and command lines that name no job.
+FROM_THE_START = {
+    "compact of a loose frame", "record of two sides", "check of a configuration", "normalise of a configuration", "show of frames",
+    "mask rules of a configuration", "compare a b of frames exchanged",
+}
+WORDS = [[], ["--help"], ["--version"], ["check", "--all"], ["rows"], ["rows", "62"], ["rows", "0"]]
+WRITE_RECORDS = ("normalise", "mask")
+MEMORY = b"dapnorm: out of memory\n"
 
 
 def run_tests(report, shim):
@@ -43,36 +35,60 @@ def run_tests(report, shim):
     report.check("some tests ask for refused growths", found > 0)
 
 
-def run_program(report, shim, arguments, given, wanted):
-    """The program with its first growth refused, then its second, and so on until it meets none."""
-    for turn in range(1, 1000):
-        environment = {"LD_PRELOAD": shim, "FAULT_INJECTION_TURN": str(turn)}
-        answer = run(arguments, given, environment)
-        if answer == (0, wanted, b""):
-            # It managed without that growth, or met none: it met none where two more turns change nothing.
-            later = [run(arguments, given, {**environment, "FAULT_INJECTION_TURN": str(turn + more)}) for more in (1, 2, 3, 40)]
-            if all(other == answer for other in later):
-                report.check(f"some growths of {arguments[0]} were refused", turn > 10, f"only {turn - 1}")
-                return
-        else:
-            report.check(f"{arguments[0]} with growth {turn} refused", answer == (5, b"", b"dapnorm: out of memory\n"), repr(answer))
-    report.check(f"{arguments[0]} meets no growth after the last", False)
+def fronts(run):
+    """What may have been written where memory is wanting: some leading records of what is written, or nothing."""
+    text = run.answer[1] if run.arguments[:1] and run.arguments[0] in WRITE_RECORDS else b""
+    ends = [0]
+    while ends[-1] < len(text):
+        header = re.compile(rb"[<>]Content-Length: (\d+)\r\n\r\n").match(text, ends[-1])
+        ends.append(header.end() + int(header[1]) + 1)
+    return [text[:end] for end in ends]
+
+
+def each_turn(faulty, run, **asked):
+    """A run with its first growth refused, then its second, and so on until it meets none: how many were, and what was answered wrongly."""
+    wanted, wrong = [(5, front, MEMORY) for front in fronts(run)], []
+    for turn in range(1, 10_000):
+        answer, is_refused = faulty.run_refused(run, turn, **asked)
+        if answer != run.answer and not (is_refused and answer in wanted):
+            wrong.append(f"growth {turn}: {answer!r}")
+        if not is_refused:
+            return turn - 1, wrong
+    return turn, [*wrong, "it meets no growth after the last"]
+
+
+def turned_runs(faulty):
+    """Each worked run whose growths are not those of another, and the command lines that name no job."""
+    runs = [run for run in all_runs() if run.arguments != ["check", "--complete"] and not run.name.endswith(", normal")]
+    for words in WORDS:
+        run = Run(f"the words {words}", words, b"", {}, None)
+        runs.append(run._replace(answer=faulty.run(run)))
+    return runs
+
+
+def worked(report, faulty):
+    """Each of these runs; the growths of most are counted from the first read on."""
+    runs = turned_runs(faulty)
+    report.check("the runs that are counted from the start are there", FROM_THE_START <= {run.name for run in runs})
+    whole = [run.name in FROM_THE_START or run.arguments in WORDS for run in runs]
+    found = side_by_side(lambda case: each_turn(faulty, case[0], **({} if case[1] else {"from_read": 1})), list(zip(runs, whole)))
+    for run, is_whole, (count, wrong) in zip(runs, whole, found):
+        report.check(f"{run.name} with each growth refused in turn", not wrong, "; ".join(wrong[:3]))
+        if is_whole:
+            report.check(f"some growths of {run.name} were refused", count > 10, str(count))
+    total = sum(count for count, _ in found)
+    report.check("growths were refused behind the start too", total > 5_000, str(total))
+    print(f"{total} growths refused in {len(runs)} runs", flush=True)
 
 
 def main():
     report = Report()
+    if not report.check("the gate has built the program", os.access(PROGRAM, os.X_OK)):
+        return report.close()
     with tempfile.TemporaryDirectory() as folder:
-        shim = build_shim(folder)
-        run_tests(report, shim)
-        run_program(report, shim, ["compact"], FRAME, CANONICAL)
-        run_program(report, shim, ["check"], RECORD, b"accepted records=1 open=1,0\n")
-        run_program(report, shim, ["normalise"], RECORD, RECORD)
-        run_program(report, shim, ["record"], TRACE, RECORD)
-        run_program(report, shim, ["show"], RECORD, b'1 > request "initialize" seq=1\n')
-        path = os.path.join(folder, "recording")
-        with open(path, "wb") as file:
-            file.write(RECORD)
-        run_program(report, shim, ["compare", path, path], b"", b"same\nclient-seq 1 1\n")
+        faulty = Faulty(folder)
+        run_tests(report, faulty.shim)
+        worked(report, faulty)
     return report.close()
 
 

@@ -61,41 +61,12 @@ def check_a_session(report):
     report.check("check tells open requests", answer == (2, b"", b"dapnorm: incomplete: 1 client, 0 adapter\n"), repr(answer))
     answer = run(["check"], first + first)
     report.check("check tells a broken rule", answer == (2, b"", b"dapnorm: record 2: StillInitializing\n"), repr(answer))
-    with open("/dev/full", "wb") as full:
-        ran = subprocess.run([PROGRAM, "check"], input=session, stdout=full, stderr=subprocess.PIPE)
-    report.check("a full device is a write fault of check", (ran.returncode, ran.stderr) == (4, b"dapnorm: write fault\n"), repr(ran))
 
 
 def streams(report):
     """The program over the operating system's own streams."""
     closed = subprocess.run([PROGRAM, "compact"], stdin=subprocess.DEVNULL, stdout=subprocess.PIPE, stderr=subprocess.PIPE)
     report.check("an empty input gives an empty output", (closed.returncode, closed.stdout, closed.stderr) == (0, b"", b""))
-    with open("/dev/full", "wb") as full:
-        ran = subprocess.run([PROGRAM, "compact"], input=read("debugpy-adapter.frames"), stdout=full, stderr=subprocess.PIPE)
-    report.check("a full device is a write fault", (ran.returncode, ran.stderr) == (4, b"dapnorm: write fault\n"), repr(ran))
-    folder = os.open(EXAMPLES, os.O_RDONLY)
-    ran = subprocess.run([PROGRAM, "compact"], stdin=folder, capture_output=True)
-    os.close(folder)
-    report.check("a folder is a read fault", (ran.returncode, ran.stdout, ran.stderr) == (4, b"", b"dapnorm: read fault\n"), repr(ran))
-
-
-def closed_streams(report):
-    """Standard streams that are closed, and a pipe that nobody reads."""
-    frames = os.path.join(EXAMPLES, "debugpy-adapter.frames")
-    for closed, wanted in [
-        ("<&-", (4, b"", b"dapnorm: read fault\n")),
-        (">&-", (4, b"", b"dapnorm: write fault\n")),
-        ("2>&-", (0, read("debugpy-adapter.compact"), b"")),
-    ]:
-        command = f'exec "$0" compact < "$1" {closed}'
-        ran = subprocess.run(["sh", "-c", command, PROGRAM, frames], capture_output=True)
-        answer = (ran.returncode, ran.stdout, ran.stderr)
-        report.check(f"compact with {closed}", answer == wanted, repr((ran.returncode, ran.stderr)))
-    unread, written = os.pipe()
-    os.close(unread)
-    ran = subprocess.run([PROGRAM, "compact"], input=read("debugpy-adapter.frames"), stdout=written, stderr=subprocess.PIPE)
-    os.close(written)
-    report.check("a pipe that nobody reads is a write fault", (ran.returncode, ran.stderr) == (4, b"dapnorm: write fault\n"), repr(ran))
 
 
 def arguments_that_are_no_text(report):
@@ -158,7 +129,6 @@ def main():
     compact_an_adapter(report)
     check_a_session(report)
     streams(report)
-    closed_streams(report)
     arguments_that_are_no_text(report)
     usage(report)
     rows(report)

@@ -1,0 +1,333 @@
+"""Worked runs of each command: sessions, frames and traces written out by hand, and what the program makes of each by its rules. No answer
+here comes from the program."""
+import os
+import sys
+from typing import NamedTuple
+
+from report import TOP
+
+sys.path.insert(0, os.path.join(TOP, "scripts"))
+from normalise_reference import CAPABILITIES
+
+
+class Run(NamedTuple):
+    """The words of a command, its input, the files that it names, and its status, output and errors."""
+    name: str
+    arguments: list
+    given: bytes
+    files: dict
+    answer: tuple
+
+
+def frame(content):
+    return b"Content-Length: %d\r\n\r\n%s" % (len(content.encode()), content.encode())
+
+
+def record(line):
+    """The record of a line: a marker and a content."""
+    return line[:1].encode() + frame(line[1:]) + b"\n"
+
+
+def recording(lines):
+    return b"".join(map(record, lines))
+
+
+def refusal(text):
+    return f"dapnorm: {text}\n".encode()
+
+
+FALSE = ",".join(f'"{name}":false' for name in CAPABILITIES)
+INITIALIZE = '>{"arguments":{"adapterID":"mock"},"command":"initialize","seq":1,"type":"request"}'
+RESPONSE = '<{"command":"initialize","request_seq":1,"seq":1,"success":true,"type":"response"}'
+FILLED = '<{"body":{%s},"command":"initialize","request_seq":1,"seq":1,"success":true,"type":"response"}' % FALSE
+INITIALIZED = '<{"event":"initialized","seq":2,"type":"event"}'
+DONE = '>{"command":"configurationDone","seq":2,"type":"request"}'
+DONE_RESPONSE = '<{"command":"configurationDone","request_seq":2,"seq":3,"success":true,"type":"response"}'
+THREADS = '>{"command":"threads","seq":2,"type":"request"}'
+STACK = '>{"arguments":{"threadId":1},"command":"stackTrace","seq":2,"type":"request"}'
+FRAMES = (
+    '<{"body":{"stackFrames":[{"column":1,"id":%d,"line":3,"name":"f"},{"column":1,"id":%d,"line":9,"name":"g"}]},'
+    '"command":"stackTrace","request_seq":2,"seq":2,"success":true,"type":"response"}'
+)
+FRAME = (
+    '<{"body":{"stackFrames":[{"column":1,"id":%d,"line":3,"name":"f"}]},"command":"stackTrace","request_seq":%d,"seq":%d,'
+    '"success":true,"type":"response"}'
+)
+STOPPED = '<{"body":{"reason":"step"},"event":"stopped","seq":2,"type":"event"}'
+OUTPUT = '<{"body":{"output":"hi"},"event":"output","seq":1,"type":"event"}'
+VARIABLES = '>{"arguments":{"variablesReference":%d},"command":"variables","seq":2,"type":"request"}'
+LISTED = (
+    '<{"body":{"variables":[{"name":"a","value":"1","variablesReference":0},{"name":"b","value":"1","variablesReference":%d},'
+    '{"name":"c","value":"1","variablesReference":0},{"name":"d","value":"1","variablesReference":%d},'
+    '{"name":"e","value":"1","variablesReference":%d}]},"command":"variables","request_seq":2,"seq":2,"success":true,"type":"response"}'
+)
+EVALUATE = '>{"arguments":{"expression":"x","frameId":%d},"command":"evaluate","seq":2,"type":"request"}'
+RESULT = '<{"body":{"result":"1","variablesReference":%d},"command":"evaluate","request_seq":2,"seq":2,"success":true,"type":"response"}'
+CANCEL = '>{"arguments":{"requestId":%d},"command":"cancel","seq":%d,"type":"request"}'
+CAPABILITY = '<{"body":{"capabilities":{"supportsStepBack":true}},"event":"capabilities","seq":2,"type":"event"}'
+NULL_CAPABILITY = (
+    '<{"body":{"supportsStepBack":null,"x":1},"command":"initialize","request_seq":1,"seq":1,"success":true,"type":"response"}'
+)
+FAILED = (
+    '<{"body":{"error":{"format":"gone","id":7}},"command":"stackTrace","message":"gone","request_seq":2,"seq":2,"success":false,'
+    '"type":"response"}'
+)
+TERMINAL = '<{"arguments":{"args":["sh"],"cwd":"/"},"command":"runInTerminal","seq":%d,"type":"request"}'
+TERMINAL_RESPONSE = '>{"command":"runInTerminal","request_seq":%d,"seq":2,"success":true,"type":"response"}'
+DISCONNECT = '>{"command":"disconnect","seq":2,"type":"request"}'
+DISCONNECTED = '<{"command":"disconnect","request_seq":2,"seq":2,"success":true,"type":"response"}'
+LAUNCH = '>{"arguments":{"x":%s},"command":"launch","seq":2,"type":"request"}'
+BREAKPOINTS = '>{"arguments":{"breakpoints":[{"line":%s}]},"command":"setBreakpoints","seq":2,"type":"request"}'
+
+BEGUN, NORMAL_BEGUN = [INITIALIZE, RESPONSE], [INITIALIZE, FILLED]
+CONFIGURED = [*BEGUN, INITIALIZED, DONE, DONE_RESPONSE]
+NORMAL_CONFIGURED = [*NORMAL_BEGUN, INITIALIZED, DONE, DONE_RESPONSE]
+
+
+def renumbered(line, **numbers):
+    """The line with other numbers of these members of its envelope."""
+    before, after = line.rsplit('"type"', 1)
+    for name, (old, new) in numbers.items():
+        wanted = f'"{name}":{old},'
+        assert before.count(wanted) == 1
+        before = before.replace(wanted, f'"{name}":{new},')
+    return f'{before}"type"{after}'
+
+
+UNNUMBERED = [
+    renumbered(INITIALIZE, seq=(1, 7)), renumbered(RESPONSE, seq=(1, 0)).replace('"request_seq":1', '"request_seq":7'),
+    renumbered(INITIALIZED, seq=(2, 0)), renumbered(DONE, seq=(2, 9)),
+    renumbered(DONE_RESPONSE, seq=(3, 0)).replace('"request_seq":2', '"request_seq":9'),
+]
+NORMAL_UNNUMBERED = [
+    *NORMAL_BEGUN, renumbered(INITIALIZED, seq=(2, 1)), DONE, renumbered(DONE_RESPONSE, seq=(3, 1)),
+]
+SECOND_STOP = [renumbered(STOPPED, seq=(2, 4)), renumbered(STACK, seq=(2, 3))]
+TWO_STOPS = [*BEGUN, STOPPED, STACK, FRAME % (1000, 2, 3), *SECOND_STOP, FRAME % (1000, 3, 5)]
+NEW_FRAME = [*TWO_STOPS[:-1], FRAME % (1002, 3, 5)]
+NORMAL_STOPS = [*NORMAL_BEGUN, STOPPED, STACK, FRAME % (1, 2, 3), *SECOND_STOP]
+
+# Sessions that are accepted: the lines, those of the normal form, and the open requests of the client and of the adapter.
+SESSIONS = {
+    "nothing": ([], [], (0, 0)),
+    "a configuration": (CONFIGURED, NORMAL_CONFIGURED, (0, 0)),
+    "an adapter that counts nothing": (UNNUMBERED, NORMAL_UNNUMBERED, (0, 0)),
+    "frames": ([*BEGUN, STACK, FRAMES % (1000, 1001)], [*NORMAL_BEGUN, STACK, FRAMES % (1, 2)], (0, 0)),
+    "frames the other way round": ([*BEGUN, STACK, FRAMES % (1001, 1000)], [*NORMAL_BEGUN, STACK, FRAMES % (1, 2)], (0, 0)),
+    "two stops": (TWO_STOPS, [*NORMAL_STOPS, FRAME % (1, 3, 5)], (0, 0)),
+    "a new frame": (NEW_FRAME, [*NORMAL_STOPS, FRAME % (2, 3, 5)], (0, 0)),
+    "variables": (
+        [*BEGUN, VARIABLES % 9, LISTED % (5, 5, 3)], [*NORMAL_BEGUN, VARIABLES % 1, LISTED % (2, 2, 3)], (0, 0),
+    ),
+    "an evaluation": ([*BEGUN, EVALUATE % 5, RESULT % 6], [*NORMAL_BEGUN, EVALUATE % 1, RESULT % 1], (0, 0)),
+    "a cancel": (
+        [*BEGUN, renumbered(THREADS, seq=(2, 40)), CANCEL % (40, 41)], [*NORMAL_BEGUN, THREADS, CANCEL % (2, 3)], (2, 0),
+    ),
+    "capabilities": ([*BEGUN, CAPABILITY], [*NORMAL_BEGUN, CAPABILITY], (0, 0)),
+    "a capability that is null": (
+        [INITIALIZE, NULL_CAPABILITY], [INITIALIZE, FILLED.replace(FALSE, FALSE + ',"x":1')], (0, 0),
+    ),
+    "a failure": ([*BEGUN, STACK, FAILED], [*NORMAL_BEGUN, STACK, FAILED], (0, 0)),
+    "output first": ([OUTPUT], [OUTPUT], (0, 0)),
+    "a request of the adapter": (
+        [*BEGUN, TERMINAL % 0, TERMINAL_RESPONSE % 0], [*NORMAL_BEGUN, TERMINAL % 2, TERMINAL_RESPONSE % 2], (0, 0),
+    ),
+    "the least number": ([renumbered(INITIALIZE, seq=(1, -2**63))], [INITIALIZE], (1, 0)),
+    "an open request": ([*BEGUN, THREADS], [*NORMAL_BEGUN, THREADS], (1, 0)),
+    "lists 125 deep": ([*BEGUN, LAUNCH % ("[" * 125 + "]" * 125)], [*NORMAL_BEGUN, LAUNCH % ("[" * 125 + "]" * 125)], (1, 0)),
+}
+
+# Lines that are refused as messages or for a rule behind others, by all that judges messages or sessions.
+REFUSED_LINES = {
+    "answered twice": (BEGUN, RESPONSE, "record 3: AnsweredTwice"),
+    "not initialized": ([], STOPPED, "record 1: NotInitialized"),
+    "an event of the client": ([], ">" + INITIALIZED[1:], "record 1: EventFromClient"),
+    "still initializing": ([INITIALIZE], THREADS, "record 2: StillInitializing"),
+    "initialized twice": (BEGUN, renumbered(INITIALIZE, seq=(1, 2)), "record 3: InitializeTwice"),
+    "a number that is used": (BEGUN, renumbered(THREADS, seq=(2, 1)), "record 3: SeqUsed"),
+    "configured early": (BEGUN, DONE, "record 3: ConfiguredEarly"),
+    "configured twice": (CONFIGURED, renumbered(DONE, seq=(2, 3)), "record 6: ConfiguredTwice"),
+    "no request": (BEGUN, RESPONSE.replace('"request_seq":1', '"request_seq":9'), "record 3: NoRequest"),
+    "another command": ([*BEGUN, THREADS], RESPONSE.replace('"request_seq":1', '"request_seq":2'), "record 4: OtherCommand"),
+    "behind the end": ([*BEGUN, DISCONNECT, DISCONNECTED], renumbered(THREADS, seq=(2, 3)), "record 5: AfterDisconnect"),
+    "no source": (BEGUN, BREAKPOINTS % "3", "record 3: Missing row 13"),
+    "no object": ([], ">[]", "record 1: NotObject"),
+    "no type": ([], ">{}", "record 1: UnknownType"),
+    "no number": ([], '>{"type":"request"}', "record 1: Missing row 1"),
+    "a number too large": ([], '>{"seq":9223372036854775808,"type":"event"}', "record 1: WrongType row 1"),
+}
+
+# Bytes that are refused behind lines, as records or contents, by all that reads recordings.
+REFUSED_BYTES = {
+    "a cut content": ([], record(INITIALIZE)[:-2], "record 1: Cut"),
+    "no line's end": ([], record(INITIALIZE)[:-1], "record 1: Cut"),
+    "a content too long": ([], b">Content-Length: 16777217\r\n\r\n", "record 1: ContentTooLong"),
+    "another marker": ([], b"!", "record 1: BadMarker"),
+    "no line end behind a frame": ([], b">" + frame("{}") + b"x", "record 1: NoLineEnd"),
+    "an exponent": (BEGUN, record(BREAKPOINTS % "1e3"), "record 3: Fraction"),
+    "lists 126 deep": (BEGUN, record(LAUNCH % ("[" * 126 + "]" * 126)), "record 3: Json"),
+    "a header too long": (
+        BEGUN, b">Content-Length: 2\r\nX:" + b"a" * 4072 + b"\r\n\r\n{}\n", "record 3: HeaderTooLong",
+    ),
+}
+
+# A mask, and what it makes of the texts above; it leaves `initialized` out.
+RULES = b"""# What the worked sessions have.
+blank  event    stopped    body.reason
+digits response variables  body.variables[].value
+blank  response evaluate   body.result
+hex    response stackTrace body.stackFrames[].name
+blank  request  launch     arguments.x   # also a fraction
+drop   event    initialized
+"""
+MASKED = {
+    '"reason":"step"': '"reason":""', '"value":"1"': '"value":"0"', '"result":"1"': '"result":""', '"x":0.5': '"x":0',
+    "[" * 125 + "]" * 125: "[]",
+}
+
+LOOSE, CANONICAL = '{ "b":1,"a":2 }', '{"a":2,"b":1}'
+DEEP = "[" * 127 + "]" * 127
+PADDED = b"Content-Length: 2\r\nX:%s\r\n\r\n{}"
+
+# Frames of one direction, and what `compact` writes of them, or why it refuses them.
+COMPACTED = {
+    "a loose frame": (frame(LOOSE), frame(CANONICAL)),
+    "a canonical frame": (frame(CANONICAL), frame(CANONICAL)),
+    "no frame": (b"", b""),
+    "fields and case": (
+        b"Content-Type: application/json\r\ncontent-length:0015\r\n\r\n" + LOOSE.encode(), frame(CANONICAL),
+    ),
+    "the largest number": (frame("18446744073709551615"), frame("18446744073709551615")),
+    "escapes": (frame(r'{"a":"\u00e9\/\u0001"}'), frame('{"a":"\u00e9/\\u0001"}')),
+    "lists 127 deep": (frame(DEEP), frame(DEEP)),
+    "the longest header": (PADDED % (b"a" * 4071), frame("{}")),
+    "minus nought": (frame("-0"), "record 1: Fraction"),
+    "a number too large": (frame("18446744073709551616"), "record 1: Fraction"),
+    "no content": (frame(""), "record 1: Json"),
+    "lists 128 deep": (frame(f"[{DEEP}]"), "record 1: Json"),
+    "a header too long": (PADDED % (b"a" * 4072), "record 1: HeaderTooLong"),
+    "no header's end": (b"a" * 4096, "record 1: HeaderTooLong"),
+    "a header cut": (b"a" * 4095, "record 1: Cut"),
+    "no colon": (b"Content-Length 5\r\n\r\n", "record 1: HeaderLine"),
+    "no length": (b"X: 1\r\n\r\n", "record 1: NoLength"),
+    "two lengths": (b"Content-Length: 2\r\nContent-Length: 2\r\n\r\n", "record 1: TwoLengths"),
+    "a sign": (b"Content-Length: +5\r\n\r\n", "record 1: BadLength"),
+    "eleven digits": (b"Content-Length: 12345678901\r\n\r\n", "record 1: BadLength"),
+}
+
+OF_ADAPTER = b"<25\n" + frame("null")
+TRACE = b">10\nContent-Le" + OF_ADAPTER + b">12\nngth: 2\r\n\r\n{>1\n}"
+FIRST_RECORD = record("<null")
+RECORDED = FIRST_RECORD + record(">{}")
+
+# Traces: what is recorded of each, and why it is refused.
+TRACES = {
+    "two sides": (TRACE, RECORDED, None),
+    "nothing": (b"", b"", None),
+    "a nought in front": (b">01\n", b"", "piece 1: BadCount"),
+    "another marker": (b"x", b"", "piece 1: BadMarker"),
+    "a cut piece": (b">10\nCont", b"", "piece 1: Cut"),
+    "a cut frame": (OF_ADAPTER + b">10\nContent-Le", FIRST_RECORD, "piece 2: client Cut"),
+}
+
+# Two recordings, and what `compare` prints or tells of them.
+FRAME_PAIRS = b"same\nclient-seq 1 1\nclient-seq 2 2\nadapter-seq 1 1\nadapter-seq 2 2\nframe 1000 1001\nframe 1001 1000\n"
+FRAMES_LINES, EXCHANGED_LINES = SESSIONS["frames"][0], SESSIONS["frames the other way round"][0]
+TWICE = recording([*BEGUN, RESPONSE])
+COMPARED = {
+    "nothing": (b"", b"", (0, b"same\n", b"")),
+    "other numbers": (recording(CONFIGURED), recording(UNNUMBERED), (1, b"differ 3\n", b"")),
+    "frames exchanged": (recording(FRAMES_LINES), recording(EXCHANGED_LINES), (0, FRAME_PAIRS, b"")),
+    "a stale frame": (recording(TWO_STOPS), recording(NEW_FRAME), (1, b"differ 8\n", b"")),
+    "an end": (recording(CONFIGURED), recording(CONFIGURED[:4]), (1, b"differ 5\n", b"")),
+    "a refusal of the first": (TWICE, recording(CONFIGURED), (2, b"", refusal("A: record 3: AnsweredTwice"))),
+    "a refusal of the second": (recording(CONFIGURED), TWICE, (2, b"", refusal("B: record 3: AnsweredTwice"))),
+    "a fault behind a difference": (
+        recording(CONFIGURED), recording(UNNUMBERED[:4]) + b"!", (1, b"differ 3\n", b""),
+    ),
+}
+
+SHOWN_BEGUN = '1 > request "initialize" seq=1\n2 < response "initialize" seq=1 request_seq=1 ok\n'
+SHOWN_STACK = SHOWN_BEGUN + '3 > request "stackTrace" seq=2\n4 < response "stackTrace" seq=2 request_seq=2 '
+
+# What `show` prints of sessions above.
+SHOWN = {
+    "frames": SHOWN_STACK + 'ok\n  frame 1000 3:1 "f"\n  frame 1001 9:1 "g"\n',
+    "a failure": SHOWN_STACK + "failed\n",
+    "variables": SHOWN_BEGUN + '3 > request "variables" seq=2\n4 < response "variables" seq=2 request_seq=2 ok\n'
+    '  variable 0 "a" "1"\n  variable 5 "b" "1"\n  variable 0 "c" "1"\n  variable 5 "d" "1"\n  variable 3 "e" "1"\n',
+    "output first": '1 < event "output" seq=1\n',
+    "nothing": "",
+}
+
+
+def masked(lines):
+    """The lines that the mask leaves."""
+    left = []
+    for line in lines:
+        for old, new in MASKED.items():
+            line = line.replace(old, new)
+        if '"event":"initialized"' not in line:
+            left.append(line)
+    return left
+
+
+def normal_of(lines):
+    """The normal form of lines that begin sessions and are numbered as there."""
+    return [FILLED if line == RESPONSE else line for line in lines]
+
+
+def stream(name, command, given, answer, files=None):
+    return Run(f"{' '.join(command)} of {name}", command, given, files or {}, answer)
+
+
+def of_mask(name, given, answer):
+    return stream(name, ["mask", "rules"], given, answer, {"rules": RULES})
+
+
+def of_sessions():
+    for name, (lines, normal, (client, adapter)) in SESSIONS.items():
+        given, text = recording(lines), recording(normal)
+        told = b"accepted records=%d open=%d,%d\n" % (len(lines), client, adapter)
+        whole = (0, told, b"") if client + adapter == 0 else (2, b"", refusal(f"incomplete: {client} client, {adapter} adapter"))
+        yield stream(name, ["normalise"], given, (0, text, b""))
+        yield stream(f"{name}, normal", ["normalise"], text, (0, text, b""))
+        yield stream(name, ["check"], given, (0, told, b""))
+        yield stream(name, ["check", "--complete"], given, whole)
+        yield of_mask(name, given, (0, recording(masked(lines)), b""))
+    for name, shown in SHOWN.items():
+        yield stream(name, ["show"], recording(SESSIONS[name][0]), (0, shown.encode(), b""))
+    fraction = [*BEGUN, LAUNCH % "0.5"]
+    yield stream("a fraction", ["check"], recording(fraction), (2, b"", refusal("record 3: Fraction")))
+    yield of_mask("a fraction", recording(fraction), (0, recording(masked(fraction)), b""))
+
+
+def of_refusals():
+    for name, (lines, line, told) in REFUSED_LINES.items():
+        given = recording([*lines, line])
+        yield stream(name, ["normalise"], given, (2, recording(normal_of(lines)), refusal(told)))
+        yield stream(name, ["check"], given, (2, b"", refusal(told)))
+        yield of_mask(name, given, (0, recording(masked([*lines, line])), b""))
+    for name, (lines, rest, told) in REFUSED_BYTES.items():
+        given = recording(lines) + rest
+        yield stream(name, ["normalise"], given, (2, recording(normal_of(lines)), refusal(told)))
+        yield stream(name, ["check"], given, (2, b"", refusal(told)))
+        yield stream(name, ["show"], given, (2, b"", refusal(told)))
+        yield of_mask(name, given, (2, recording(masked(lines)), refusal(told)))
+
+
+def of_others():
+    for name, (given, wanted) in COMPACTED.items():
+        answer = (0, wanted, b"") if isinstance(wanted, bytes) else (2, b"", refusal(wanted))
+        yield stream(name, ["compact"], given, answer)
+    for name, (given, written, told) in TRACES.items():
+        yield stream(name, ["record"], given, (0, written, b"") if told is None else (2, written, refusal(told)))
+    for name, (a, b, answer) in COMPARED.items():
+        yield stream(name, ["compare", "a", "b"], b"", answer, {"a": a, "b": b})
+
+
+def all_runs():
+    """Each run, by its name."""
+    runs = [*of_sessions(), *of_refusals(), *of_others()]
+    assert len({run.name for run in runs}) == len(runs)
+    return runs
