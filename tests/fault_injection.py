@@ -67,11 +67,11 @@ def turned_runs(faulty):
 
 
 def worked(report, faulty):
-    """Each of these runs; the growths of most are counted from the first read on."""
+    """Each of these runs; those of most come a byte at a time, and their growths are counted from the first read on."""
     runs = turned_runs(faulty)
     report.check("the runs that are counted from the start are there", FROM_THE_START <= {run.name for run in runs})
     whole = [run.name in FROM_THE_START or run.arguments in WORDS for run in runs]
-    found = side_by_side(lambda case: each_turn(faulty, case[0], **({} if case[1] else {"from_read": 1})), list(zip(runs, whole)))
+    found = side_by_side(lambda case: each_turn(faulty, case[0], **({} if case[1] else {"from_read": 1, "read": 1})), list(zip(runs, whole)))
     for run, is_whole, (count, wrong) in zip(runs, whole, found):
         report.check(f"{run.name} with each growth refused in turn", not wrong, "; ".join(wrong[:3]))
         if is_whole:
