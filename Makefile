@@ -51,6 +51,7 @@ try: need-python $(if $(wildcard bin/dapnorm),,need-rt)
 bench: bin/dapnorm need-python
 	@echo "Measures each command on generated input, beside short Python scripts: some minutes."
 	@python3 scripts/bench.py
+	@python3 scripts/costs.py
 
 # PROGRAM may name a program that is built already. The folders of completions are those that the shells look into.
 install: $(PROGRAM)
