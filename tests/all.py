@@ -56,6 +56,7 @@ def main():
             ("the man page, completions and installation", "manual.py"),
             ("the packages", "package.py"),
             ("what the documents name", "documents.py"),
+            ("the tests that are listed", "listed.py"),
             ("the document of the profile", "profile.py"),
         ]:
             more_passed, more_failed = counted(name, [sys.executable, os.path.join(tests, script)])

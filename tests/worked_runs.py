@@ -185,6 +185,17 @@ MASKED = {
     "[" * 125 + "]" * 125: "[]",
 }
 
+# Files of rules that are refused, and why.
+REFUSED_RULES = {
+    "no place": (b"blank event stopped", "line 1: BadRule"),
+    "a verb that is none": (b"drop event output\nhide event output\n", "line 2: BadRule"),
+    "an id": (b"# ids stay\nblank response stackTrace body.stackFrames[].id\n", "line 2: BadPlace"),
+    "the envelope": (b"\n\nblank request * seq\n", "line 3: BadPlace"),
+    "a rule twice": (b"drop event *\r\ndrop event *\r\n", "line 2: Repeated"),
+    "digits behind hex": (b"hex event output body.output\ndigits event * body.output\n", "line 2: DigitsBehindHex"),
+    "no text": (b"\n# \xff\n", "line 2: NotUtf8"),
+}
+
 LOOSE, CANONICAL = '{ "b":1,"a":2 }', '{"a":2,"b":1}'
 DEEP = "[" * 127 + "]" * 127
 PADDED = b"Content-Length: 2\r\nX:%s\r\n\r\n{}"
@@ -326,8 +337,14 @@ def of_others():
         yield stream(name, ["compare", "a", "b"], b"", answer, {"a": a, "b": b})
 
 
+def of_rules():
+    for name, (rules, told) in REFUSED_RULES.items():
+        yield stream(name, ["mask", "rules"], recording(CONFIGURED), (2, b"", refusal(f"rules: {told}")), {"rules": rules})
+    yield stream("no rules", ["mask", "rules"], recording(CONFIGURED), (0, recording(CONFIGURED), b""), {"rules": b"# nothing\n"})
+
+
 def all_runs():
     """Each run, by its name."""
-    runs = [*of_sessions(), *of_refusals(), *of_others()]
+    runs = [*of_sessions(), *of_refusals(), *of_others(), *of_rules()]
     assert len({run.name for run in runs}) == len(runs)
     return runs
