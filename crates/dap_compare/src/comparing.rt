@@ -1,5 +1,5 @@
 //! Compares recordings.
-ghost use Rattle.std.specs.Prelude.{◌≡◌, ◌+◌, ◌-◌, ◌<◌, ◌≤◌, ◌^◌, ℕ, List, []};
+ghost use Rattle.std.specs.Prelude.{◌+◌, ◌-◌, ◌<◌, ◌≤◌, ◌^◌, ℕ, List, []};
 ghost use Rattle.dap_message.specs.Message.{Sent};
 ghost use Rattle.dap_normal.specs.NormalSteps.{StandsBefore};
 ghost use Rattle.dap_compare.specs.ComparingSteps.{AreNext, IsRefusalOf, TellsNext};

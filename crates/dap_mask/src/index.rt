@@ -1,5 +1,5 @@
 //! The rules that may speak of a message, found by its kind and its name.
-ghost use Rattle.std.specs.Prelude.{◌≡◌, true, option_map, string_bytes, IfOk, OnOk};
+ghost use Rattle.std.specs.Prelude.{◌≡◌, true, option_map, IfOk, OnOk};
 ghost use Rattle.dap_mask.specs.Index.{may_speak, positions, groups_of, found_in, with_group};
 ghost use Rattle.dap_mask.specs.Index.{groups, is_index, places_in};
 ghost use Rattle.dap_mask.specs.Rules.{rule_of, rules_of};

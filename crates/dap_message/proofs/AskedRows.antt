@@ -4,8 +4,7 @@ use Rattle.dap_tree.specs.declared.side.Side.{Side}
 use Rattle.dap_tree.specs.declared.sort.Sort.{Sort}
 use Rattle.std.proofs.Common.{◌≡◌, ℕ, Bool, true, false, cond, ◌&&◌, ◌||◌, List, [], ◌∷◌, ◌++◌}
 use Rattle.std.proofs.Common.{Option, Some, None, option_and_then, refl, sym, ◌∙◌, ap, ap₂}
-use Rattle.std.proofs.Common.{bytes_eq, codes, is_some, true≢false, drop, length, ◌<◌, ◌-◌, get_or}
-use Rattle.std.proofs.Common.{◌+◌}
+use Rattle.std.proofs.Common.{bytes_eq, codes, is_some, true≢false, drop, length, ◌<◌, ◌+◌, get_or}
 use Rattle.std.proofs.lemmas.List.{at_drop_more}
 use Rattle.std.specs.List.{filter, flat_map}
 use Rattle.std.specs.Option.{option_or, option_map_or}

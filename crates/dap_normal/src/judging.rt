@@ -1,6 +1,6 @@
 //! Judges the records of a recording, each behind those before it. `check` and `normalise` both
 //! judge so.
-ghost use Rattle.std.specs.Prelude.{◌≡◌, ◌<◌, ◌≤◌, ◌^◌, List, []};
+ghost use Rattle.std.specs.Prelude.{◌≡◌, ◌≤◌, List, []};
 ghost use Rattle.dap_message.specs.Message.{Sent};
 ghost use Rattle.dap_session.specs.Rules.{open_requests};
 ghost use Rattle.dap_input.specs.Limits.{AreSound};

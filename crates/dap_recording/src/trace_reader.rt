@@ -1,5 +1,5 @@
 //! Pieces read from a trace.
-ghost use Rattle.std.specs.Prelude.{◌≡◌, ◌≢◌, ℕ, ◌+◌, ◌<◌, ◌≤◌, ◌↔◌, List, [], ◌∷◌, ◌++◌, length};
+ghost use Rattle.std.specs.Prelude.{◌≡◌, ℕ, ◌+◌, ◌<◌, ◌≤◌, ◌↔◌, List, [], ◌∷◌, ◌++◌, length};
 ghost use Rattle.std.specs.Prelude.{take, Err, IfErr, IfOk, IsOk};
 ghost use Rattle.dap_frame.specs.Lines.{number_of};
 ghost use Rattle.dap_recording.specs.Marker.{marker};

@@ -1,6 +1,6 @@
 //! The requests of one side.
-ghost use Rattle.std.specs.Prelude.{◌≡◌, ℤ, [], OnOk, OnErr, option_map, false, true, None, Some};
-ghost use Rattle.std.specs.Prelude.{IfOk, IsOk, ◌&&◌};
+ghost use Rattle.std.specs.Prelude.{◌≡◌, ◌&&◌, [], OnOk, OnErr, option_map, false, true};
+ghost use Rattle.std.specs.Prelude.{None, Some};
 ghost use Rattle.dap_message.specs.Message.{sent};
 ghost use Rattle.dap_session.specs.Kept.{request_numbered, unanswered, with_request, with_answer};
 ghost use Rattle.dap_session.specs.Kept.{requests_after};

@@ -1,5 +1,5 @@
 //! A session as its messages come: each is taken or breaks a rule.
-ghost use Rattle.std.specs.Prelude.{◌≡◌, ℕ, [], List, Some, None, option_map, OnOk, OnErr, true};
+ghost use Rattle.std.specs.Prelude.{◌≡◌, [], List, Some, None, option_map, OnOk, OnErr, true};
 ghost use Rattle.std.specs.Prelude.{false, IsErrOf};
 ghost use Rattle.dap_message.specs.Message.{Sent, sent};
 ghost use Rattle.dap_session.specs.Messages.{is_request};

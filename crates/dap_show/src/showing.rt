@@ -1,5 +1,5 @@
 //! Shows recordings in lines.
-ghost use Rattle.std.specs.Prelude.{◌≡◌, ◌+◌, ◌<◌, ◌≤◌, ◌^◌, string_bytes};
+ghost use Rattle.std.specs.Prelude.{◌+◌, ◌<◌, ◌≤◌, ◌^◌, string_bytes};
 ghost use Rattle.dap_input.specs.Engine.{Answers};
 ghost use Rattle.dap_input.specs.ItemReading.{StandsForRecord};
 ghost use Rattle.dap_input.specs.Limits.{AreSound};

@@ -1,9 +1,8 @@
 -- What is told of words is told for what a parse finds in them.
-use Rattle.std.proofs.Common.{◌≡◌, ◌⊎◌, inl, inr}
+use Rattle.std.proofs.Common.{◌≡◌, inl, inr}
 use Rattle.clap.specs.Values.{kind_of}
-use Rattle.clap.specs.Words.{HasKind, IsAmong, Kinds}
+use Rattle.clap.specs.Words.{HasKind, Kinds}
 use Rattle.clap.specs.declared.error.Error.{Error}
-use Rattle.clap.specs.declared.error.kind.ErrorKind.{ErrorKind}
 use Rattle.clap.specs.declared.error.kind.ErrorKind.TheVariants as kind
 use Rattle.dapnorm.specs.CommandLine.{IsToldFor, IsToldOf}
 use Rattle.dapnorm.specs.declared.jobs.UsageFault.{UsageFault}

@@ -1,5 +1,5 @@
 -- The program's command line, as `clap` reads it, and the job that it names. Source: own.
-use Rattle.std.specs.Prelude.{◌≡◌, ◌≢◌, ◌⊎◌, ◌||◌, Bool, false, List, [], Option, Some, None}
+use Rattle.std.specs.Prelude.{◌≡◌, ◌⊎◌, ◌||◌, Bool, false, List, [], Option, Some, None}
 use Rattle.std.specs.Prelude.{codes}
 use Rattle.std.specs.Prelude.{if◌then◌else◌, option_map, option_and_then, true}
 use Rattle.std.specs.Borrow.{Bor}

@@ -1,5 +1,5 @@
 //! The line in which the program tells a fault, made without memory.
-ghost use Rattle.std.specs.Prelude.{◌≡◌, ◌+◌, ◌<◌, ◌≤◌, ◌^◌, ◌++◌, [], length};
+ghost use Rattle.std.specs.Prelude.{◌≡◌, ◌+◌, ◌<◌, ◌≤◌, ◌^◌, ◌++◌, length};
 ghost use Rattle.arrayvec.specs.ArrayString.{array_string_len};
 ghost use Rattle.dap_tree.specs.Side.{side_text};
 ghost use Rattle.dapnorm.specs.FaultLine.{compare_refused_text, fault_line, in_piece, in_record};

@@ -1,5 +1,5 @@
 //! Prints rows of the profile.
-ghost use Rattle.std.specs.Prelude.{◌≡◌, ◌<◌, ◌^◌, option_map};
+ghost use Rattle.std.specs.Prelude.{◌<◌, ◌^◌, option_map};
 ghost use Rattle.dapnorm.specs.RowsRun.{RowsArePrinted, TellsRows};
 ghost use Rattle.dap_rows.specs.RowLines.{lines_of};
 
