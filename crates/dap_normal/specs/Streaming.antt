@@ -19,10 +19,6 @@ module _ {R : Type 0} (source : Source R) (limits : Limits) where
   RefusesNext = engine.RefusesNext (accepting limits) (Normalises limits) source
 
 module _ {R W : Type 0} (source : Source R) (sink : Sink W) (limits : Limits) where
-  abbrev pub HasRefused : R → R → W → W → Refused → Type 0
-  HasRefused =
-      engine.HasRefused (accepting limits) (Normalises limits) (IsCanonical limits) source sink
-
   abbrev pub HasGivenUp : R → R → W → W → Type 0
   HasGivenUp =
       engine.HasGivenUp (accepting limits) (Normalises limits) (IsCanonical limits) source sink
