@@ -47,18 +47,22 @@ enum Write {
     Fails(ErrorKind),
 }
 
-/// A writer that does this at its next writes, and then takes all; it counts its flushes, and fails
-/// so many of the first.
+/// A writer that does this at its next writes, and then takes all; it counts its flushes, and the
+/// first of them fail so.
 #[derive(Drop)]
 struct Writer {
     steps: &'static [Write],
     bytes: Vec<u8>,
     flushes: u64,
-    failing_flushes: u64,
+    failing_flushes: &'static [ErrorKind],
 }
 
 impl Writer {
-    fn new(alloc: Global, steps: &'static [Write], failing_flushes: u64) -> Writer {
+    fn new(
+        alloc: Global,
+        steps: &'static [Write],
+        failing_flushes: &'static [ErrorKind],
+    ) -> Writer {
         Writer {
             steps,
             bytes: Vec::new(alloc),
@@ -90,10 +94,11 @@ impl io::Write for Writer {
 
     fn flush(&mut self) -> io::Result<()> {
         self.flushes = self.flushes.saturating_add(1);
-        if self.flushes <= self.failing_flushes {
-            return Err(io::Error::from(ErrorKind::BrokenPipe));
-        }
-        Ok(())
+        let Some((first, rest)) = self.failing_flushes.split_first() else {
+            return Ok(());
+        };
+        self.failing_flushes = rest;
+        Err(io::Error::from(*first))
     }
 }
 
@@ -156,7 +161,7 @@ fn a_whole_input_stops_at_an_error(rt: HostRuntime) -> Result<(), Fail> {
 #[derive(Clone, Copy)]
 struct Written {
     steps: &'static [Write],
-    failing_flushes: u64,
+    failing_flushes: &'static [ErrorKind],
     answer: Result<(), DeviceFault>,
     out: &'static [u8],
     flushes: u64,
@@ -182,7 +187,7 @@ const ONE_BYTE_AT_A_TIME: Written = Written {
         Write::Takes(1),
         Write::Takes(1),
     ],
-    failing_flushes: 0,
+    failing_flushes: &[],
     answer: Ok(()),
     out: b"abcd",
     flushes: 1,
@@ -195,7 +200,7 @@ const INTERRUPTED: Written = Written {
         Write::Takes(2),
         Write::Fails(ErrorKind::Interrupted),
     ],
-    failing_flushes: 0,
+    failing_flushes: &[],
     answer: Ok(()),
     out: b"abcd",
     flushes: 1,
@@ -204,7 +209,7 @@ const INTERRUPTED: Written = Written {
 
 const FULL: Written = Written {
     steps: &[Write::Takes(2), Write::Fails(ErrorKind::StorageFull)],
-    failing_flushes: 0,
+    failing_flushes: &[],
     answer: Err(FAULT),
     out: b"ab",
     flushes: 0,
@@ -213,7 +218,7 @@ const FULL: Written = Written {
 
 const TAKES_NOTHING: Written = Written {
     steps: &[Write::Takes(3), Write::Takes(0)],
-    failing_flushes: 0,
+    failing_flushes: &[],
     answer: Err(FAULT),
     out: b"abc",
     flushes: 0,
@@ -222,11 +227,17 @@ const TAKES_NOTHING: Written = Written {
 
 const NOT_FLUSHED: Written = Written {
     steps: &[],
-    failing_flushes: 1,
+    failing_flushes: &[ErrorKind::BrokenPipe],
     answer: Err(FAULT),
     out: b"abcd",
     flushes: 1,
     failures: 1,
+};
+
+/// As in std, who asks for a flush that was interrupted is told so, and may ask again.
+const INTERRUPTED_FLUSH: Written = Written {
+    failing_flushes: &[ErrorKind::Interrupted],
+    ..NOT_FLUSHED
 };
 
 #[test]
@@ -237,6 +248,7 @@ fn a_text_is_written_and_flushed(rt: HostRuntime) {
         FULL,
         TAKES_NOTHING,
         NOT_FLUSHED,
+        INTERRUPTED_FLUSH,
     ] {
         writes(&rt, rt.alloc(), written);
     }
