@@ -11,8 +11,8 @@ use crate::growths::{tells_memory_or, was_wanted};
 use crate::recordings::{ANSWERED_TWICE, Line, recording};
 use crate::runs::{Compared, comparison_of, verdict_on};
 use dap_message::{Message, MessageFault, Side, typed};
-use dap_rename::{NameFault, Names, Pair, PairFault, Renaming};
-use dap_tree::{Sort, read_tree};
+use dap_rename::{NameFault, Names, Renaming};
+use dap_tree::read_tree;
 use dapnorm::{CompareRefused, MemorySink, MemorySource, Refused, Rule, Which};
 use fault_injection::{refuse_growth, was_refused};
 use std::alloc::Global;
@@ -84,43 +84,6 @@ fn run_compare_is_refused_in_turn(rt: HostRuntime) {
     let both = (frames.as_slice(), exchanged.as_slice());
     for turn in 1..10_000u16 {
         if !tells_turn(&rt, rt.alloc(), both, turn) {
-            break;
-        }
-    }
-}
-
-const EXCHANGED_PAIRS: [Pair; 2] = [
-    Pair {
-        sort: Sort::Frame,
-        from: 5,
-        to: 6,
-    },
-    Pair {
-        sort: Sort::Frame,
-        from: 6,
-        to: 5,
-    },
-];
-
-/// Asks for the renaming with this growth refused. Whether it was.
-fn renames_turn(rt: &impl Abort, alloc: Global, turn: u16) -> bool {
-    refuse_growth(alloc, turn);
-    let answer = Renaming::new(alloc, &EXCHANGED_PAIRS);
-    let is_refused = was_refused(alloc);
-    match answer {
-        Ok(renaming) => assert!(rt; renaming.pairs() == EXCHANGED_PAIRS.as_slice()),
-        Err(fault) => {
-            assert!(rt; fault == PairFault::Memory);
-            was_wanted(rt, is_refused, turn);
-        }
-    }
-    is_refused
-}
-
-#[test]
-fn a_renaming_is_refused_in_turn(rt: HostRuntime) {
-    for turn in 1..1_000u16 {
-        if !renames_turn(&rt, rt.alloc(), turn) {
             break;
         }
     }

@@ -4,7 +4,7 @@ use crate::engines::normal_text;
 use crate::examples::LIMITS;
 use crate::recordings::{
     ANSWERED_TWICE, CONFIGURATION_DONE, CONFIGURED, INITIALIZE, INITIALIZE_RESPONSE, INITIALIZED,
-    Line, STOPPED, recording,
+    Line, STACK_TRACE, STOPPED, recording,
 };
 use crate::runs::{Compared, asks_memory_compare, tells_both, verdict_on};
 use dap_message::{Message, MessageFault, Side, typed};
@@ -12,11 +12,6 @@ use dap_tree::read_tree;
 use dapnorm::{CompareRefused, Refused, Rule, Verdict, Which};
 use std::alloc::Global;
 use std::process::Abort;
-
-const STACK_TRACE: Line = (
-    ">",
-    "{\"arguments\":{\"threadId\":1},\"command\":\"stackTrace\",\"seq\":2,\"type\":\"request\"}",
-);
 
 /// Two frames.
 pub const FRAMES: [Line; 4] = [

@@ -57,6 +57,10 @@ mod refused_growths_of_messages;
 #[cfg(test)]
 mod refused_growths_of_sessions;
 #[cfg(test)]
+mod refused_growths_of_tables;
+#[cfg(test)]
+mod refused_growths_of_trees;
+#[cfg(test)]
 mod runs;
 #[cfg(test)]
 mod session_rules;

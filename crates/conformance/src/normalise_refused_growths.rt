@@ -4,13 +4,14 @@
 //! tests/fault_injection.py runs these under a shim that refuses. Without it each makes one turn
 //! with ample memory.
 use crate::devices::{ROOM, TestSink};
-use crate::engines::{Engine, answer, normal_text};
-use crate::examples::LIMITS;
+use crate::engines::{Engine, answer, are_sound, normal_text};
+use crate::examples::{LIMITS, with_contents, with_ids};
 use crate::growths::was_wanted;
 use crate::recordings::{
-    ANSWERED_TWICE, CONFIGURED, Line, NORMAL_CONFIGURED, ends_normal_records, front, recording,
+    ANSWERED_TWICE, CONFIGURED, FILLED_RESPONSE, INITIALIZE, INITIALIZE_RESPONSE, Line,
+    NORMAL_CONFIGURED, STACK_TRACE, THREE_FRAMES, recording,
 };
-use dapnorm::{MemorySource, Normalised, Refused, Rule};
+use dapnorm::{Limits, MemorySource, Normalised, Refused, Rule};
 use fault_injection::{refuse_growth, was_refused};
 use std::alloc::Global;
 use std::process::Abort;
@@ -23,11 +24,12 @@ struct Turn {
     is_refused: bool,
 }
 
-fn turn_of(rt: &impl Abort, alloc: Global, input: &[u8], turn: u16) -> Turn {
+fn turn_of(rt: &impl Abort, alloc: Global, (input, limits): (&[u8], Limits), turn: u16) -> Turn {
     let mut source = MemorySource::new(input);
     let mut sink = TestSink::new(alloc, ROOM).expect(rt, "no memory");
+    assert!(rt; are_sound(limits));
     refuse_growth(alloc, turn);
-    let answer = answer(Engine::Normalise, alloc, &mut source, &mut sink, LIMITS);
+    let answer = answer(Engine::Normalise, alloc, &mut source, &mut sink, limits);
     Turn {
         answer,
         sink,
@@ -35,45 +37,48 @@ fn turn_of(rt: &impl Abort, alloc: Global, input: &[u8], turn: u16) -> Turn {
     }
 }
 
-/// Whether the normal text of some leading records has been written, and not flushed.
-fn has_leading_records(sink: &TestSink, text: &[u8]) -> bool {
-    ends_normal_records(sink.bytes().len()) && text.starts_with(sink.bytes()) && sink.flushes == 0
+/// Whether the records of some leading lines have been written, and not flushed.
+fn has_leading_records(rt: &impl Abort, alloc: Global, sink: &TestSink, written: &[Line]) -> bool {
+    for count in 0..=written.len() {
+        if sink.bytes() == recording(rt, alloc, &written[..count]).as_slice() {
+            return sink.flushes == 0;
+        }
+    }
+    false
 }
 
-/// Asks for the answer with this growth refused. Whether it was.
+/// Asks for the answer and the records of the lines with this growth refused. Whether it was.
 fn asks_turn(
     rt: &impl Abort,
     alloc: Global,
-    (input, text): (&[u8], &[u8]),
-    wanted: Result<(), Refused>,
+    input: (&[u8], Limits),
+    (wanted, written): (Result<(), Refused>, &[Line]),
     turn: u16,
 ) -> bool {
     let found = turn_of(rt, alloc, input, turn);
     if found.answer == Err(Refused::Memory) {
         was_wanted(rt, found.is_refused, turn);
-        assert!(rt; has_leading_records(&found.sink, text));
+        assert!(rt; has_leading_records(rt, alloc, &found.sink, written));
     } else {
         assert!(rt; found.answer == wanted);
-        assert!(rt; found.sink.bytes() == text);
+        assert!(rt; found.sink.bytes() == recording(rt, alloc, written).as_slice());
         assert!(rt; found.sink.flushes == 1);
     }
     found.is_refused
 }
 
-/// Asks for the answer on lines, and for so many bytes of the normal text of the configured
-/// session.
+/// Asks for the answer on lines at limits, and for the records of other lines.
 fn asks_each_turn(
     rt: &impl Abort,
     alloc: Global,
-    lines: &[Line],
+    (lines, limits): (&[Line], Limits),
     wanted: Result<(), Refused>,
-    len: usize,
+    written: &[Line],
 ) {
     let bytes = recording(rt, alloc, lines);
-    let normal = recording(rt, alloc, &NORMAL_CONFIGURED);
-    let texts = (bytes.as_slice(), front(rt, normal.as_slice(), len));
+    let input = (bytes.as_slice(), limits);
     for turn in 1..10_000u16 {
-        if !asks_turn(rt, alloc, texts, wanted, turn) {
+        if !asks_turn(rt, alloc, input, (wanted, written), turn) {
             break;
         }
     }
@@ -81,10 +86,26 @@ fn asks_each_turn(
 
 #[test]
 fn normalise_is_refused_in_turn(rt: HostRuntime) {
-    asks_each_turn(&rt, rt.alloc(), &[], Ok(()), 0);
-    asks_each_turn(&rt, rt.alloc(), &CONFIGURED, Ok(()), 1709);
-    let twice = Err(Refused::Rule(3, Rule::AnsweredTwice));
-    asks_each_turn(&rt, rt.alloc(), &ANSWERED_TWICE, twice, 1447);
+    let alloc = rt.alloc();
+    asks_each_turn(&rt, alloc, (&[], LIMITS), Ok(()), &[]);
+    let session = (CONFIGURED.as_slice(), LIMITS);
+    asks_each_turn(&rt, alloc, session, Ok(()), &NORMAL_CONFIGURED);
+    let twice = (ANSWERED_TWICE.as_slice(), LIMITS);
+    let refused = Err(Refused::Rule(3, Rule::AnsweredTwice));
+    asks_each_turn(&rt, alloc, twice, refused, &[INITIALIZE, FILLED_RESPONSE]);
+}
+
+#[test]
+fn normalise_past_a_limit_is_refused_in_turn(rt: HostRuntime) {
+    let alloc = rt.alloc();
+    let begun = (
+        [INITIALIZE, INITIALIZE_RESPONSE].as_slice(),
+        with_contents(200),
+    );
+    asks_each_turn(&rt, alloc, begun, Err(Refused::Grew(2)), &[INITIALIZE]);
+    let frames = (THREE_FRAMES.as_slice(), with_ids(2));
+    let written = [INITIALIZE, FILLED_RESPONSE, STACK_TRACE];
+    asks_each_turn(&rt, alloc, frames, Err(Refused::TooManyIds(4)), &written);
 }
 
 /// Asks for a normal text of 1,709 bytes, or for want of memory where a growth was refused.

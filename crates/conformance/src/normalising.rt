@@ -5,19 +5,14 @@ use crate::engines::{Engine, are_sound, normal_text};
 use crate::examples::{LIMITS, up_to, with_contents, with_ids};
 use crate::recordings::{
     CONFIGURATION_DONE, CONFIGURATION_DONE_RESPONSE, CONFIGURED, FILLED_RESPONSE, INITIALIZE,
-    INITIALIZE_RESPONSE, INITIALIZED, Line, NORMAL_CONFIGURED, OUTPUT, STOPPED, THREADS, front,
-    recording,
+    INITIALIZE_RESPONSE, INITIALIZED, Line, NORMAL_CONFIGURED, OUTPUT, STACK_TRACE, STOPPED,
+    THREADS, THREE_FRAMES, front, recording,
 };
 use crate::runs::{JobRun, Run, asks, asks_check, asks_memory, by_pieces, job_on, run_of, tells};
 use dap_frame::FrameFault;
 use dapnorm::{Job, Limits, MessageFault, RecordCause, Refused, Rule};
 use std::alloc::Global;
 use std::process::Abort;
-
-const STACK_TRACE: Line = (
-    ">",
-    "{\"arguments\":{\"threadId\":1},\"command\":\"stackTrace\",\"seq\":2,\"type\":\"request\"}",
-);
 
 const FRAMES: Line = (
     "<",
@@ -516,17 +511,6 @@ fn a_filled_content_may_pass_its_limit(rt: HostRuntime) {
     let input = (bytes.as_slice(), with_contents(200));
     refuses(&rt, rt.alloc(), input, &[INITIALIZE], Refused::Grew(2));
 }
-
-/// A session with three frames.
-pub const THREE_FRAMES: [Line; 4] = [
-    INITIALIZE,
-    INITIALIZE_RESPONSE,
-    STACK_TRACE,
-    (
-        "<",
-        "{\"body\":{\"stackFrames\":[{\"column\":1,\"id\":1000,\"line\":3,\"name\":\"f\"},{\"column\":1,\"id\":1001,\"line\":9,\"name\":\"g\"},{\"column\":1,\"id\":1002,\"line\":9,\"name\":\"g\"}]},\"command\":\"stackTrace\",\"request_seq\":2,\"seq\":2,\"success\":true,\"type\":\"response\"}",
-    ),
-];
 
 #[test]
 fn too_many_ids(rt: HostRuntime) {

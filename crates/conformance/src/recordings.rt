@@ -36,6 +36,11 @@ pub const THREADS: Line = (
     "{\"command\":\"threads\",\"seq\":2,\"type\":\"request\"}",
 );
 
+pub const STACK_TRACE: Line = (
+    ">",
+    "{\"arguments\":{\"threadId\":1},\"command\":\"stackTrace\",\"seq\":2,\"type\":\"request\"}",
+);
+
 pub const STOPPED: Line = (
     "<",
     "{\"body\":{\"reason\":\"step\"},\"event\":\"stopped\",\"seq\":2,\"type\":\"event\"}",
@@ -72,6 +77,17 @@ pub const NORMAL_CONFIGURED: [Line; 5] = [
 
 /// A session whose third record answers the first again.
 pub const ANSWERED_TWICE: [Line; 3] = [INITIALIZE, INITIALIZE_RESPONSE, INITIALIZE_RESPONSE];
+
+/// A session with three frames.
+pub const THREE_FRAMES: [Line; 4] = [
+    INITIALIZE,
+    INITIALIZE_RESPONSE,
+    STACK_TRACE,
+    (
+        "<",
+        "{\"body\":{\"stackFrames\":[{\"column\":1,\"id\":1000,\"line\":3,\"name\":\"f\"},{\"column\":1,\"id\":1001,\"line\":9,\"name\":\"g\"},{\"column\":1,\"id\":1002,\"line\":9,\"name\":\"g\"}]},\"command\":\"stackTrace\",\"request_seq\":2,\"seq\":2,\"success\":true,\"type\":\"response\"}",
+    ),
+];
 
 /// Behind how many bytes each record of the configured session ends, how many requests of the
 /// client are open there, and behind how many bytes the record of its normal form ends.
@@ -115,16 +131,6 @@ pub fn last_end(place: usize) -> End {
         }
     }
     last
-}
-
-/// Whether the normal text of some leading records of the configured session has so many bytes.
-pub fn ends_normal_records(len: usize) -> bool {
-    for (_, _, normal) in ENDS {
-        if normal == len {
-            return true;
-        }
-    }
-    len == 0
 }
 
 /// The recording of these lines.

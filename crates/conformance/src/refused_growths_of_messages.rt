@@ -5,7 +5,7 @@
 //! with ample memory.
 use crate::growths::was_wanted;
 use dap_message::{Message, MessageFault, Side, typed};
-use dap_tree::{Sort, read_tree};
+use dap_tree::{Sort, Tree, TreeFault, read_tree, write_tree};
 use fault_injection::{refuse_growth, was_refused};
 use std::alloc::Global;
 use std::process::Abort;
@@ -18,13 +18,47 @@ const INITIALIZED: &str =
 const FRAMES: &str =
     "{\"body\":{\"stackFrames\":[{\"column\":1,\"id\":1000,\"line\":3,\"name\":\"a function with a name of some forty bytes\"},{\"column\":1,\"id\":1001,\"line\":9,\"name\":\"g\"},{\"column\":1,\"id\":1000,\"line\":3,\"name\":\"f\"}]},\"command\":\"stackTrace\",\"request_seq\":2,\"seq\":2,\"success\":true,\"type\":\"response\"}";
 
-/// Its ids, in the order of the text.
-const IDS: [(Sort, i64); 5] = [
-    (Sort::Frame, 1000),
-    (Sort::Frame, 1001),
-    (Sort::Frame, 1000),
-    (Sort::ClientSeq, 2),
-    (Sort::AdapterSeq, 2),
+/// A request with a frame id, and the response to it with a reference.
+const EVALUATE: &str =
+    "{\"arguments\":{\"expression\":\"x\",\"frameId\":5},\"command\":\"evaluate\",\"seq\":2,\"type\":\"request\"}";
+
+const RESULT: &str =
+    "{\"body\":{\"result\":\"1\",\"variablesReference\":6},\"command\":\"evaluate\",\"request_seq\":2,\"seq\":2,\"success\":true,\"type\":\"response\"}";
+
+/// A side, a canonical text, and the ids of the message in the order of the text.
+#[derive(Clone, Copy)]
+struct Known {
+    side: Side,
+    text: &'static str,
+    ids: &'static [(Sort, i64)],
+}
+
+const KNOWN: [Known; 3] = [
+    Known {
+        side: Side::Adapter,
+        text: FRAMES,
+        ids: &[
+            (Sort::Frame, 1000),
+            (Sort::Frame, 1001),
+            (Sort::Frame, 1000),
+            (Sort::ClientSeq, 2),
+            (Sort::AdapterSeq, 2),
+        ],
+    },
+    Known {
+        side: Side::Client,
+        text: EVALUATE,
+        ids: &[(Sort::Frame, 5), (Sort::ClientSeq, 2)],
+    },
+    Known {
+        side: Side::Adapter,
+        text: RESULT,
+        ids: &[
+            (Sort::Reference, 6),
+            (Sort::ClientSeq, 2),
+            (Sort::AdapterSeq, 2),
+        ],
+    },
 ];
 
 /// A frame whose column is a text.
@@ -93,120 +127,172 @@ fn typing_is_refused_in_turn(rt: HostRuntime) {
     }
 }
 
-/// A message, which a call leaves as it is.
-fn frames(rt: &impl Abort, alloc: Global) -> Message {
-    message(alloc, FRAMES).expect(rt, "no message")
+/// The message of what is known.
+fn message_of(rt: &impl Abort, alloc: Global, known: Known) -> Message {
+    let tree = read_tree(alloc, known.text.as_bytes()).expect(rt, "no tree");
+    typed(alloc, known.side, tree).expect(rt, "no message")
 }
 
-/// Whether the content of the message is that of the frames.
-fn has_frames(alloc: Global, message: &Message) -> bool {
-    matches!(message.content(alloc), Ok(content) if content.as_str() == FRAMES)
+/// What is asked of a message, which leaves it as it is.
+#[derive(Clone, Copy)]
+enum Call {
+    /// Its ids.
+    Ids,
+    /// Its content.
+    Content,
+    /// Its content behind a text.
+    ContentBehind,
+    /// The content of a copy of it.
+    Copy,
+    /// The text of a copy of its tree.
+    CopyOfTree,
 }
 
-/// Whether the message has these ids, or why none were given.
-fn has_ids(alloc: Global, message: &Message) -> Result<bool, MessageFault> {
+const CALLS: [Call; 5] = [
+    Call::Ids,
+    Call::Content,
+    Call::ContentBehind,
+    Call::Copy,
+    Call::CopyOfTree,
+];
+
+fn has_ids(alloc: Global, message: &Message, known: Known) -> Result<bool, MessageFault> {
     let ids = message.ids(alloc)?;
-    Ok(ids.as_slice() == IDS.as_slice())
+    Ok(ids.as_slice() == known.ids)
 }
 
-/// Whether the tree of the message adds these ids to one that was found, or leaves it alone.
-fn adds_ids(rt: &impl Abort, alloc: Global, message: &Message, turn: u16) -> (bool, bool) {
-    let mut found = Vec::new(alloc);
-    found.push((Sort::Reference, 7)).expect(rt, "no memory");
-    refuse_growth(alloc, turn);
-    let is_added = message.tree().add_ids(&mut found).is_ok();
-    let is_refused = was_refused(alloc);
-    let (before, added) = found.as_slice().split_at(1.min(found.len()));
-    assert!(rt; before == [(Sort::Reference, 7)].as_slice());
-    if is_added {
-        assert!(rt; added == IDS.as_slice());
-    } else {
-        assert!(rt; added.is_empty());
-    }
-    (is_added, is_refused)
-}
-
-/// A copy of the message with this growth refused, and whether it was.
-fn copies(alloc: Global, message: &Message, turn: u16) -> (Result<Message, MessageFault>, bool) {
-    refuse_growth(alloc, turn);
-    let answer = message.copy(alloc);
-    (answer, was_refused(alloc))
-}
-
-fn is_like_frames(alloc: Global, copy: &Message) -> bool {
-    copy.side() == Side::Adapter && has_frames(alloc, copy)
-}
-
-/// Whether the message has the content of the frames, or why it was not given.
-fn has_content(alloc: Global, message: &Message) -> Result<bool, MessageFault> {
+fn has_content(alloc: Global, message: &Message, known: Known) -> Result<bool, MessageFault> {
     let content = message.content(alloc)?;
-    Ok(content.as_str() == FRAMES)
+    Ok(content.as_str() == known.text)
 }
 
-/// Asks for the answer `true`, or for want of memory where this growth was refused.
-fn is_true(rt: &impl Abort, answer: Result<bool, MessageFault>, (is_refused, turn): (bool, u16)) {
+/// Whether the content stands behind a text, or why it was not written; the text stays.
+fn has_content_behind(
+    rt: &impl Abort,
+    alloc: Global,
+    message: &Message,
+    known: Known,
+) -> Result<bool, MessageFault> {
+    let mut out = Vec::new(alloc);
+    if out.extend_from_slice(b"before").is_err() {
+        return Err(MessageFault::Memory);
+    }
+    let answer = message.write_content_to(alloc, &mut out);
+    let rest = out.as_slice().strip_prefix(b"before");
+    if answer.is_err() {
+        assert!(rt; rest == Some(b"".as_slice()));
+    }
+    answer?;
+    Ok(rest == Some(known.text.as_bytes()))
+}
+
+fn has_copy(alloc: Global, message: &Message, known: Known) -> Result<bool, MessageFault> {
+    let copy = message.copy(alloc)?;
+    Ok(copy.side() == known.side && has_content(alloc, &copy, known)?)
+}
+
+fn text_of_copy(alloc: Global, tree: &Tree) -> Result<Option<String>, TreeFault> {
+    let copy = tree.copy(alloc)?;
+    if !copy.sound() {
+        return Ok(None);
+    }
+    Ok(Some(write_tree(alloc, &copy)?))
+}
+
+fn has_copy_of_tree(alloc: Global, message: &Message, known: Known) -> Result<bool, MessageFault> {
+    match text_of_copy(alloc, message.tree()) {
+        Ok(Some(text)) => Ok(text.as_str() == known.text),
+        Ok(None) => Ok(false),
+        Err(_) => Err(MessageFault::Memory),
+    }
+}
+
+/// Whether the call gives what is known.
+fn gives(
+    rt: &impl Abort,
+    alloc: Global,
+    call: Call,
+    message: &Message,
+    known: Known,
+) -> Result<bool, MessageFault> {
+    match call {
+        Call::Ids => has_ids(alloc, message, known),
+        Call::Content => has_content(alloc, message, known),
+        Call::ContentBehind => has_content_behind(rt, alloc, message, known),
+        Call::Copy => has_copy(alloc, message, known),
+        Call::CopyOfTree => has_copy_of_tree(alloc, message, known),
+    }
+}
+
+/// Asks for what is known with this growth refused, and again with memory. Whether it was.
+fn gives_turn(
+    rt: &impl Abort,
+    alloc: Global,
+    call: Call,
+    (message, known): (&Message, Known),
+    turn: u16,
+) -> bool {
+    refuse_growth(alloc, turn);
+    let answer = gives(rt, alloc, call, message, known);
+    let is_refused = was_refused(alloc);
     if answer == Err(MessageFault::Memory) {
         was_wanted(rt, is_refused, turn);
     } else {
         assert!(rt; answer == Ok(true));
     }
+    assert!(rt; gives(rt, alloc, call, message, known) == Ok(true));
+    is_refused
 }
 
-#[test]
-fn ids_are_refused_in_turn(rt: HostRuntime) {
-    let message = frames(&rt, rt.alloc());
+fn gives_each_turn(rt: &impl Abort, alloc: Global, call: Call, known: (&Message, Known)) {
     for turn in 1..1000u16 {
-        refuse_growth(rt.alloc(), turn);
-        let answer = has_ids(rt.alloc(), &message);
-        let is_refused = was_refused(rt.alloc());
-        is_true(&rt, answer, (is_refused, turn));
-        assert!(rt; has_frames(rt.alloc(), &message));
-        if !is_refused {
+        if !gives_turn(rt, alloc, call, known, turn) {
             break;
         }
     }
+}
+
+#[test]
+fn calls_on_a_message_are_refused_in_turn(rt: HostRuntime) {
+    for known in KNOWN {
+        let message = message_of(&rt, rt.alloc(), known);
+        for call in CALLS {
+            gives_each_turn(&rt, rt.alloc(), call, (&message, known));
+        }
+    }
+}
+
+/// Asks for the ids behind one that was found with this growth refused, and again where they were
+/// not added. Whether it was.
+fn adds_ids(
+    rt: &impl Abort,
+    alloc: Global,
+    (message, known): (&Message, Known),
+    turn: u16,
+) -> bool {
+    let mut found = Vec::new(alloc);
+    found.push((Sort::Reference, 7)).expect(rt, "no memory");
+    refuse_growth(alloc, turn);
+    let is_added = message.tree().add_ids(&mut found).is_ok();
+    let is_refused = was_refused(alloc);
+    if !is_added {
+        was_wanted(rt, is_refused, turn);
+        assert!(rt; found.as_slice() == [(Sort::Reference, 7)].as_slice());
+        assert!(rt; message.tree().add_ids(&mut found).is_ok());
+    }
+    let added = found.as_slice().strip_prefix(&[(Sort::Reference, 7)]);
+    assert!(rt; added == Some(known.ids));
+    is_refused
 }
 
 #[test]
 fn ids_of_a_tree_are_refused_in_turn(rt: HostRuntime) {
-    let message = frames(&rt, rt.alloc());
-    for turn in 1..1000u16 {
-        let (is_added, is_refused) = adds_ids(&rt, rt.alloc(), &message, turn);
-        if !is_added {
-            was_wanted(&rt, is_refused, turn);
-        }
-        if !is_refused {
-            break;
-        }
-    }
-}
-
-#[test]
-fn the_content_is_refused_in_turn(rt: HostRuntime) {
-    let message = frames(&rt, rt.alloc());
-    for turn in 1..1000u16 {
-        refuse_growth(rt.alloc(), turn);
-        let answer = has_content(rt.alloc(), &message);
-        let is_refused = was_refused(rt.alloc());
-        is_true(&rt, answer, (is_refused, turn));
-        if !is_refused {
-            break;
-        }
-    }
-}
-
-#[test]
-fn a_copy_of_a_message_is_refused_in_turn(rt: HostRuntime) {
-    let message = frames(&rt, rt.alloc());
-    for turn in 1..1000u16 {
-        let (answer, is_refused) = copies(rt.alloc(), &message, turn);
-        match answer {
-            Ok(copy) => assert!(rt; is_like_frames(rt.alloc(), &copy)),
-            Err(fault) => is_true(&rt, Err(fault), (is_refused, turn)),
-        }
-        assert!(rt; has_frames(rt.alloc(), &message));
-        if !is_refused {
-            break;
+    for known in KNOWN {
+        let message = message_of(&rt, rt.alloc(), known);
+        for turn in 1..1000u16 {
+            if !adds_ids(&rt, rt.alloc(), (&message, known), turn) {
+                break;
+            }
         }
     }
 }

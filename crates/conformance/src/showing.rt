@@ -3,16 +3,12 @@ use crate::devices::Failing;
 use crate::engines::Engine;
 use crate::examples::LIMITS;
 use crate::recordings::{
-    ANSWERED_TWICE, INITIALIZE, INITIALIZE_RESPONSE, INITIALIZED, Line, OUTPUT, front, recording,
+    ANSWERED_TWICE, INITIALIZE, INITIALIZE_RESPONSE, INITIALIZED, Line, OUTPUT, STACK_TRACE, front,
+    recording,
 };
 use crate::runs::{asks, asks_memory, by_pieces, failing_reader, failing_writer, run_of};
 use dap_frame::{FrameFault, FrameLimits};
 use dapnorm::{Limits, MessageFault, RecordCause, Refused};
-
-const STACK_TRACE: Line = (
-    ">",
-    "{\"arguments\":{\"threadId\":1},\"command\":\"stackTrace\",\"seq\":2,\"type\":\"request\"}",
-);
 
 pub const FRAMES: Line = (
     "<",

@@ -6,8 +6,8 @@ use crate::checking::{
 use crate::comparing::{
     CONFIGURING, EXCHANGED, FRAMES, NEW_FRAME, STALE_FRAME, UNNUMBERED, faulty_behind_a_difference,
 };
-use crate::normalising::{NORMAL_FORMS, REFUSED_CONTENTS, THREE_FRAMES};
-use crate::recordings::{INITIALIZE, INITIALIZE_RESPONSE, Line, recording};
+use crate::normalising::{NORMAL_FORMS, REFUSED_CONTENTS};
+use crate::recordings::{INITIALIZE, INITIALIZE_RESPONSE, Line, THREE_FRAMES, recording};
 use crate::session_rules::{BROKEN_ALONE, broken_recording};
 use std::alloc::Global;
 use std::process::Abort;

@@ -1,0 +1,217 @@
+//! Each growth of a small table of names, of a renaming, and of a text past the limit of a content
+//! refused in turn: the answer is that of ample memory, or want of memory, and never another.
+//!
+//! tests/fault_injection.py runs these under a shim that refuses. Without it each makes one turn
+//! with ample memory.
+use crate::growths::was_wanted;
+use dap_frame::{FrameFault, FrameLimits, write_frame};
+use dap_recording::write_record;
+use dap_rename::{IndexNames, NameFault, NameTable, Pair, PairFault, PlainNames, Renaming};
+use dap_tree::{Side, Sort};
+use fault_injection::{refuse_growth, was_refused};
+use std::alloc::Global;
+use std::hash::{BuildHasherDefault, FoldHasher};
+use std::process::Abort;
+
+/// Numbers that come to a table for two, and the name of each. A full table is told before any
+/// growth.
+const NAMED: [(i64, Result<i64, NameFault>); 4] = [
+    (70, Ok(1)),
+    (-3, Ok(2)),
+    (70, Ok(1)),
+    (0, Err(NameFault::Full)),
+];
+
+/// Asks for the name of a number, again where memory was wanted. Whether it was.
+fn names<T: NameTable>(
+    rt: &impl Abort,
+    alloc: Global,
+    table: &mut T,
+    (number, wanted): (i64, Result<i64, NameFault>),
+    turn: u16,
+) -> bool {
+    let answer = table.name(number);
+    if answer == Err(NameFault::Memory) {
+        was_wanted(rt, was_refused(alloc), turn);
+        assert!(rt; table.name(number) == wanted);
+        return true;
+    }
+    assert!(rt; answer == wanted);
+    false
+}
+
+/// Asks for the names with this growth refused, then for one behind a cut. Whether a growth was
+/// refused.
+fn names_turn<T: NameTable>(rt: &impl Abort, alloc: Global, table: &mut T, turn: u16) -> bool {
+    let mut is_wanted = false;
+    refuse_growth(alloc, turn);
+    for named in NAMED {
+        is_wanted |= names(rt, alloc, table, named, turn);
+    }
+    assert!(rt; table.find(0).is_none());
+    assert!(rt; table.len() == 2);
+    table.cut(1);
+    is_wanted |= names(rt, alloc, table, (0, Ok(2)), turn);
+    // Hearing of a refusal ends it.
+    is_wanted || was_refused(alloc)
+}
+
+#[test]
+fn tables_for_two_are_refused_in_turn(rt: HostRuntime) {
+    let hasher: BuildHasherDefault<FoldHasher> = BuildHasherDefault::new();
+    for turn in 1..100u16 {
+        let mut plain = PlainNames::new(rt.alloc(), 2);
+        let mut index = IndexNames::new(rt.alloc(), 2, hasher);
+        let by_plain = names_turn(&rt, rt.alloc(), &mut plain, turn);
+        let by_index = names_turn(&rt, rt.alloc(), &mut index, turn);
+        if !by_plain && !by_index {
+            break;
+        }
+    }
+}
+
+/// Two pairs of ids of a sort, and why they are no renaming.
+const PAIRS: [([Pair; 2], Option<PairFault>); 4] = [
+    (
+        [
+            Pair {
+                sort: Sort::Frame,
+                from: 5,
+                to: 6,
+            },
+            Pair {
+                sort: Sort::Frame,
+                from: 6,
+                to: 5,
+            },
+        ],
+        None,
+    ),
+    (
+        [
+            Pair {
+                sort: Sort::Frame,
+                from: 5,
+                to: 6,
+            },
+            Pair {
+                sort: Sort::Frame,
+                from: 5,
+                to: 7,
+            },
+        ],
+        Some(PairFault::FromTwice(2)),
+    ),
+    (
+        [
+            Pair {
+                sort: Sort::Frame,
+                from: 5,
+                to: 6,
+            },
+            Pair {
+                sort: Sort::Frame,
+                from: 7,
+                to: 6,
+            },
+        ],
+        Some(PairFault::ToTwice(2)),
+    ),
+    (
+        [
+            Pair {
+                sort: Sort::Reference,
+                from: 0,
+                to: 0,
+            },
+            Pair {
+                sort: Sort::Frame,
+                from: 5,
+                to: 6,
+            },
+        ],
+        Some(PairFault::ZeroReference(1)),
+    ),
+];
+
+/// Why the pairs are no renaming; one that is made has just these.
+fn fault_of(rt: &impl Abort, alloc: Global, pairs: &[Pair]) -> Option<PairFault> {
+    match Renaming::new(alloc, pairs) {
+        Ok(renaming) => {
+            assert!(rt; renaming.pairs() == pairs);
+            None
+        }
+        Err(fault) => Some(fault),
+    }
+}
+
+/// Asks what is made of the pairs with this growth refused, and again. Whether it was.
+fn pairs_turn(
+    rt: &impl Abort,
+    alloc: Global,
+    (pairs, wanted): (&[Pair], Option<PairFault>),
+    turn: u16,
+) -> bool {
+    refuse_growth(alloc, turn);
+    let found = fault_of(rt, alloc, pairs);
+    let is_refused = was_refused(alloc);
+    if found == Some(PairFault::Memory) {
+        was_wanted(rt, is_refused, turn);
+    } else {
+        assert!(rt; found == wanted);
+    }
+    assert!(rt; fault_of(rt, alloc, pairs) == wanted);
+    is_refused
+}
+
+#[test]
+fn pairs_are_refused_in_turn(rt: HostRuntime) {
+    for (pairs, wanted) in &PAIRS {
+        for turn in 1..100u16 {
+            if !pairs_turn(&rt, rt.alloc(), (pairs.as_slice(), *wanted), turn) {
+                break;
+            }
+        }
+    }
+}
+
+/// Contents of one byte.
+const NARROW: FrameLimits = FrameLimits {
+    header: 4096,
+    content: 1,
+};
+
+/// What is left of a text behind which a longer content was to be written, as a frame and as a
+/// record, and what is answered.
+fn writes_too_much(out: &mut Vec<u8>) -> [Result<(), FrameFault>; 2] {
+    [
+        write_frame(out, b"{}", NARROW),
+        write_record(out, Side::Client, b"{}", NARROW),
+    ]
+}
+
+/// Asks for the refusal with this growth refused. Whether it was.
+fn writes_turn(rt: &impl Abort, alloc: Global, turn: u16) -> bool {
+    let mut out = Vec::from_slice(alloc, b"before").expect(rt, "no memory");
+    refuse_growth(alloc, turn);
+    let answers = writes_too_much(&mut out);
+    let is_refused = was_refused(alloc);
+    for answer in answers {
+        if answer == Err(FrameFault::Memory) {
+            was_wanted(rt, is_refused, turn);
+        } else {
+            assert!(rt; answer == Err(FrameFault::ContentTooLong));
+        }
+    }
+    assert!(rt; out.as_slice() == b"before".as_slice());
+    is_refused
+}
+
+#[test]
+fn a_content_past_its_limit_is_refused_in_turn(rt: HostRuntime) {
+    for turn in 1..100u16 {
+        if !writes_turn(&rt, rt.alloc(), turn) {
+            break;
+        }
+    }
+}
