@@ -1,3 +1,4 @@
 pub mod Comparing
 pub mod ComparingSteps
 pub mod Verdicts
+pub mod Which

@@ -12,6 +12,11 @@ pub enum Which {
 }
 
 impl fmt::Display for Which {
+    ghost use Rattle.std.specs.Prelude.{Some};
+    ghost use Rattle.dap_compare.specs.Which.{which_text};
+
+    ghost output = { λ which. Some (which_text which) };
+
     fn fmt<W: fmt::Write>(&self, f: &mut fmt::Formatter<W>) -> fmt::Result {
         f.write_str(match self {
             Which::A => "A",

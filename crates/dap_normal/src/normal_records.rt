@@ -1,5 +1,5 @@
 //! The records of an input one by one, each as the record of its normal form.
-ghost use Rattle.std.specs.Prelude.{◌≡◌, ◌+◌, ◌-◌, ◌<◌, ◌^◌, ℕ, List, [], IfOk};
+ghost use Rattle.std.specs.Prelude.{◌≡◌, ◌+◌, ◌-◌, ◌<◌, ◌^◌, ℕ, List, [], IfErr, IfOk};
 ghost use Rattle.dap_message.specs.Message.{Sent};
 ghost use Rattle.dap_rename.specs.Messages.{equal_places};
 ghost use Rattle.dap_rename.specs.Names.{HaveEqualCounts, StandFor};
@@ -98,10 +98,11 @@ impl<T: NameTable + Drop> NormalRecords<T> {
         other: &NormalRecords<T>,
     ) -> Result<Renaming, NameFault>
         requires { HaveEqualCounts T.numbers self.now.judge.names other.now.judge.names }
-        ensures { IfOk result (λ renaming. (messages others : List Sent)
+        ensures pairs { IfOk result (λ renaming. (messages others : List Sent)
             → StandFor T.numbers self.now.judge.names messages
             → StandFor T.numbers other.now.judge.names others
             → entries (pairs_of renaming) ≡ equal_places messages others) }
+        ensures memory { IfErr result (λ f. f ≡ NameFault.Memory) }
     {
         Renaming::between(alloc, self.judge.names(), other.judge.names())
     }

@@ -8,8 +8,7 @@ use Rattle.dap_recording.specs.declared.recorder_fault.RecorderFault.{RecorderFa
 use Rattle.dap_recording.specs.declared.recorder_fault.RecorderFault.TheVariants as recorder_fault
 use Rattle.dap_session.specs.RuleName.{rule_name}
 use Rattle.dap_tree.specs.Side.{side_text}
-use Rattle.dap_compare.specs.declared.verdict.Which.{Which}
-use Rattle.dap_compare.specs.declared.verdict.Which.TheVariants.{A, B}
+use Rattle.dap_compare.specs.Which.{which_text}
 use Rattle.dap_compare.specs.declared.verdict.CompareRefused.{CompareRefused}
 use Rattle.dap_compare.specs.declared.verdict.CompareRefused.TheVariants as comparing
 use Rattle.dap_input.specs.declared.refused.Refused.{Refused}
@@ -59,11 +58,6 @@ refused_text (Recorder n fault) = in_piece n ++ recorder_fault_text fault
 refused_text ReadFault = codes "read fault"
 refused_text WriteFault = codes "write fault"
 refused_text Memory = codes "out of memory"
-
--- the letter of one of two inputs
-abbrev pub which_text : Which → List ℕ
-which_text A = codes "A"
-which_text B = codes "B"
 
 -- what is told where two inputs were not compared to the end
 abbrev pub compare_refused_text : CompareRefused → List ℕ

@@ -1,10 +1,10 @@
 //! The line in which the program tells a fault, made without memory.
 ghost use Rattle.std.specs.Prelude.{◌≡◌, ◌+◌, ◌<◌, ◌≤◌, ◌^◌, ◌++◌, length};
 ghost use Rattle.arrayvec.specs.ArrayString.{array_string_len};
+ghost use Rattle.dap_compare.specs.Which.{which_text};
 ghost use Rattle.dap_tree.specs.Side.{side_text};
 ghost use Rattle.dapnorm.specs.FaultLine.{compare_refused_text, fault_line, in_piece, in_record};
 ghost use Rattle.dapnorm.specs.FaultLine.{message_fault_text, recorder_fault_text, refused_text};
-ghost use Rattle.dapnorm.specs.FaultLine.{which_text};
 ghost use Rattle.dapnorm.specs.Run.{HasSent};
 
 use arrayvec::ArrayString;

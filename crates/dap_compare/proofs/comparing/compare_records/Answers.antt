@@ -245,7 +245,7 @@ returns-in-NoneLeft-clause-answer g c =
     c.args.reader_b.now c.loop-text_b.reader_b c.loop-text_b.records_b c.loop-text_b.invariant.b
     c.loop-text_b.invariant.alike c.next_text.new.records c.next_text.new.reader _ _
     c.next_text-in-loop-text_b.new.records c.next_text-in-loop-text_b.new.reader _ _ one two _
-    (c.in-Ok.ensures c.loop-text_b.invariant.a.messages c.loop-text_b.invariant.b.messages
+    (c.in-Ok.ensures.pairs c.loop-text_b.invariant.a.messages c.loop-text_b.invariant.b.messages
     (names_a g.A.Source
     g.B.Source c.args.limits
     c.args.reader_a.now c.loop-text_b.reader_a c.loop-text_b.records_a c.loop-text_b.invariant.a
