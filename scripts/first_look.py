@@ -2,7 +2,8 @@
 
     python3 scripts/first_look.py [PROGRAM]
 
-Without PROGRAM the program is built by `rt try`, with checks and without any proof.
+Without PROGRAM the smallest program over the library, `crates/first_look`, is built by `rt try`, with checks and without
+any proof.
 """
 import os
 import re
@@ -32,9 +33,8 @@ def normalised_unproved(paths):
     with tempfile.TemporaryDirectory() as folder:
         for path in paths:
             shutil.copy(path, folder)
-        words = ["rt", "try", "--cases", folder, "--", "normalise"]
-        crate = os.path.join(TOP, "crates", "dapnorm_main")
-        ran = subprocess.run(words, cwd=crate, capture_output=True)
+        crate = os.path.join(TOP, "crates", "first_look")
+        ran = subprocess.run(["rt", "try", "--cases", folder], cwd=crate, capture_output=True)
     told = ran.stderr.decode(errors="replace")
     if ran.returncode != 0 or told.count("run=ended status=0") != len(paths):
         sys.exit(f"{told}\nThe program did not end well on each run.")
@@ -59,7 +59,7 @@ def main():
         print(f"{sys.argv[1]} is there, so nothing is built.", flush=True)
         outputs = normalised_by(sys.argv[1], paths)
     else:
-        print("The program is built with checks and without a proof: a minute or two.", flush=True)
+        print("A small program is built with checks and without a proof: less than a minute.", flush=True)
         outputs = normalised_unproved(paths)
     for path in paths:
         with open(path, "rb") as file:
