@@ -154,9 +154,6 @@ def system_devices(report, faulty):
         answer = system_run(run, folder, stdin=source, **piped)
         os.close(source)
         report.check(f"{name} of a folder", answer == (4, b"", READ_FAULT), repr(answer))
-        if run.files:
-            # The system gives the file of rules the number of the input that is closed, so that its end is read.
-            continue
         ran = subprocess.run(["sh", "-c", 'exec "$0" "$@" <&-', PROGRAM, *run.arguments], cwd=folder, **piped)
         answer = (ran.returncode, ran.stdout, ran.stderr)
         report.check(f"{name} with <&-", answer == (4, b"", READ_FAULT), repr(answer))

@@ -14,6 +14,7 @@ use dapnorm::{
 use std::alloc::Global;
 use std::hash::RandomState;
 use std::io::{Error, ErrorKind};
+use std::os::fd::AsRawFd;
 use std::process::ExitCode;
 use std::{env, fs};
 
@@ -29,6 +30,9 @@ const LIMITS: Limits = Limits {
 
 /// The status where the arguments or random words cannot be had, or a file does not open.
 const FAULT: u8 = 4;
+
+/// The system's number of the standard input.
+const STANDARD_INPUT: i32 = 0;
 
 /// What is told where an argument cannot be read as text.
 const NOT_UTF_8: &str = "error: an argument is not valid UTF-8\n";
@@ -93,12 +97,16 @@ fn compare_files(rt: &HostRuntime, a: &str, b: &str, hasher: RandomState) -> u8 
 }
 
 /// Masks the recording of the standard input by the rules of a file. A file that does not open is a
-/// read fault of the rules.
+/// read fault of the rules. One that the system gives the number of the standard input shows that
+/// this is closed: a read fault too.
 fn mask_by_file(rt: &HostRuntime, rules: &str) -> u8 {
     let file = match fs::open(rt, rules) {
         Ok(file) => file,
         Err(error) => return tell_unopened(rt, &error, "rules"),
     };
+    if file.as_raw_fd() == STANDARD_INPUT {
+        return tell_unread(rt);
+    }
     let mut file = StdSource::new(file);
     let mut reader = StdSource::new(rt.stdin());
     let mut writer = StdSink::new(rt.stdout());
