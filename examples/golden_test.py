@@ -1,4 +1,5 @@
-"""Holds a session of a debug adapter to its golden file. Copy it together with trace_tee.py, and change ADAPTER, GOLDEN and SESSION.
+"""Holds a session of a debug adapter to its golden file. Copy it together with trace_tee.py, and change ADAPTER,
+GOLDEN, SESSION and MASK: a file of rules that take away what changes from run to run, as masks/debugpy.mask, or nothing.
 
     python3 -m pytest golden_test.py                    # compares
     UPDATE_GOLDEN=1 python3 -m pytest golden_test.py    # makes the golden file anew: look at the difference before you commit it
@@ -19,6 +20,7 @@ HERE = pathlib.Path(__file__).resolve().parent
 TEE = HERE / "trace_tee.py"
 ADAPTER = shlex.split(os.environ.get("ADAPTER", "python3 -m debugpy.adapter"))
 GOLDEN = pathlib.Path(os.environ.get("GOLDEN", HERE / "session.golden"))
+MASK = os.environ.get("MASK")
 SESSION = [
     {"command": "initialize", "arguments": {"adapterID": "golden"}},
     {"command": "configurationDone"},
@@ -69,6 +71,8 @@ def recorded(folder):
     trace, normal = folder / "session.trace", folder / "session.normal"
     run_session(trace)
     recording = dapnorm("record", given=trace.read_bytes())
+    if MASK:
+        recording = dapnorm("mask", MASK, given=recording)
     dapnorm("check", "--complete", given=recording)
     normal.write_bytes(dapnorm("normalise", given=recording))
     return normal

@@ -41,7 +41,7 @@ def with_program(folder):
     """An environment in which the program is found as dapnorm, without what would change the examples."""
     os.makedirs(os.path.join(folder, "bin"))
     os.symlink(PROGRAM, os.path.join(folder, "bin", "dapnorm"))
-    kept = {name: value for name, value in os.environ.items() if name not in ("UPDATE_GOLDEN", "GOLDEN", "ADAPTER") and not name.startswith("GIT_")}
+    kept = {name: value for name, value in os.environ.items() if name not in ("UPDATE_GOLDEN", "GOLDEN", "ADAPTER", "MASK") and not name.startswith("GIT_")}
     return {**kept, "PATH": os.path.join(folder, "bin") + os.pathsep + os.environ["PATH"], "HOME": folder, "PYTHONDONTWRITEBYTECODE": "1"}
 
 
@@ -168,6 +168,15 @@ def golden(report, folder, environment):
     report.check("a refused session fails with the reason", status != 0 and "dapnorm: record 7: Fraction" in told, told)
     report.check("and leaves the golden file as it was, and nothing beside it", read(path) == before and not os.path.exists(path + ".new"))
     report.check("after it the golden file is made anew", tried(1000, UPDATE_GOLDEN="1")[0] == 0 and b'"line":3' in read(path))
+    mask = os.path.join(folder, "session.mask")
+    write(mask, b"digits event output body.output\n")
+    numbered = "1000 says_its_number"
+    report.check("a golden file of what changes from run to run", tried(numbered, UPDATE_GOLDEN="1")[0] == 0)
+    status, told = tried(numbered)
+    report.check("does not hold in the next run", status != 0 and "differ 2" in told, told)
+    report.check("a golden file under a mask", tried(numbered, MASK=mask, UPDATE_GOLDEN="1")[0] == 0 and b'"output":"process 0"' in read(path))
+    status, told = tried(numbered, MASK=mask)
+    report.check("holds in the next run", status == 0, told)
 
 
 def recipe(report, folder, environment):

@@ -1,5 +1,9 @@
-"""A debug adapter that debugs nothing: it answers each request over its standard streams. FIRST is the number of its first frame."""
+"""A debug adapter that debugs nothing: it answers each request over its standard streams. FIRST is the number of its first frame.
+
+    python3 fake_adapter.py FIRST [says_its_number]     with an output that no other run has
+"""
 import json
+import os
 import sys
 
 
@@ -20,9 +24,12 @@ def send(target, message):
         target.flush()
 
 
-def serve(source, target, first):
+def serve(source, target, first, says_its_number=False):
     """One session, up to its end or to `disconnect`."""
     seq = 0
+    if says_its_number:
+        seq += 1
+        send(target, {"seq": seq, "type": "event", "event": "output", "body": {"output": f"process {os.getpid()}"}})
     bodies = {"stackTrace": {"stackFrames": [{"id": first, "name": "main", "line": 3, "column": 1}]}}
     while (request := receive(source)) is not None:
         command = request["command"]
@@ -38,4 +45,4 @@ def serve(source, target, first):
 
 
 if __name__ == "__main__":
-    serve(sys.stdin.buffer, sys.stdout.buffer, json.loads(sys.argv[1]))
+    serve(sys.stdin.buffer, sys.stdout.buffer, json.loads(sys.argv[1]), "says_its_number" in sys.argv[2:])
