@@ -17,7 +17,7 @@ SHELL := bash
 .SHELLFLAGS := -o pipefail -c
 
 # The crates that the program is made of, and all that they are made from.
-CRATES := $(filter-out first_look layer_tests conformance fault_injection,$(shell sed -n 's/^\([a-z0-9_]*\):.*/\1/p' crates.txt))
+CRATES := $(filter-out callers first_look layer_tests conformance fault_injection,$(shell sed -n 's/^\([a-z0-9_]*\):.*/\1/p' crates.txt))
 SOURCES := crates.txt $(shell find $(addprefix crates/,$(CRATES)) -type f -not -path '*/out/*' -not -path '*/must-fail/*')
 
 .PHONY: all test try bench dist install uninstall clean need-rt need-python need-commit

@@ -1,0 +1,3 @@
+pub mod JoinedPieces
+pub mod ReadBack
+pub mod WholeInput

@@ -1,0 +1,102 @@
+-- What `check` tells of an input that comes in pieces is true of all of its bytes.
+use Rattle.std.proofs.Common.{◌≡◌, ℕ, true, false, List, ◌++◌, Option, Some, None}
+use Rattle.std.proofs.Common.{Result, Ok, Err, IfErr, IfOk, sym, ◌∙◌, ap, subst, append-nil, arith}
+use Rattle.std.proofs.Common.{true≢false}
+use Rattle.dap_device.specs.declared.device.Source.{Ghosts as Source}
+use Rattle.dap_device.specs.Pieces.{HasPaused}
+use Rattle.dap_device.specs.declared.reading.Stop.{Stop}
+use Rattle.dap_device.specs.declared.reading.Stop.TheVariants.{End, Full, Failed}
+use Rattle.dap_input.specs.declared.limits.Limits.{Limits}
+use Rattle.dap_input.specs.declared.refused.Refused.{Refused}
+use Rattle.dap_input.specs.declared.refused.Refused.TheVariants.{Incomplete, Memory, WriteFault}
+use Rattle.dap_input.specs.Inputs.{Fault, IsRefusedAt, read_fault, refused}
+use Rattle.dap_input.specs.Judging.{IsFirstRefusal, Reason, cut}
+use Rattle.dap_input.specs.Limits.{AreSound}
+use Rattle.dap_input.specs.ReadTo.{has_failed, so_far}
+use Rattle.dap_input.specs.Refusals.{IsRefused, Tells}
+use Rattle.dap_input.proofs.Refusals.{cut_told, refused_as}
+use Rattle.dap_normal.specs.Accepting.{IsAccepted, RecordingRefusalStays, accepting}
+use Rattle.dap_normal.specs.Checking.{Checks, HasChecked}
+use Rattle.dap_normal.specs.Normalising.{RefusesBytes}
+use Rattle.dap_normal.specs.Streaming.{RefusesNext}
+use Rattle.dap_normal.specs.declared.checked.Checked.{Checked}
+use Rattle.callers.specs.declared.judged_pieces.Arriving.{Arriving}
+use Rattle.callers.specs.Arriving.{bytes_left, given_so_far}
+use Rattle.callers.specs.Pieces.{IsJudged}
+
+-- an input that comes in pieces, as a source
+abbrev pub arriving : Source Arriving
+arriving = record { left = λ s. Some (bytes_left s); given = given_so_far; failures = λ s. 0 }
+
+module _ (limits : Limits) (old new : Arriving) where
+  pub judged : (checked : Checked) → HasChecked arriving limits false old new checked
+      → IsJudged limits (bytes_left old) checked
+  judged checked has = record {
+    messages = has.messages;
+    accepts = subst (λ bytes. IsAccepted limits bytes has.messages)
+        (sym (has.accepts.came.came ∙ ap (λ rest. has.accepts.whole ++ rest)
+        has.accepts.came.stopped.0 ∙ append-nil has.accepts.whole)) has.accepts.gives;
+    counted = has.counted;
+  }
+
+  -- It never fails.
+  good : (stop : Option Stop) → HasPaused arriving old new stop → has_failed stop ≡ true → ⊥
+  good None paused failed = true≢false (sym failed)
+  good (Some End) paused failed = true≢false (sym failed)
+  good (Some Full) paused failed = true≢false (sym failed)
+  good (Some Failed) paused failed = absurd (omega (arith, paused))
+
+  -- Where it has ended, all of it came.
+  all_came : (bytes : List ℕ) (stop : Option Stop) → HasPaused arriving old new stop
+      → stop ≡ Some End → bytes_left old ≡ bytes ++ bytes_left new → bytes ≡ bytes_left old
+  all_came bytes None paused end split = absurd (let e = end in cc)
+  all_came bytes (Some End) paused end split =
+      sym (split ∙ ap (λ rest. bytes ++ rest) paused.0 ∙ append-nil bytes)
+  all_came bytes (Some Full) paused end split = absurd (let e = end in cc)
+  all_came bytes (Some Failed) paused end split = absurd (let e = end in cc)
+
+  module _ (sound : AreSound limits) (stays : RecordingRefusalStays) (because : Refused)
+      (text : List ℕ) (next : RefusesNext arriving limits old new because text) where
+    first : (why : Reason) → Tells because next.number (refused why)
+        → IsFirstRefusal (accepting limits) next.to.bytes next.number why
+        → IsFirstRefusal (accepting limits) (bytes_left old) next.number why
+    first cut tells is =
+        subst (λ bytes. IsFirstRefusal (accepting limits) bytes next.number cut)
+        (all_came next.to.bytes next.stop next.to.came.paused
+        (next.cut next.number (cut_told because next.number tells)) next.to.came.came) is
+    first why tells is =
+        subst (λ bytes. IsFirstRefusal (accepting limits) bytes next.number why)
+        (sym next.to.came.came)
+        (stays limits sound next.to.bytes (bytes_left new) next.number why
+        (λ e. absurd (let same = e in cc)) is)
+
+    told : (fault : Fault) → Tells because next.number fault
+        → IsRefusedAt (accepting limits) (so_far next.to.bytes next.stop) next.number fault
+        → IsRefused (accepting limits) (bytes_left old) because
+    told (refused why) tells is =
+        refused_as (accepting limits) (bytes_left old) because next.number why tells
+        (first why tells is.0)
+    told read_fault tells is = absurd (good next.stop next.to.came.paused is.0)
+
+    refuses_next : IsRefused (accepting limits) (bytes_left old) because
+    refuses_next = told next.refuses.fault next.refuses.tells next.refuses.is_refused
+
+  pub refuses : AreSound limits → RecordingRefusalStays → (because : Refused)
+      → Checks arriving limits false old new (Err because)
+      → RefusesBytes limits (bytes_left old) because
+  refuses sound stays Memory answer = tt
+  refuses sound stays WriteFault answer = absurd answer
+  refuses sound stays (Incomplete client adapter) answer = absurd (true≢false (sym answer.asked))
+  refuses sound stays because answer = refuses_next sound stays because answer.0 answer.1
+
+  -- The same of whatever is answered.
+  pub answered : (result : Result Checked Refused) → Checks arriving limits false old new result
+      → IfOk result (IsJudged limits (bytes_left old))
+  answered (Ok checked) has = judged checked has
+  answered (Err because) has = tt
+
+  pub refused_whole : AreSound limits → RecordingRefusalStays → (result : Result Checked Refused)
+      → Checks arriving limits false old new result
+      → IfErr result (RefusesBytes limits (bytes_left old))
+  refused_whole sound stays (Ok checked) has = tt
+  refused_whole sound stays (Err because) has = refuses sound stays because has

@@ -1,0 +1,13 @@
+use Rattle.callers.proofs.same_session.are_same.Goals as goal
+
+pub returns-clause-told : goal.returns-clause-told
+returns-clause-told c =
+    let a = c.in_ok-a.ensures.ok.normalises in
+    let b = c.in_ok-b.ensures.ok.normalises in
+    record {
+      messages_a = a.messages;
+      messages_b = b.messages;
+      accepts_a = a.accepts;
+      accepts_b = b.accepts;
+      told = c.same.ensures.recordings c.args.limits c.requires c.args.a.now c.args.b.now a b;
+    }

@@ -1,0 +1,5 @@
+pub mod Arriving
+pub mod Compared
+pub mod Frames
+pub mod Golden
+pub mod Pieces

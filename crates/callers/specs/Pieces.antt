@@ -1,0 +1,19 @@
+-- A recording that comes in pieces. Source: own, over what the library accepts.
+use Rattle.std.specs.Prelude.{ℕ, List}
+use Rattle.std.specs.Borrow.{Bor}
+use Rattle.std.specs.List.{flat_map}
+use Rattle.dap_message.specs.Message.{Sent}
+use Rattle.dap_input.specs.declared.limits.Limits.{Limits}
+use Rattle.dap_normal.specs.Accepting.{IsAccepted}
+use Rattle.dap_normal.specs.Checking.{AreCounted}
+use Rattle.dap_normal.specs.declared.checked.Checked.{Checked}
+
+-- the bytes of the pieces, in order
+abbrev pub joined : List (Bor (List ℕ)) → List ℕ
+joined pieces = flat_map (λ piece. piece.now) pieces
+
+-- The bytes are an accepted recording, of which these are the numbers.
+pub record IsJudged (limits : Limits) (bytes : List ℕ) (checked : Checked) : Type 0 where
+  pub messages : List Sent
+  pub accepts : IsAccepted limits bytes messages
+  pub counted : AreCounted checked messages

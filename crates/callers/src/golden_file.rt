@@ -1,0 +1,41 @@
+//! A golden file that is made, and later held to.
+ghost use Rattle.std.specs.Prelude.{◌<◌, ◌^◌, IfErr, IfOk};
+ghost use Rattle.dap_input.specs.Limits.{AreSound};
+ghost use Rattle.dap_normal.specs.Normalising.{RefusesBytes};
+ghost use Rattle.callers.specs.Golden.{IsHeldTo, Makes};
+
+use dap_device::write_and_flush;
+use dapnorm::{Limits, Refused, Sink, laws, normalise_bytes};
+use std::alloc::Global;
+
+/// Writes the golden file of a recording. Of a recording that is refused it writes nothing.
+pub fn make_golden<W: Sink>(
+    alloc: Global,
+    recording: &[u8],
+    file: &mut W,
+    limits: Limits,
+) -> Result<(), Refused>
+    requires limits { AreSound limits }
+    requires failures { W.failures file.old < 2 ^ 63 }
+    ensures { Makes W.Sink limits recording.now file.old file.new result }
+{
+    let golden = normalise_bytes(alloc, recording, limits)?;
+    match write_and_flush(file, golden.bytes()) {
+        Ok(()) => Ok(()),
+        Err(_) => Err(Refused::WriteFault),
+    }
+}
+
+/// Whether a later recording is as the golden file says: the same session, but for its ids.
+pub fn holds_to(alloc: Global, golden: &[u8], later: &[u8], limits: Limits) -> Result<bool, Refused>
+    requires { AreSound limits }
+
+    // Of whatever recording the golden file was made, true exactly where a renaming of ids carries
+    // the messages of the later one to those of it.
+    ensures held { IfOk result (IsHeldTo limits golden.now later.now) }
+    ensures refused { IfErr result (RefusesBytes limits later.now) }
+{
+    laws::normal_form_stands();
+    let normal = normalise_bytes(alloc, later, limits)?;
+    Ok(normal.bytes() == golden)
+}
