@@ -1,5 +1,6 @@
 """Checks that the documents name what there is: the contracts of docs/PROMISES.md, the files that links lead to and that are named, the make
-targets; that docs/FAULTS.md has each fault; and that the README has a line for each crate and short sentences."""
+targets; that docs/FAULTS.md has each fault, that docs/CALLING.md shows each caller as it is, and that the README has a line for each crate and
+short sentences."""
 import glob
 import os
 import re
@@ -93,7 +94,7 @@ def files(report):
     """Files of the crates that are named in full, as `dap_frame/specs/Frame.antt`."""
     for path in documents():
         with open(path, encoding="utf-8") as file:
-            for name in re.findall(r"`(?:crates/)?((?:dap\w+|layer_tests|conformance)/[\w/]+\.(?:antt|rt))`", file.read()):
+            for name in re.findall(r"`(?:crates/)?((?:dap\w+|callers|layer_tests|conformance)/[\w/]+\.(?:antt|rt))`", file.read()):
                 report.check(f"{os.path.relpath(path, TOP)} names the file {name}", os.path.exists(os.path.join(TOP, "crates", name)))
 
 
@@ -125,6 +126,26 @@ def faults(report):
         report.check(f"{line} of docs/FAULTS.md is a fault", line in known)
 
 
+SHOWN = re.compile(r"`callers/((?:src|specs|proofs)/[\w/]+\.(?:rt|antt))`:\n\n```(?:rust|antt)\n(.*?)```", re.DOTALL)
+
+
+def callers(report):
+    """docs/CALLING.md shows each caller, in a few lines that stand so in its file."""
+    with open(os.path.join(TOP, "docs", "CALLING.md"), encoding="utf-8") as file:
+        text = file.read()
+    shown = SHOWN.findall(text)
+    for name, code in shown:
+        with open(os.path.join(TOP, "crates", "callers", name), encoding="utf-8") as file:
+            report.check(f"docs/CALLING.md shows what stands in {name}", code in file.read())
+        report.check(f"docs/CALLING.md shows few lines of {name}", len(code.splitlines()) < 30)
+    with open(os.path.join(TOP, "crates", "callers", "src", "lib.rt"), encoding="utf-8") as file:
+        modules = re.findall(r"^mod (\w+);", file.read(), re.MULTILINE)
+    for module in modules:
+        report.check(f"docs/CALLING.md shows the caller {module}", any(name == f"src/{module}.rt" for name, _ in shown))
+    with open(os.path.join(TOP, "crates.txt"), encoding="utf-8") as file:
+        report.check("docs/CALLING.md has the line of callers", re.search(r"^callers: .*$", file.read(), re.MULTILINE)[0] in text)
+
+
 def targets(report):
     with open(os.path.join(TOP, "Makefile"), encoding="utf-8") as file:
         made = set(re.findall(r"^(\w+):", file.read(), re.MULTILINE))
@@ -142,6 +163,7 @@ def main():
     targets(report)
     files(report)
     faults(report)
+    callers(report)
     return report.close()
 
 
