@@ -53,6 +53,8 @@ mod recordings;
 #[cfg(test)]
 mod refused_growths;
 #[cfg(test)]
+mod refused_growths_of_masks;
+#[cfg(test)]
 mod refused_growths_of_messages;
 #[cfg(test)]
 mod refused_growths_of_sessions;

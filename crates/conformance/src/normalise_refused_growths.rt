@@ -6,7 +6,7 @@
 use crate::devices::{ROOM, TestSink};
 use crate::engines::{Engine, answer, are_sound, normal_text};
 use crate::examples::{LIMITS, with_contents, with_ids};
-use crate::growths::was_wanted;
+use crate::growths::{has_leading_records, was_wanted};
 use crate::recordings::{
     ANSWERED_TWICE, CONFIGURED, FILLED_RESPONSE, INITIALIZE, INITIALIZE_RESPONSE, Line,
     NORMAL_CONFIGURED, STACK_TRACE, THREE_FRAMES, recording,
@@ -35,16 +35,6 @@ fn turn_of(rt: &impl Abort, alloc: Global, (input, limits): (&[u8], Limits), tur
         sink,
         is_refused: was_refused(alloc),
     }
-}
-
-/// Whether the records of some leading lines have been written, and not flushed.
-fn has_leading_records(rt: &impl Abort, alloc: Global, sink: &TestSink, written: &[Line]) -> bool {
-    for count in 0..=written.len() {
-        if sink.bytes() == recording(rt, alloc, &written[..count]).as_slice() {
-            return sink.flushes == 0;
-        }
-    }
-    false
 }
 
 /// Asks for the answer and the records of the lines with this growth refused. Whether it was.
