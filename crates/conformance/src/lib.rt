@@ -3,6 +3,8 @@
 #![tactic(auto)]
 
 #[cfg(test)]
+mod called_library;
+#[cfg(test)]
 mod check_lines;
 #[cfg(test)]
 mod check_refused_growths;

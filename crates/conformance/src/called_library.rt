@@ -1,0 +1,107 @@
+//! The callers of the library, run.
+use crate::comparing::{EXCHANGED, FRAMES};
+use crate::examples::LIMITS;
+use crate::recordings::{ANSWERED_TWICE, CONFIGURED, Line, recording};
+use callers::{are_same, holds_to, judge, make_golden, tell_frames, write_and_read};
+use dap_frame::{FrameFault, FrameLimits};
+use dapnorm::{MemorySink, Refused, Rule};
+use std::alloc::Global;
+use std::process::Abort;
+
+/// Two recordings, and whether they are of one session.
+const PAIRS: [(&[Line], &[Line], Result<bool, Refused>); 4] = [
+    (&FRAMES, &EXCHANGED, Ok(true)),
+    (&FRAMES, &CONFIGURED, Ok(false)),
+    (&[], &[], Ok(true)),
+    (
+        &FRAMES,
+        &ANSWERED_TWICE,
+        Err(Refused::Rule(3, Rule::AnsweredTwice)),
+    ),
+];
+
+/// Whether a recording holds to the golden file of another.
+fn held(alloc: Global, recording: &[u8], later: &[u8]) -> Result<bool, Refused> {
+    let Ok(mut file) = MemorySink::new(alloc, 8192) else {
+        return Err(Refused::Memory);
+    };
+    make_golden(alloc, recording, &mut file, LIMITS)?;
+    holds_to(alloc, file.bytes(), later, LIMITS)
+}
+
+#[test]
+fn callers_tell_whether_sessions_are_the_same(rt: HostRuntime) {
+    for (lines, others, same) in &PAIRS {
+        let a = recording(&rt, rt.alloc(), lines);
+        let b = recording(&rt, rt.alloc(), others);
+        let (a, b) = (a.as_slice(), b.as_slice());
+        assert!(rt; are_same(rt.alloc(), a, b, LIMITS) == *same);
+        assert!(rt; held(rt.alloc(), a, b) == *same);
+    }
+}
+
+/// The records and the open requests of a client that are told of a recording in three pieces, the
+/// middle one empty.
+fn judged(alloc: Global, bytes: &[u8], at: usize) -> Option<(u64, usize)> {
+    let (front, rest) = bytes.split_at(at.min(bytes.len()));
+    match judge(alloc, &[front, b"", rest], LIMITS) {
+        Ok(checked) => Some((checked.records, checked.client_open)),
+        Err(_) => None,
+    }
+}
+
+#[test]
+fn callers_judge_what_comes_in_pieces(rt: HostRuntime) {
+    let configured = recording(&rt, rt.alloc(), &CONFIGURED);
+    let twice = recording(&rt, rt.alloc(), &ANSWERED_TWICE);
+    for at in [0, 1, 120, 473] {
+        assert!(rt; judged(rt.alloc(), configured.as_slice(), at) == Some((5, 0)));
+        assert!(rt; judged(rt.alloc(), twice.as_slice(), at) == None);
+    }
+}
+
+/// Whether the frames of a content are a function `f` at line 3 and a function `g` at line 9.
+fn tells_both(alloc: Global, content: &[u8]) -> bool {
+    match tell_frames(alloc, content) {
+        Ok(places) => match places.as_slice() {
+            [f, g] => f.function.as_str() == "f"
+                && f.line == 3
+                && g.function.as_str() == "g"
+                && g.line == 9,
+            _ => false,
+        },
+        Err(_) => false,
+    }
+}
+
+/// Whether what is read back is what was written.
+fn is_read_back(alloc: Global, content: &[u8]) -> bool {
+    match write_and_read(alloc, content, LIMITS.frame) {
+        Ok(read) => read.as_slice() == content,
+        Err(_) => false,
+    }
+}
+
+/// Contents of three bytes at most.
+const THREE_BYTES: FrameLimits = FrameLimits {
+    header: 4096,
+    content: 3,
+};
+
+/// Whether a content of four bytes is too long where three may stand.
+fn is_too_long(alloc: Global) -> bool {
+    match write_and_read(alloc, b"four", THREE_BYTES) {
+        Ok(_) => false,
+        Err(fault) => fault == FrameFault::ContentTooLong,
+    }
+}
+
+#[test]
+fn callers_tell_frames_and_read_what_they_wrote(rt: HostRuntime) {
+    let (_, content) = FRAMES[3];
+    assert!(rt; tells_both(rt.alloc(), content.as_bytes()));
+    assert!(rt; tell_frames(rt.alloc(), b"[]").is_err());
+    assert!(rt; is_read_back(rt.alloc(), content.as_bytes()));
+    assert!(rt; is_read_back(rt.alloc(), b""));
+    assert!(rt; is_too_long(rt.alloc()));
+}
