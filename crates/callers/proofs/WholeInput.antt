@@ -13,7 +13,7 @@ use Rattle.dap_input.specs.Inputs.{Fault, IsRefusedAt, read_fault, refused}
 use Rattle.dap_input.specs.Judging.{IsFirstRefusal, Reason, cut}
 use Rattle.dap_input.specs.Limits.{AreSound}
 use Rattle.dap_input.specs.ReadTo.{has_failed, so_far}
-use Rattle.dap_input.specs.Refusals.{IsRefused, Tells}
+use Rattle.dap_input.specs.Refusals.{IsRefused, Tells, reason_of}
 use Rattle.dap_input.proofs.Refusals.{cut_told, refused_as}
 use Rattle.dap_normal.specs.Accepting.{IsAccepted, RecordingRefusalStays, accepting}
 use Rattle.dap_normal.specs.Checking.{Checks, HasChecked}
@@ -27,6 +27,11 @@ use Rattle.callers.specs.Pieces.{IsJudged}
 -- an input that comes in pieces, as a source
 abbrev pub arriving : Source Arriving
 arriving = record { left = λ s. Some (bytes_left s); given = given_so_far; failures = λ s. 0 }
+
+-- It is told that the record is cut.
+abbrev TellsCut : Option (ℕ × Reason) → Type 0
+TellsCut (Some (n, cut)) = Unit {0}
+TellsCut told = ⊥
 
 module _ (limits : Limits) (old new : Arriving) where
   pub judged : (checked : Checked) → HasChecked arriving limits false old new checked
@@ -57,25 +62,24 @@ module _ (limits : Limits) (old new : Arriving) where
 
   module _ (sound : AreSound limits) (stays : RecordingRefusalStays) (because : Refused)
       (text : List ℕ) (next : RefusesNext arriving limits old new because text) where
-    first : (why : Reason) → Tells because next.number (refused why)
+    is_refused : (why : Reason) → Tells because next.number (refused why)
         → IsFirstRefusal (accepting limits) next.to.bytes next.number why
-        → IsFirstRefusal (accepting limits) (bytes_left old) next.number why
-    first cut tells is =
-        subst (λ bytes. IsFirstRefusal (accepting limits) bytes next.number cut)
+        → IsRefused (accepting limits) (bytes_left old) because
+    is_refused cut tells is =
+        subst (λ bytes. IsRefused (accepting limits) bytes because)
         (all_came next.to.bytes next.stop next.to.came.paused
-        (next.cut next.number (cut_told because next.number tells)) next.to.came.came) is
-    first why tells is =
-        subst (λ bytes. IsFirstRefusal (accepting limits) bytes next.number why)
-        (sym next.to.came.came)
-        (stays limits sound next.to.bytes (bytes_left new) next.number why
-        (λ e. absurd (let same = e in cc)) is)
+        (next.cut next.number (cut_told because next.number tells)) next.to.came.came)
+        (refused_as (accepting limits) next.to.bytes because next.number cut tells is)
+    is_refused why tells is =
+        subst (λ bytes. IsRefused (accepting limits) bytes because) (sym next.to.came.came)
+        (stays limits sound next.to.bytes (bytes_left new) because
+        (λ n same. subst TellsCut (sym (ap reason_of same) ∙ tells) tt)
+        (refused_as (accepting limits) next.to.bytes because next.number why tells is))
 
     told : (fault : Fault) → Tells because next.number fault
         → IsRefusedAt (accepting limits) (so_far next.to.bytes next.stop) next.number fault
         → IsRefused (accepting limits) (bytes_left old) because
-    told (refused why) tells is =
-        refused_as (accepting limits) (bytes_left old) because next.number why tells
-        (first why tells is.0)
+    told (refused why) tells is = is_refused why tells is.0
     told read_fault tells is = absurd (good next.stop next.to.came.paused is.0)
 
     refuses_next : IsRefused (accepting limits) (bytes_left old) because
