@@ -15,16 +15,20 @@ import shlex
 import subprocess
 import sys
 import tempfile
+import threading
+from collections import Counter
 
 HERE = pathlib.Path(__file__).resolve().parent
 TEE = HERE / "trace_tee.py"
 ADAPTER = shlex.split(os.environ.get("ADAPTER", "python3 -m debugpy.adapter"))
 GOLDEN = pathlib.Path(os.environ.get("GOLDEN", HERE / "session.golden"))
 MASK = os.environ.get("MASK")
+# The requests, in order. The next one is sent when all has come that `until` names: events, and responses by their commands; without
+# `until` the response to the request itself. debugpy answers `launch` only behind `configurationDone`.
 SESSION = [
     {"command": "initialize", "arguments": {"adapterID": "golden"}},
-    {"command": "configurationDone"},
-    {"command": "stackTrace", "arguments": {"threadId": 1}},
+    {"command": "launch", "arguments": {"code": "print('hello')", "console": "internalConsole"}, "until": ["initialized"]},
+    {"command": "configurationDone", "until": ["configurationDone", "launch", "terminated"]},
     {"command": "disconnect"},
 ]
 SECONDS = 60
@@ -42,19 +46,25 @@ def receive(source):
         name, value = line.split(b":", 1)
         if name.lower() == b"content-length":
             length = int(value)
-    assert length, "the adapter ended before it answered"
+    assert length, f"the adapter ended, or sent nothing for {SECONDS} seconds, before all had come that was waited for"
     return json.loads(source.read(length))
 
 
 def run_session(trace):
-    """Sends one request after the other, each after the answer to the one before, so that every run has one order."""
+    """Sends one request after the other, each after what it has to wait for, so that every run has one order."""
+    came = Counter()
     with subprocess.Popen([sys.executable, str(TEE), str(trace), *ADAPTER], stdin=subprocess.PIPE, stdout=subprocess.PIPE) as process:
         for seq, request in enumerate(SESSION, 1):
+            until = Counter(request.get("until", [request["command"]]))
+            request = {name: value for name, value in request.items() if name != "until"}
+            watch = threading.Timer(SECONDS, process.kill)
+            watch.start()
             send(process.stdin, {"seq": seq, "type": "request", **request})
-            wanted = {("response", seq)} | ({("event", "initialized")} if request["command"] == "initialize" else set())
-            while wanted:
+            while until - came:
                 message = receive(process.stdout)
-                wanted.discard((message["type"], message.get("request_seq", message.get("event"))))
+                came[message["event"] if message["type"] == "event" else message["command"]] += 1
+            came -= until
+            watch.cancel()
         process.stdin.close()
         process.stdout.read()
         process.wait(timeout=SECONDS)

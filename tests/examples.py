@@ -142,11 +142,25 @@ def pytest_command(path):
     return [sys.executable, "-m", "pytest", "-q", "-p", "no:cacheprovider", path] if found else [sys.executable, path]
 
 
+# What an author changes in the golden test: the session, here for the adapter of tests/fake_adapter.py.
+FAKE_SESSION = """SESSION = [
+    {"command": "initialize", "arguments": {"adapterID": "golden"}, "until": ["initialize", "initialized"]},
+    {"command": "configurationDone"},
+    {"command": "stackTrace", "arguments": {"threadId": 1}},
+    {"command": "disconnect"},
+]
+"""
+
+
 def golden(report, folder, environment):
     """The golden test as an author keeps it, and what it says of a session that differs and of one that is refused."""
     for name in ("golden_test.py", "trace_tee.py"):
         shutil.copy(os.path.join(EXAMPLES, name), folder)
-    path, test = os.path.join(folder, "session.golden"), pytest_command(os.path.join(folder, "golden_test.py"))
+    path, script = os.path.join(folder, "session.golden"), os.path.join(folder, "golden_test.py")
+    text, found = re.subn(r"^SESSION = \[\n.*?^\]\n", FAKE_SESSION, read(script).decode(), flags=re.MULTILINE | re.DOTALL)
+    report.check("the golden test has a session to change", found == 1)
+    write(script, text.encode())
+    test = pytest_command(script)
 
     def tried(first, **more):
         adapter = f"{sys.executable} {os.path.join(TOP, 'tests', 'fake_adapter.py')} {first}"
