@@ -5,7 +5,7 @@ use Rattle.dap_frame.specs.declared.limits.FrameLimits.{FrameLimits}
 use Rattle.dap_frame.specs.Frame.{IsOpen, Shows}
 use Rattle.dap_recording.specs.declared.recorder_fault.RecorderFault.{RecorderFault}
 use Rattle.dap_recording.specs.declared.recorder_fault.RecorderFault.TheVariants.{Frame}
-use Rattle.dap_recording.specs.declared.recorder_fault.RecorderFault.TheVariants.{Memory as NoMemory}
+use Rattle.dap_recording.specs.declared.recorder_fault.RecorderFault.TheVariants.{Memory as NoRoom}
 use Rattle.dap_recording.specs.RecordedTraces.{AreRecorded}
 use Rattle.dap_recording.specs.RecorderReading.{RecorderReading, StandsForRests, recorder_limits}
 use Rattle.dap_recording.specs.RecorderReading.{text_of}
@@ -53,7 +53,7 @@ abbrev pub RecordsRun : {U : Type 0} → FrameLimits → RecorderReading → Lis
 RecordsRun limits new taken side run (Ok done) = HasRecorded limits new (taken ++ sent_by side run)
 RecordsRun limits new taken side run (Err (Frame s fault)) = (s ≡ side)
     × ShowsInRun limits new taken side run fault
-RecordsRun limits new taken side run (Err NoMemory) = Unit {0}
+RecordsRun limits new taken side run (Err NoRoom) = Unit {0}
 
 -- The bytes that were read are judged so, and the recorder's text has the records of the messages.
 pub record HasTraced {U : Type 0} (limits : Limits) (bytes : List ℕ) (stop : Stop)
