@@ -4,13 +4,13 @@ _dapnorm() {
     local word=${COMP_WORDS[COMP_CWORD]} command=${COMP_WORDS[1]} words=
     COMPREPLY=()
     if ((COMP_CWORD == 1)); then
-        words='record check normalise compare show compact mask rows help -h --help -V --version'
+        words='record check normalise compare diff show compact mask rows help -h --help -V --version'
     else
         case $command in
             check) words='--complete -h --help' ;;
             record | normalise | show | compact | rows) words='-h --help' ;;
-            help) ((COMP_CWORD == 2)) && words='record check normalise compare show compact mask rows help' ;;
-            compare | mask)
+            help) ((COMP_CWORD == 2)) && words='record check normalise compare diff show compact mask rows help' ;;
+            compare | diff | mask)
                 if [[ $word == -* ]]; then
                     words='-h --help'
                 else

@@ -6,11 +6,9 @@ GOLDEN, SESSION and MASK: a file of rules that take away what changes from run t
 
 `dapnorm` has to be on PATH. Where no pytest is, `python3 golden_test.py` does the same.
 """
-import difflib
 import json
 import os
 import pathlib
-import re
 import shlex
 import subprocess
 import sys
@@ -88,23 +86,6 @@ def recorded(folder):
     return normal
 
 
-def contents(recording):
-    """The contents of a recording's records, each over several lines."""
-    at, found = 0, []
-    while at < len(recording):
-        begin = recording.index(b"\r\n\r\n", at) + 4
-        end = begin + int(re.search(rb"(?i)content-length:\s*(\d+)", recording[at:begin])[1])
-        found.append(recording[at:at + 1].decode() + " " + json.dumps(json.loads(recording[begin:end]), indent=1))
-        at = end + 1
-    return found
-
-
-def difference(golden, later, number):
-    """Record `number` of both, line by line; of a recording that has ended before, nothing."""
-    lines = [(it[number - 1].splitlines() if number <= len(it) else []) for it in (contents(golden), contents(later))]
-    return "\n".join(difflib.unified_diff(*lines, f"record {number} of the golden file", f"record {number} of this run", lineterm=""))
-
-
 def test_session_is_golden(tmp_path):
     normal = recorded(tmp_path)
     if os.environ.get("UPDATE_GOLDEN"):
@@ -113,10 +94,8 @@ def test_session_is_golden(tmp_path):
         os.replace(beside, GOLDEN)
         return
     assert GOLDEN.exists(), f"{GOLDEN} is not there: run with UPDATE_GOLDEN=1 once"
-    verdict = dapnorm("compare", GOLDEN, normal).decode().splitlines()[0]
-    if verdict != "same":
-        number = int(verdict.split()[1])
-        raise AssertionError(f"{verdict}\n{difference(GOLDEN.read_bytes(), normal.read_bytes(), number)}")
+    told = dapnorm("diff", GOLDEN, normal).decode()
+    assert told == "same\n", f"A is the golden file, B this run:\n{told}"
 
 
 if __name__ == "__main__":

@@ -13,7 +13,7 @@ from worked_runs import Run, all_runs
 # Runs that are counted from the start of the program on: one of each command, and command lines that name no job.
 FROM_THE_START = {
     "compact of a loose frame", "record of two sides", "check of a configuration", "normalise of a configuration", "show of frames",
-    "mask rules of a configuration", "compare a b of frames exchanged",
+    "mask rules of a configuration", "compare a b of frames exchanged", "diff a b of a stale frame",
 }
 WORDS = [[], ["--help"], ["--version"], ["check", "--all"], ["rows"], ["rows", "62"], ["rows", "0"]]
 WRITE_RECORDS = ("normalise", "mask")

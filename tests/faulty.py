@@ -2,6 +2,7 @@
 import os
 import subprocess
 from concurrent.futures import ThreadPoolExecutor
+from threading import Lock
 
 from report import PROGRAM, TOP, toolchain
 
@@ -27,17 +28,19 @@ class Faulty:
         self.folder = folder
         self.shim = build_shim(folder)
         self.places = {}
+        self.placing = Lock()
 
     def place(self, files):
-        """The folder that has these files."""
+        """The folder that has these files; runs that want the same ones at a time wait until they are written."""
         key = tuple(sorted(files.items()))
-        if key not in self.places:
-            self.places[key] = os.path.join(self.folder, str(len(self.places)))
-            os.mkdir(self.places[key])
-            for name, text in files.items():
-                with open(os.path.join(self.places[key], name), "wb") as file:
-                    file.write(text)
-        return self.places[key]
+        with self.placing:
+            if key not in self.places:
+                self.places[key] = os.path.join(self.folder, str(len(self.places)))
+                os.mkdir(self.places[key])
+                for name, text in files.items():
+                    with open(os.path.join(self.places[key], name), "wb") as file:
+                        file.write(text)
+            return self.places[key]
 
     def run(self, run, passed=(), **asked):
         """The status, the output and the errors of a run under what is asked of the shim, as `read_fails=3`."""

@@ -36,7 +36,7 @@ def named(name):
 # A run of each command that ends well, and how many files it opens before it reads.
 COMMANDS = [
     "compact of a loose frame", "record of two sides", "normalise of a configuration", "check of a configuration", "show of frames",
-    "mask rules of a configuration", "compare a b of frames exchanged",
+    "mask rules of a configuration", "compare a b of frames exchanged", "diff a b of a stale frame",
 ]
 
 
@@ -143,12 +143,12 @@ def system_devices(report, faulty):
         answer = system_run(run, folder, input=run.given, stdout=written, stderr=subprocess.PIPE)
         os.close(written)
         report.check(f"{name} into a pipe that nobody reads", answer == (4, None, WRITE_FAULT), repr(answer))
-        for closed, wanted in ((">&-", (4, b"", WRITE_FAULT)), ("2>&-", (0, run.answer[1], b""))):
+        for closed, wanted in ((">&-", (4, b"", WRITE_FAULT)), ("2>&-", (run.answer[0], run.answer[1], b""))):
             shell = ["sh", "-c", f'exec "$0" "$@" {closed}', PROGRAM, *run.arguments]
             ran = subprocess.run(shell, input=run.given, cwd=folder, **piped)
             answer = (ran.returncode, ran.stdout, ran.stderr)
             report.check(f"{name} with {closed}", answer == wanted, repr(answer))
-        if run.arguments[0] == "compare":
+        if run.arguments[0] in ("compare", "diff"):
             continue
         source = os.open(faulty.folder, os.O_RDONLY)
         answer = system_run(run, folder, stdin=source, **piped)

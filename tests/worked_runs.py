@@ -258,6 +258,16 @@ COMPARED = {
     ),
 }
 
+# What `diff` prints of those that differ, or prints otherwise than `compare`.
+LOWER_SEQ = b'differ 3\n< event "initialized"\nA seq 2\nB seq 1\n'
+DIFFERENCES = {
+    "other numbers": LOWER_SEQ,
+    "frames exchanged": b"same\n",
+    "a stale frame": b'differ 8\n< response "stackTrace"\nA body.stackFrames[0].id 1\nB body.stackFrames[0].id 2\n',
+    "an end": b'differ 5\nA < response "configurationDone"\nB ends\n',
+    "a fault behind a difference": LOWER_SEQ,
+}
+
 SHOWN_BEGUN = '1 > request "initialize" seq=1\n2 < response "initialize" seq=1 request_seq=1 ok\n'
 SHOWN_STACK = SHOWN_BEGUN + '3 > request "stackTrace" seq=2\n4 < response "stackTrace" seq=2 request_seq=2 '
 
@@ -335,6 +345,8 @@ def of_others():
         yield stream(name, ["record"], given, (0, written, b"") if told is None else (2, written, refusal(told)))
     for name, (a, b, answer) in COMPARED.items():
         yield stream(name, ["compare", "a", "b"], b"", answer, {"a": a, "b": b})
+        status, printed, told = answer
+        yield stream(name, ["diff", "a", "b"], b"", (status, DIFFERENCES.get(name, printed), told), {"a": a, "b": b})
 
 
 def of_rules():

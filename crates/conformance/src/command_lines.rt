@@ -6,7 +6,7 @@ use std::alloc::Global;
 use std::process::Abort;
 
 /// Words, and the job that they are.
-const JOBS: [(&[&str], Job<'static>); 10] = [
+const JOBS: [(&[&str], Job<'static>); 11] = [
     (&["dapnorm", "compact"], Job::Compact),
     (&["dapnorm", "record"], Job::Record),
     (&["dapnorm", "normalise"], Job::Normalise),
@@ -25,6 +25,13 @@ const JOBS: [(&[&str], Job<'static>); 10] = [
     (
         &["dapnorm", "compare", "a.rec", "b.rec"],
         Job::Compare {
+            a: "a.rec",
+            b: "b.rec",
+        },
+    ),
+    (
+        &["dapnorm", "diff", "a.rec", "b.rec"],
+        Job::Diff {
             a: "a.rec",
             b: "b.rec",
         },

@@ -5,7 +5,7 @@ ghost use Rattle.dapnorm.specs.Limits.{AreSound};
 
 use dapnorm::{
     Checked, CompareRefused, Job, Limits, Normalised, Refused, Sink, Source, Verdict, check,
-    compact, compare, normalise, normalise_bytes, record, run_compare, run_stream, show,
+    compact, compare, normalise, normalise_bytes, record, run_compare, run_diff, run_stream, show,
 };
 use std::alloc::Global;
 
@@ -154,7 +154,10 @@ pub fn status<R: Source, W: Sink, E: Sink>(
     requires write_failures { W.failures writer.old < 2 ^ 62 }
     requires error_failures { E.failures errors.old < 2 ^ 62 }
 {
-    if matches!(job, Job::Compare { .. } | Job::Mask { .. }) {
+    if matches!(
+        job,
+        Job::Compare { .. } | Job::Diff { .. } | Job::Mask { .. }
+    ) {
         return None;
     }
     Some(run_stream(alloc, job, reader, writer, errors, limits))
@@ -178,4 +181,24 @@ pub fn compare_status<A: Source, B: Source, W: Sink, E: Sink>(
     requires error_failures { E.failures errors.old < 2 ^ 62 }
 {
     run_compare(alloc, a, b, writer, errors, limits)
+}
+
+/// The status of the program for two inputs whose difference is told.
+pub fn diff_status<A: Source, B: Source, W: Sink, E: Sink>(
+    alloc: Global,
+    a: &mut A,
+    b: &mut B,
+    writer: &mut W,
+    errors: &mut E,
+    limits: Limits,
+) -> u8
+    requires limits { AreSound limits }
+    requires given_a { A.given a.old < 2 ^ 62 }
+    requires given_b { B.given b.old < 2 ^ 62 }
+    requires failures_a { A.failures a.old < 2 ^ 62 }
+    requires failures_b { B.failures b.old < 2 ^ 62 }
+    requires write_failures { W.failures writer.old < 2 ^ 62 }
+    requires error_failures { E.failures errors.old < 2 ^ 62 }
+{
+    run_diff(alloc, a, b, writer, errors, limits)
 }

@@ -166,7 +166,10 @@ fn stream_by<R: Source, W: Sink, E: Sink, T: NameTable + Drop>(
     requires write_failures { W.failures writer.old < 2 ^ 62 }
     requires error_failures { E.failures errors.old < 2 ^ 62 }
 {
-    if matches!(job, Job::Compare { .. } | Job::Mask { .. }) {
+    if matches!(
+        job,
+        Job::Compare { .. } | Job::Diff { .. } | Job::Mask { .. }
+    ) {
         return None;
     }
     Some(run_stream_with(alloc, job, reader, writer, errors, limits, tables))

@@ -21,6 +21,10 @@ mod comparing;
 #[cfg(test)]
 mod devices;
 #[cfg(test)]
+mod diff_refused_growths;
+#[cfg(test)]
+mod differing;
+#[cfg(test)]
 mod engines;
 #[cfg(test)]
 mod examples;
@@ -54,6 +58,8 @@ mod recording_traces;
 mod recordings;
 #[cfg(test)]
 mod refused_growths;
+#[cfg(test)]
+mod refused_growths_of_differences;
 #[cfg(test)]
 mod refused_growths_of_masks;
 #[cfg(test)]

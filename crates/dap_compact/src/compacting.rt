@@ -89,6 +89,7 @@ fn compact_records<R: Source>(
             limits,
             &mut room,
         )?;
+        records.recycle(content);
     }
 }
 

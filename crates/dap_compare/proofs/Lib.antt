@@ -3,3 +3,4 @@ pub mod OneVerdict
 pub mod SomeVerdict
 pub mod StreamComparing
 pub mod Verdicts
+pub mod LeftTexts

@@ -79,7 +79,7 @@ module _ {T R S : Type 0} {numbers : T → List ℤ} {table_limit : T → ℕ} (
   are = normal_is_complete in_whole a.messages b.messages a.normal a.stands.stands.is_normal
       (subst (IsNormal in_whole b.messages) (sym alike) b.stands.stands.is_normal)
 
-  one_number : records_b.records.number ≡ number
+  pub one_number : records_b.records.number ≡ number
   one_number =
       b.stands.number_is ∙ sym (ap (λ n. n + 1) (same_lengths a.messages b.messages are))
       ∙ sym a.stands.number_is

@@ -1,4 +1,5 @@
 pub mod Comparing
 pub mod ComparingSteps
+pub mod LeftTexts
 pub mod Verdicts
 pub mod Which

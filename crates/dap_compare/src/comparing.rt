@@ -5,6 +5,7 @@ ghost use Rattle.dap_normal.specs.NormalSteps.{StandsBefore};
 ghost use Rattle.dap_compare.specs.ComparingSteps.{AreNext, IsRefusalOf, TellsNext};
 ghost use Rattle.dap_input.specs.Limits.{AreSound};
 ghost use Rattle.dap_normal.specs.NameTables.{AreReady};
+ghost use Rattle.dap_compare.specs.LeftTexts.{LeavesDifference};
 ghost use Rattle.dap_compare.specs.Verdicts.{Compares};
 
 use crate::verdict::{CompareRefused, Verdict, Which};
@@ -144,6 +145,58 @@ pub fn compare_with<A: Source, B: Source, T: NameTable + Drop>(
     ensures taken_a { A.given reader_a.new ≤ A.given reader_a.old + limits.input + 1 }
     ensures taken_b { B.given reader_b.new ≤ B.given reader_b.old + limits.input + 1 }
 {
+    let mut text_a = Vec::new(alloc);
+    let mut text_b = Vec::new(alloc);
+    compare_texts_with(
+        alloc,
+        reader_a,
+        reader_b,
+        limits,
+        tables_a,
+        tables_b,
+        &mut text_a,
+        &mut text_b,
+    )
+}
+
+/// Does what [`compare_with`] does, and leaves the records at which the recordings differ.
+///
+/// In `text_a` is then the record of A's normal form, in `text_b` that of B's; nothing, where that
+/// one has ended. On every other answer no more is said of the two.
+///
+/// # Errors
+///
+/// Those of [`compare`].
+pub fn compare_texts_with<A: Source, B: Source, T: NameTable + Drop>(
+    alloc: Global,
+    reader_a: &mut A,
+    reader_b: &mut B,
+    limits: Limits,
+    tables_a: Tables<T>,
+    tables_b: Tables<T>,
+    text_a: &mut Vec<u8>,
+    text_b: &mut Vec<u8>,
+) -> Result<Verdict, CompareRefused>
+    requires limits { AreSound limits }
+    requires tables_a { AreReady T.numbers T.limit limits tables_a }
+    requires tables_b { AreReady T.numbers T.limit limits tables_b }
+    requires given_a { A.given reader_a.old < 2 ^ 62 }
+    requires given_b { B.given reader_b.old < 2 ^ 62 }
+    requires failures_a { A.failures reader_a.old < 2 ^ 62 }
+    requires failures_b { B.failures reader_b.old < 2 ^ 62 }
+
+    // What `compare` promises, whatever the tables are.
+    ensures answer { Compares A.Source B.Source limits reader_a.old reader_a.new reader_b.old
+        reader_b.new result }
+    ensures taken_a { A.given reader_a.new ≤ A.given reader_a.old + limits.input + 1 }
+    ensures taken_b { B.given reader_b.new ≤ B.given reader_b.old + limits.input + 1 }
+
+    // Where a difference is answered, the records at which it is are left.
+    ensures text_a { LeavesDifference A.Source limits reader_a.old reader_a.new text_a.new.items
+        result }
+    ensures text_b { LeavesDifference B.Source limits reader_b.old reader_b.new text_b.new.items
+        result }
+{
     let Ok(mut records_a) = NormalRecords::new(alloc, limits, tables_a) else {
         return Err(CompareRefused::Memory);
     };
@@ -157,6 +210,8 @@ pub fn compare_with<A: Source, B: Source, T: NameTable + Drop>(
         &mut records_b,
         reader_b,
         limits,
+        text_a,
+        text_b,
     )
 }
 
@@ -168,6 +223,8 @@ fn compare_records<A: Source, B: Source, T: NameTable + Drop>(
     records_b: &mut NormalRecords<T>,
     reader_b: &mut B,
     limits: Limits,
+    text_a: &mut Vec<u8>,
+    text_b: &mut Vec<u8>,
 ) -> Result<Verdict, CompareRefused>
     requires limits { AreSound limits }
     requires stands_a { StandsBefore T.numbers T.limit limits [] records_a.old [] [] }
@@ -180,13 +237,15 @@ fn compare_records<A: Source, B: Source, T: NameTable + Drop>(
         reader_b.new result }
     ensures taken_a { A.given reader_a.new ≤ A.given reader_a.old + limits.input + 1 }
     ensures taken_b { B.given reader_b.new ≤ B.given reader_b.old + limits.input + 1 }
+    ensures text_a { LeavesDifference A.Source limits reader_a.old reader_a.new text_a.new.items
+        result }
+    ensures text_b { LeavesDifference B.Source limits reader_b.old reader_b.new text_b.new.items
+        result }
 {
-    let mut text_a = Vec::new(alloc);
-    let mut text_b = Vec::new(alloc);
-    loop {
+    'records: loop {
         let number = records_a.number();
-        let some_a = next_text(alloc, Which::A, records_a, reader_a, &mut text_a)?;
-        let some_b = next_text(alloc, Which::B, records_b, reader_b, &mut text_b)?;
+        let some_a = next_text(alloc, Which::A, records_a, reader_a, text_a)?;
+        let some_b = next_text(alloc, Which::B, records_b, reader_b, text_b)?;
         match next_records(some_a, some_b, text_a.as_slice(), text_b.as_slice()) {
             NextRecords::Alike => {}
             NextRecords::Apart => return Ok(Verdict::Differ(number)),

@@ -5,5 +5,5 @@ mod comparing;
 pub mod laws;
 mod verdict;
 
-pub use comparing::{compare, compare_with};
+pub use comparing::{compare, compare_texts_with, compare_with};
 pub use verdict::{CompareRefused, Verdict, Which};

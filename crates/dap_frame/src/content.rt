@@ -1,5 +1,5 @@
 //! The content of a frame.
-ghost use Rattle.std.specs.Prelude.{◌≡◌};
+ghost use Rattle.std.specs.Prelude.{◌≡◌, []};
 
 use std::marker::Model;
 
@@ -23,6 +23,15 @@ impl Content {
         ensures { result ≡ bytes.items }
     {
         Content { bytes }
+    }
+
+    /// The memory of the bytes, without them.
+    pub(crate) fn into_room(self) -> Vec<u8>
+        ensures { result.items ≡ [] }
+    {
+        let mut bytes = self.bytes;
+        bytes.clear();
+        bytes
     }
 
     /// The bytes, in the order of the stream. Takes no memory.

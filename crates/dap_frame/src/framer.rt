@@ -154,6 +154,16 @@ impl Framer {
         })
     }
 
+    /// Keeps the memory of a content that is done with, for the contents to come. Nothing else is
+    /// changed, and no memory is taken.
+    pub fn recycle(&mut self, content: Content)
+        ensures { self.new ≡ self.old }
+    {
+        if self.bytes.is_empty() {
+            self.bytes = content.into_room();
+        }
+    }
+
     /// Whether the stream may end here: `Cut` inside a frame, or the fault that was met. Changes
     /// nothing and takes no memory.
     pub fn finish(&self) -> Result<(), FrameFault>

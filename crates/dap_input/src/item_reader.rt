@@ -43,6 +43,11 @@ pub trait ItemReader: Drop {
         ensures used { IfOk result (λ fed. fed.used ≤ length piece.now) }
         ensures progress { IfOk result (λ fed. 0 < length piece.now → 0 < fed.used) };
 
+    /// Keeps the memory of an item that is done with, for the items to come. Nothing else is
+    /// changed, and no memory is taken.
+    fn recycle(&mut self, item: Self::Item)
+        ensures { self.new ≡ self.old };
+
     /// Whether the input may end here: `Cut` inside an item. Changes nothing and takes no memory.
     fn finish(&self) -> Result<(), RecordCause>
         ensures ok { (limits : FrameLimits) (bytes : List ℕ) → stands limits self.now bytes
@@ -80,6 +85,10 @@ impl ItemReader for Framer {
         }
     }
 
+    fn recycle(&mut self, item: Content) {
+        Framer::recycle(self, item);
+    }
+
     fn finish(&self) -> Result<(), RecordCause> {
         match Framer::finish(self) {
             Ok(()) => Ok(()),
@@ -111,6 +120,10 @@ impl ItemReader for RecordReader {
             }),
             Err(fault) => Err(fault.cause),
         }
+    }
+
+    fn recycle(&mut self, item: Record) {
+        RecordReader::recycle(self, item);
     }
 
     fn finish(&self) -> Result<(), RecordCause> {

@@ -76,6 +76,14 @@ impl<I: ItemReader> Records<I> {
         }
     }
 
+    /// Keeps the memory of a record that is done with, for the records to come. Nothing else is
+    /// changed, and no memory is taken.
+    pub fn recycle(&mut self, item: I::Item)
+        ensures { self.new ≡ self.old }
+    {
+        self.reader.recycle(item);
+    }
+
     /// What it means that no more comes.
     fn stopped(&self, stop: Stop) -> Result<Option<I::Item>, Refused>
         ensures { (limits : FrameLimits) → Stops (I.stands limits) self.now stop result }

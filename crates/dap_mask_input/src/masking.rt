@@ -167,6 +167,7 @@ fn mask_records<R: Source, W: Sink>(
         if write_all(writer, text.as_slice()).is_err() {
             return Err(Refused::WriteFault);
         }
+        records.recycle(whole);
     }
 }
 

@@ -85,6 +85,7 @@ impl<T: NameTable + Drop> NormalRecords<T> {
             return Ok(false);
         };
         self.judge.judge(alloc, number, &whole, text)?;
+        self.records.recycle(whole);
         Ok(true)
     }
 

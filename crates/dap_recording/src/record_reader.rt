@@ -94,6 +94,14 @@ impl RecordReader {
         }
     }
 
+    /// Keeps the memory of a record that is done with, for the records to come. Nothing else is
+    /// changed, and no memory is taken.
+    pub fn recycle(&mut self, whole: Record)
+        ensures { self.new ≡ self.old }
+    {
+        self.framer.recycle(whole.content);
+    }
+
     /// Reads on from the marker of a record.
     fn read_marker(&mut self, piece: &[u8]) -> Result<FedRecord, RecordFault>
         requires { self.old.state ≡ RecordState.Marker }

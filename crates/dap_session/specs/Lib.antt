@@ -9,4 +9,5 @@ pub mod Standing
 pub mod View
 pub mod RequestSteps
 pub mod SessionView
+pub mod EnvelopeView
 pub mod RuleName

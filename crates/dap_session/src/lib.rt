@@ -5,6 +5,7 @@
 //! theorems.
 #![tactic(auto)]
 
+mod envelope;
 pub mod laws;
 mod message;
 mod phase;

@@ -1,11 +1,12 @@
 //! How far the client's `initialize` request has come.
+ghost use Rattle.dap_session.specs.EnvelopeView.{message_of};
 ghost use Rattle.std.specs.Prelude.{◌≡◌};
-ghost use Rattle.dap_message.specs.Message.{sent};
 ghost use Rattle.dap_session.specs.KeptRules as tells;
 ghost use Rattle.dap_session.specs.Kept as kept;
 
+use crate::envelope::Envelope;
 use crate::message::{is_client_initialize, is_from, is_response, request_seq_of, seq_of};
-use dap_message::{Message, Side};
+use dap_message::Side;
 
 /// How far the client's `initialize` request has come.
 #[derive(Clone, Copy)]
@@ -32,8 +33,8 @@ impl Phase {
     }
 
     /// Whether the message answers the request.
-    fn is_answered_by(&self, message: &Message) -> bool
-        ensures { result ≡ kept.answers_asked self.now (sent message.now) }
+    fn is_answered_by(&self, message: &Envelope<'_>) -> bool
+        ensures { result ≡ kept.answers_asked self.now (message_of message.now) }
     {
         match self {
             Phase::Asked(number) => {
@@ -46,8 +47,8 @@ impl Phase {
     }
 
     /// How far it has come after one more message.
-    pub fn after(&self, message: &Message) -> Phase
-        ensures { result ≡ kept.phase_after self.now (sent message.now) }
+    pub fn after(&self, message: &Envelope<'_>) -> Phase
+        ensures { result ≡ kept.phase_after self.now (message_of message.now) }
     {
         if is_client_initialize(message) {
             Phase::Asked(seq_of(message))

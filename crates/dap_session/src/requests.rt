@@ -1,13 +1,14 @@
 //! The requests of one side.
+ghost use Rattle.dap_session.specs.EnvelopeView.{message_of};
 ghost use Rattle.std.specs.Prelude.{◌≡◌, ◌&&◌, [], OnOk, OnErr, option_map, false, true};
 ghost use Rattle.std.specs.Prelude.{None, Some};
-ghost use Rattle.dap_message.specs.Message.{sent};
 ghost use Rattle.dap_session.specs.Kept.{request_numbered, unanswered, with_request, with_answer};
 ghost use Rattle.dap_session.specs.Kept.{requests_after};
 ghost use Rattle.dap_session.specs.RequestSteps.{FitsRequests, adds_to};
 
+use crate::envelope::Envelope;
 use crate::message::{is_from, is_request, is_response, name_of, request_seq_of, seq_of};
-use dap_message::{Message, Side};
+use dap_message::Side;
 use std::alloc::{AllocError, Global};
 use std::collections::BTreeMap;
 use std::marker::Model;
@@ -98,11 +99,12 @@ impl Requests {
     }
 
     /// Keeps what a message asks or answers here.
-    pub fn note(&mut self, side: Side, message: &Message) -> Result<(), AllocError>
-        requires { FitsRequests side self.old (sent message.now) }
-        ensures ok { OnOk result (self.new ≡ requests_after side self.old (sent message.now)) }
+    pub fn note(&mut self, side: Side, message: &Envelope<'_>) -> Result<(), AllocError>
+        requires { FitsRequests side self.old (message_of message.now) }
+        ensures ok { OnOk result
+            (self.new ≡ requests_after side self.old (message_of message.now)) }
         ensures err { OnErr result (self.new ≡ self.old) }
-        ensures memory { OnErr result (adds_to side (sent message.now) ≡ true) }
+        ensures memory { OnErr result (adds_to side (message_of message.now) ≡ true) }
     {
         if is_request(message) && is_from(message, side) {
             self.ask(seq_of(message), name_of(message))?;

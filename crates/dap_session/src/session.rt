@@ -1,4 +1,5 @@
 //! A session as its messages come: each is taken or breaks a rule.
+ghost use Rattle.dap_session.specs.EnvelopeView.{message_of};
 ghost use Rattle.std.specs.Prelude.{◌≡◌, [], List, Some, None, option_map, OnOk, OnErr, true};
 ghost use Rattle.std.specs.Prelude.{false, IsErrOf};
 ghost use Rattle.dap_message.specs.Message.{Sent, sent};
@@ -8,6 +9,7 @@ ghost use Rattle.dap_session.specs.Kept.{requests_of, kept_after};
 ghost use Rattle.dap_session.specs.KeptRules.{first_told, tells, asked_for};
 ghost use Rattle.dap_session.specs.Standing.{Stands, Says};
 
+use crate::envelope::{Envelope, envelope_of};
 use crate::message::{
     is_client_initialize, is_configuration_done, is_event, is_farewell, is_from, is_initialize,
     is_initialized, is_output, is_request, is_response, name_of, request_seq_of, seq_of, side_of,
@@ -71,6 +73,7 @@ impl Session {
         ensures in_rules { IsErrOf result SessionFault.Memory → (ms : List Sent)
             → Stands self.old ms → first_broken ms (sent message.now) ≡ None }
     {
+        let message = &envelope_of(message);
         if let Some(rule) = self.broken_by(message) {
             return Err(SessionFault::Broken(rule));
         }
@@ -97,9 +100,9 @@ impl Session {
     }
 
     /// The command of the request that a response answers, and whether it is answered.
-    fn asked_for(&self, message: &Message) -> Option<(&str, bool)>
+    fn asked_for(&self, message: &Envelope<'_>) -> Option<(&str, bool)>
         ensures { option_map (λ a. (a.0.now, a.1)) result
-            ≡ asked_for self.now (sent message.now) }
+            ≡ asked_for self.now (message_of message.now) }
     {
         let Some(number) = request_seq_of(message) else {
             return None;
@@ -110,9 +113,13 @@ impl Session {
         }
     }
 
+    /// Whether the message breaks the rule. `asked` is the request that it answers, as
+    /// [`Self::asked_for`] tells it.
     #[tactic(auto, unfolding(crate::specs::KeptRules::tells))]
-    fn breaks(&self, rule: Rule, message: &Message) -> bool
-        ensures { result ≡ tells rule self.now (sent message.now) }
+    fn breaks(&self, rule: Rule, message: &Envelope<'_>, asked: Option<(&str, bool)>) -> bool
+        requires { option_map (λ a. (a.0.now, a.1)) asked
+            ≡ asked_for self.now (message_of message.now) }
+        ensures { result ≡ tells rule self.now (message_of message.now) }
     {
         match rule {
             Rule::EventFromClient => is_from(message, Side::Client) && is_event(message),
@@ -133,13 +140,11 @@ impl Session {
             }
             Rule::ConfiguredEarly => is_configuration_done(message) && !self.initialized,
             Rule::ConfiguredTwice => is_configuration_done(message) && self.configured,
-            Rule::NoRequest => is_response(message) && self.asked_for(message).is_none(),
-            Rule::AnsweredTwice => {
-                is_response(message) && matches!(self.asked_for(message), Some((_, true)))
-            }
+            Rule::NoRequest => is_response(message) && asked.is_none(),
+            Rule::AnsweredTwice => { is_response(message) && matches!(asked, Some((_, true))) }
             Rule::OtherCommand => {
                 is_response(message)
-                    && match self.asked_for(message) {
+                    && match asked {
                         Some((command, _)) => command != name_of(message),
                         None => false,
                     }
@@ -149,12 +154,13 @@ impl Session {
 
     /// The first rule that the message breaks.
     #[tactic(auto, unfolding(crate::specs::KeptRules::first_told))]
-    fn broken_by(&self, message: &Message) -> Option<Rule>
-        ensures { result ≡ first_told self.now (sent message.now) }
+    fn broken_by(&self, message: &Envelope<'_>) -> Option<Rule>
+        ensures { result ≡ first_told self.now (message_of message.now) }
     {
         if is_output(message) {
             return None;
         }
+        let asked = self.asked_for(message);
         for rule in [
             Rule::EventFromClient,
             Rule::NotInitialized,
@@ -168,7 +174,7 @@ impl Session {
             Rule::AnsweredTwice,
             Rule::OtherCommand,
         ] {
-            if self.breaks(rule, message) {
+            if self.breaks(rule, message, asked) {
                 return Some(rule);
             }
         }
@@ -176,11 +182,11 @@ impl Session {
     }
 
     /// Keeps what the rules need to know of a message that breaks none.
-    fn keep(&mut self, message: &Message) -> Result<(), AllocError>
-        requires { first_told self.old (sent message.now) ≡ None }
-        ensures ok { OnOk result (self.new ≡ kept_after self.old (sent message.now)) }
+    fn keep(&mut self, message: &Envelope<'_>) -> Result<(), AllocError>
+        requires { first_told self.old (message_of message.now) ≡ None }
+        ensures ok { OnOk result (self.new ≡ kept_after self.old (message_of message.now)) }
         ensures err { OnErr result (self.new ≡ self.old) }
-        ensures memory { OnErr result (is_request (sent message.now) ≡ true) }
+        ensures memory { OnErr result (is_request (message_of message.now) ≡ true) }
     {
         self.client.note(Side::Client, message)?;
         self.adapter.note(Side::Adapter, message)?;

@@ -56,6 +56,7 @@ fn show_records<R: Source>(
             return Ok(out);
         };
         append_lines(alloc, &mut out, number, &whole, &mut scratch)?;
+        records.recycle(whole);
     }
 }
 

@@ -3,3 +3,4 @@ pub mod TracePieces
 pub mod TraceSteps
 pub mod RawRunLoop
 pub mod TracingLoop
+pub mod PieceLoop

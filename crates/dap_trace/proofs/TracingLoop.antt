@@ -1,4 +1,4 @@
--- What the loop of `record` over its input keeps, and what it may answer.
+-- What the loop of `record` over a piece of its input keeps, and what it may answer.
 use Rattle.dap_device.specs.declared.device.Sink.{Ghosts as Sink}
 use Rattle.dap_device.specs.declared.device.Source.{Ghosts as Source}
 use Rattle.dap_frame.specs.declared.fault.FrameFault.TheVariants as frame_fault
@@ -24,7 +24,6 @@ use Rattle.dap_recording.specs.Marker.{marker}
 use Rattle.dap_recording.specs.RecordedTraces.{AreRecorded, bytes_of}
 use Rattle.dap_recording.specs.RecorderReading.{RecorderReading, StandsForRests, recorder_limits}
 use Rattle.dap_recording.specs.RecorderReading.{text_of}
-use Rattle.dap_recording.specs.Recording.{recording_text}
 use Rattle.dap_recording.specs.RecordReading.{next_number}
 use Rattle.dap_recording.specs.Trace.{IsCount, IsPiece, ShowsTraceFault}
 use Rattle.dap_recording.specs.declared.fed_trace.FedTrace.{FedTrace}
@@ -54,28 +53,11 @@ use Rattle.dap_trace.specs.Tracing.{a_client_frame, an_adapter_frame, at_byte, p
 use Rattle.dap_trace.specs.TracingRun.{HasJudgedTrace, HasWrittenRecords, IsNotRefused}
 use Rattle.dap_trace.specs.TracingRun.{RecordsTrace}
 use Rattle.dap_trace.specs.TracingSteps.{HasRecorded, HasSentRecords, HasTraced, RecordsRun, Traces}
-use Rattle.dap_trace.proofs.TraceOutcomes.{nothing_came}
+use Rattle.dap_trace.specs.TracingSteps.{Tracing}
+use Rattle.dap_trace.proofs.TraceOutcomes.{nothing_came, refusal_stays}
 use Rattle.dap_trace.proofs.TracePieces.{no_raw, open_of, opened}
 use Rattle.dap_trace.proofs.TraceSteps.{at_the_end, recorded_whole, sent_on, with_piece, with_raw}
 use Rattle.dap_trace.proofs.RawRunLoop.{stands_open}
-
--- What has been read of the whole has come, the reader and the recorder stand for its rests, and
--- the last run was one of the last whole piece, where that was all.
-pub record Tracing (limits : Limits) (whole rest : List ℕ) (reader : TraceReading)
-    (recorder : RecorderReading) (last : ℕ) : Type 0 where
-  pub done : List ℕ
-  pub so_far : SoFar limits.frame done
-  pub whole_is : whole ≡ done ++ rest
-  pub short : length whole ≤ limits.input
-  pub raw : List ℕ
-  pub raw_is : (s : Side) (tail more : List ℕ) → so_far.rest ++ tail ≡ marker s ∷ more
-      → so_far.raw ≡ sent_by s raw
-  pub no_raw : raw ≡ [] → so_far.raw ≡ []
-  pub reads : StandsForPiece reader (next_piece so_far) so_far.rest raw
-  pub stands : StandsForRests recorder so_far.rests
-  pub its_limits : recorder_limits recorder ≡ limits.frame
-  pub text : text_of recorder ≡ recording_text so_far.messages
-  pub last_is : so_far.rest ≡ [] → last ≡ length so_far.pieces
 
 pub start : (limits : Limits) (whole : List ℕ) (reader : TraceReading) (recorder : RecorderReading)
     → AreSound limits → length whole ≤ limits.input → StandsForPiece reader 1 [] []
@@ -169,6 +151,28 @@ cut_of_end n side other h = absurd h
 module _ (limits : Limits) (sound : AreSound limits) (whole rest : List ℕ) (reader : TraceReading)
     (recorder : RecorderReading) (last : ℕ) (was : Tracing limits whole rest reader recorder last)
   where
+    -- More has come.
+    pub longer : (more : List ℕ) → length (whole ++ more) ≤ limits.input
+        → Tracing limits (whole ++ more) (rest ++ more) reader recorder last
+    longer more short = record {
+      done = was.done;
+      so_far = was.so_far;
+      whole_is = ap (λ t. t ++ more) was.whole_is ∙ append_assoc was.done rest more;
+      short = short;
+      raw = was.raw;
+      raw_is = was.raw_is;
+      no_raw = was.no_raw;
+      reads = was.reads;
+      stands = was.stands;
+      its_limits = was.its_limits;
+      text = was.text;
+      last_is = was.last_is;
+    }
+
+    -- All that has come was read.
+    pub piece_done : rest ≡ [] → Tracing limits whole [] reader recorder last
+    piece_done none = subst (λ r. Tracing limits whole r reader recorder last) none was
+
     -- what was taken before
     abbrev pub taken : List (Side × ℕ)
     taken = bytes_of was.so_far.pieces ++ was.so_far.raw
@@ -786,3 +790,25 @@ module _ {R W : Type 0} (U : Type 0) (source : Source R) (sink : Sink W) (limits
       sent (Ok done) result (written_all (Ok done)) traced has_sent
   answered (Err because) result traced has_sent =
       sent (Err because) result (written_all (Err because)) traced has_sent
+
+-- A fault that is shown stays one, whatever comes behind.
+pub refused_later : (U : Type 0) (limits : Limits) (bytes more : List ℕ) (refused : Refused)
+    (recorder : RecorderReading)
+    → ((stop : Stop) → Traces {U = U} limits bytes stop (Err refused) recorder)
+    → (stop : Stop) → Traces {U = U} limits (bytes ++ more) stop (Err refused) recorder
+refused_later U limits bytes more NoMemory recorder told stop = tt
+refused_later U limits bytes more WriteFault recorder told stop = absurd (told End).judges
+refused_later U limits bytes more ReadFault recorder told stop =
+    absurd (let e = (told End).judges.0 in let g : ⊥ = cc in g)
+refused_later U limits bytes more refused recorder told stop =
+    let now = told Full in
+    let no_end : IsOfEnd refused → ⊥ = λ ended.
+    (let e = now.judges.1 ended in let g : ⊥ = cc in g) in
+    record {
+      messages = now.messages;
+      judges = (
+        refusal_stays limits bytes more refused now.messages no_end now.judges.0,
+        λ ended. absurd (no_end ended),
+      );
+      text = now.text;
+    }

@@ -1,5 +1,6 @@
 -- What the steps of `record` do.
-use Rattle.std.specs.Prelude.{◌≡◌, ◌⊎◌, ℕ, List, [], ◌∷◌, ◌++◌, Result, Ok, Err}
+use Rattle.std.specs.Prelude.{◌≡◌, ◌⊎◌, ℕ, ◌+◌, ◌≤◌, List, [], ◌∷◌, ◌++◌, length, Some}
+use Rattle.std.specs.Prelude.{Result, Ok, Err}
 use Rattle.dap_frame.specs.declared.fault.FrameFault.{FrameFault}
 use Rattle.dap_frame.specs.declared.limits.FrameLimits.{FrameLimits}
 use Rattle.dap_frame.specs.Frame.{IsOpen, Shows}
@@ -9,15 +10,21 @@ use Rattle.dap_recording.specs.declared.recorder_fault.RecorderFault.TheVariants
 use Rattle.dap_recording.specs.RecordedTraces.{AreRecorded}
 use Rattle.dap_recording.specs.RecorderReading.{RecorderReading, StandsForRests, recorder_limits}
 use Rattle.dap_recording.specs.RecorderReading.{text_of}
+use Rattle.dap_recording.specs.Marker.{marker}
 use Rattle.dap_recording.specs.Recording.{recording_text}
+use Rattle.dap_recording.specs.TraceReading.{StandsForPiece, TraceReading}
 use Rattle.dap_tree.specs.declared.side.Side.{Side}
 use Rattle.dap_input.specs.declared.limits.Limits.{Limits}
 use Rattle.dap_device.specs.declared.device.Sink.{Ghosts as Sink}
+use Rattle.dap_device.specs.declared.device.Source.{Ghosts as Source}
 use Rattle.dap_device.specs.declared.reading.Stop.{Stop}
+use Rattle.dap_device.specs.Pieces.{HasComeSoFar, Window}
+use Rattle.dap_device.specs.Reading.{HasCome}
+use Rattle.dap_input.specs.RecordSteps.{IsWithin}
 use Rattle.dap_input.specs.declared.refused.Refused.{Refused}
 use Rattle.dap_input.specs.declared.refused.Refused.TheVariants.{WriteFault, Memory}
 use Rattle.dap_device.specs.Written.{AllSent, FrontWritten}
-use Rattle.dap_trace.specs.Tracing.{sent_by}
+use Rattle.dap_trace.specs.Tracing.{SoFar, next_piece, sent_by}
 use Rattle.dap_trace.specs.TracingRun.{JudgesTrace}
 
 -- What both sides sent has been recorded: the recorder's text has the records of the frames that
@@ -67,6 +74,48 @@ abbrev pub Traces : {U : Type 0} → Limits → List ℕ → Stop → Result U R
     → Type 0
 Traces limits bytes stop (Err Memory) recorder = Unit {0}
 Traces limits bytes stop answer recorder = HasTraced limits bytes stop answer recorder
+
+-- What has been read of the whole has come, the reader and the recorder stand for its rests, and
+-- the last run was one of the last whole piece, where that was all.
+pub record Tracing (limits : Limits) (whole rest : List ℕ) (reader : TraceReading)
+    (recorder : RecorderReading) (last : ℕ) : Type 0 where
+  pub done : List ℕ
+  pub so_far : SoFar limits.frame done
+  pub whole_is : whole ≡ done ++ rest
+  pub short : length whole ≤ limits.input
+  pub raw : List ℕ
+  pub raw_is : (s : Side) (tail more : List ℕ) → so_far.rest ++ tail ≡ marker s ∷ more
+      → so_far.raw ≡ sent_by s raw
+  pub no_raw : raw ≡ [] → so_far.raw ≡ []
+  pub reads : StandsForPiece reader (next_piece so_far) so_far.rest raw
+  pub stands : StandsForRests recorder so_far.rests
+  pub its_limits : recorder_limits recorder ≡ limits.frame
+  pub text : text_of recorder ≡ recording_text so_far.messages
+  pub last_is : so_far.rest ≡ [] → last ≡ length so_far.pieces
+
+-- What came next has been recorded behind what was before; or the trace is refused, whatever comes
+-- behind and why no more does.
+abbrev pub RecordsPiece : Limits → List ℕ → TraceReading → RecorderReading → Result ℕ Refused
+    → Type 0
+RecordsPiece limits whole reader recorder (Ok last) = Tracing limits whole [] reader recorder last
+RecordsPiece limits whole reader recorder (Err refused) =
+    (stop : Stop) → Traces {U = Unit {0}} limits whole stop (Err refused) recorder
+
+module _ {R : Type 0} (source : Source R) where
+  -- All that was left of the input has come, up to a byte past the limit.
+  pub record HasReadOn (old : Window) (before after : R) (stop : Stop) : Type 0 where
+    pub more : List ℕ
+    pub came : HasComeSoFar source before after more (Some stop)
+    pub within : IsWithin (old.taken + length more) old.limit (Some stop)
+
+  -- What came from the reader is judged so, and the recorder's text has the records of the
+  -- messages.
+  pub record TracesInput {U : Type 0} (limits : Limits) (old new : R) (answer : Result U Refused)
+      (recorder : RecorderReading) : Type 0 where
+    pub bytes : List ℕ
+    pub stop : Stop
+    pub came : HasCome source old new limits.input bytes stop
+    pub traces : Traces limits bytes stop answer recorder
 
 -- Whatever a trace was answered, the records go out, are flushed and that is answered, or the
 -- writer failed; where memory was refused nothing goes out.

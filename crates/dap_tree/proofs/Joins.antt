@@ -3,11 +3,12 @@ use Rattle.std.proofs.Common.{◌≡◌, ℕ, zero, suc, ◌<◌, ◌≤◌, ℤ
 use Rattle.std.proofs.Common.{get_or, length, Bool, true, cond, String, Global, refl, sym, ap, ◌∙◌}
 use Rattle.std.proofs.Common.{arith, subst}
 use Rattle.std.proofs.Math.Seq.{take-append_seam}
-use Rattle.std.proofs.lemmas.List.{take_all, drop_all}
+use Rattle.std.proofs.lemmas.List.{take_all, drop_all, drop-drop}
 use Rattle.std.specs.List.{FoldsTo}
 use Rattle.dap_tree.specs.Doc.{Doc, Items, no_items, item, depth, items_depth, members_depth}
 use Rattle.dap_tree.specs.Doc.{map_items}
 use Rattle.dap_tree.specs.Ids.{with_ids, items_with_ids, members_with_ids, id_count}
+use Rattle.dap_tree.specs.Ids.{items_id_count}
 use Rattle.dap_tree.specs.View.{view, items_view, members_view}
 use Rattle.dap_tree.specs.declared.tree.Tree.{Tree}
 use Rattle.dap_tree.proofs.Views.{Entry}
@@ -31,6 +32,16 @@ pub put_step : (ts : List Tree) (i : ℕ) (d u : Tree) (ns : List ℤ) → i < l
 put_step [] i d u ns h put = absurd (omega arith)
 put_step (x ∷ ts) zero d u ns h put = rw put refl
 put_step (x ∷ ts) (suc i) d u ns h put = ap (item (view x)) (put_step ts i d u ns (omega arith) put)
+
+-- what is left of the numbers after one more
+pub left_step : (ts : List Tree) (i : ℕ) (d u : Tree) (ns : List ℤ) → i < length ts
+    → drop (items_id_count (items_view (drop (suc i) (set ts i u))))
+    (drop (id_count (view (get_or ts i d))) ns)
+    ≡ drop (items_id_count (items_view (drop i ts))) ns
+left_step [] i d u ns h = absurd (omega arith)
+left_step (x ∷ ts) zero d u ns h =
+    drop-drop (items_id_count (items_view ts)) (id_count (view x)) ns
+left_step (x ∷ ts) (suc i) d u ns h = left_step ts i d u ns (omega arith)
 
 pub shallow_step : (ts : List Tree) (i : ℕ) (u : Tree) (n : ℕ)
     → items_depth (items_view (drop i ts)) ≤ n

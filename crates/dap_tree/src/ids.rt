@@ -95,7 +95,8 @@ fn add_members(
 }
 
 // What is left of the numbers after one for each id of the tree.
-// A walk of its own, since nothing is known of a closure's captures after `retain`.
+// A walk of its own, which `put_members` takes, since nothing is known of a closure's captures
+// after `retain`.
 #[cycle(skip)]
 fn skip<'a>(tree: &Tree, numbers: &'a [i64]) -> &'a [i64]
     ensures { result.now ≡ drop (id_count (view tree.now)) numbers.now }
@@ -133,43 +134,55 @@ fn skip_members<'a>(members: &BTreeMap<String, Tree>, numbers: &'a [i64]) -> &'a
     rest
 }
 
-// The i-th number at the i-th id of a tree that nests at most so many levels.
+// The i-th number at the i-th id of a tree that nests at most so many levels, and what is left of
+// the numbers.
 #[cycle(put)]
-fn put(tree: &mut Tree, numbers: &[i64], levels: u8)
+fn put<'a>(tree: &mut Tree, numbers: &'a [i64], levels: u8) -> &'a [i64]
     requires { depth (view tree.old) ≤ levels }
-    ensures { view tree.new ≡ with_ids (view tree.old) numbers.now }
+    ensures put { view tree.new ≡ with_ids (view tree.old) numbers.now }
+    ensures left { result.now ≡ drop (id_count (view tree.old)) numbers.now }
 {
     match tree {
-        Tree::Id(_, n) => {
-            if let [first, ..] = numbers {
+        Tree::Id(_, n) => match numbers {
+            [] => numbers,
+            [first, rest @ ..] => {
                 *n = *first;
+                rest
             }
-        }
+        },
         Tree::List(items) => put_items(items, numbers, levels - 1),
         Tree::Object(members) => put_members(members, numbers, levels - 1),
-        _ => {}
+        _ => numbers,
     }
 }
 
 #[cycle(put)]
-fn put_items(items: &mut Vec<Tree>, numbers: &[i64], levels: u8)
+fn put_items<'a>(items: &mut Vec<Tree>, numbers: &'a [i64], levels: u8) -> &'a [i64]
     requires { items_depth (items_view items.old.items) ≤ levels }
-    ensures { items_view items.new.items ≡ items_with_ids (items_view items.old.items) numbers.now }
+    ensures put { items_view items.new.items
+        ≡ items_with_ids (items_view items.old.items) numbers.now }
+    ensures left { result.now ≡ drop (items_id_count (items_view items.old.items)) numbers.now }
 {
     let mut rest = numbers;
     for item in items.iter_mut() {
-        let left = skip(item, rest);
-        put(item, rest, levels);
-        rest = left;
+        rest = put(item, rest, levels);
     }
+    rest
 }
 
 #[cycle(put)]
-fn put_members(members: &mut BTreeMap<String, Tree>, numbers: &[i64], levels: u8)
+fn put_members<'a>(
+    members: &mut BTreeMap<String, Tree>,
+    numbers: &'a [i64],
+    levels: u8,
+) -> &'a [i64]
     requires { members_depth (members_view members.old.entries) ≤ levels }
-    ensures { members_view members.new.entries
+    ensures put { members_view members.new.entries
         ≡ members_with_ids (members_view members.old.entries) numbers.now }
+    ensures left { result.now
+        ≡ drop (members_id_count (members_view members.old.entries)) numbers.now }
 {
+    let left = skip_members(members, numbers);
     let mut rest = numbers;
     members.retain(
         move |_, member|
@@ -178,10 +191,9 @@ fn put_members(members: &mut BTreeMap<String, Tree>, numbers: &[i64], levels: u8
             ensures rest { rest.exit.now ≡ drop (id_count (view member.old)) rest.entry.now }
             ensures put { view member.new ≡ with_ids (view member.old) rest.entry.now }
         {
-            let left = skip(member, rest);
-            put(member, rest, levels);
-            rest = left;
+            rest = put(member, rest, levels);
             true
         },
     );
+    left
 }

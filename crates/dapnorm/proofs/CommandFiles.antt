@@ -1,4 +1,4 @@
--- Where a parse takes the words, a `compare` among them has both files.
+-- Where a parse takes the words, a `compare` or a `diff` among them has both files.
 use Rattle.std.proofs.Common.{◌≡◌, ◌<◌, ◌||◌, not, cond, is_some, Bool, true, false, List, [], ◌∷◌}
 use Rattle.std.proofs.Common.{◌++◌, Option, Some, None, length, nat_le, codes, refl, sym, ◌∙◌, ap}
 use Rattle.std.proofs.Common.{subst, arith, true≢false, length-append}
@@ -21,8 +21,8 @@ use Rattle.clap.specs.declared.builder.value_parser.Reading.{Reading}
 use Rattle.clap.specs.declared.parser.matches.ValueSource.{ValueSource}
 use Rattle.clap.specs.declared.parser.matches.ValueSource.TheVariants.{CommandLine, DefaultValue}
 use Rattle.clap.proofs.WalkLemmas.{both}
-use Rattle.dapnorm.specs.CommandLine.{Told, comparer, file, is_set, job_named, masker, names_job}
-use Rattle.dapnorm.specs.CommandLine.{program, two_files}
+use Rattle.dapnorm.specs.CommandLine.{Told, file, is_set, job_named, masker, names_job}
+use Rattle.dapnorm.specs.CommandLine.{of_two_files, over_files, program, two_files}
 use Rattle.dapnorm.specs.CommandLine as line
 use Rattle.dapnorm.proofs.CommandWalk.{finished_keeps}
 
@@ -103,11 +103,12 @@ find_all {X} Q p (y ∷ xs) x all e = by_hit (p y) (λ found. find_all Q p xs x 
     by_hit true later found = let same : y ≡ x = cc in subst Q same all.0
     by_hit false later found = later found
 
--- ---- the subcommand `compare`
+-- ---- the subcommands `compare` and `diff`
 
--- `compare` as it is built
-abbrev built_comparer : Shape
-built_comparer = built_leaf (inherited (with_leaf_noted (marked_built program.top)) comparer.top)
+-- each of them as it is built, by its name
+abbrev built_of_two : Text → Shape
+built_of_two name =
+    built_leaf (inherited (with_leaf_noted (marked_built program.top)) (of_two_files name).top)
 
 -- its arguments: two files and the flag for help
 abbrev first_file : Rule
@@ -119,8 +120,9 @@ second_file = with_index 2 (filled (file (codes "B")))
 abbrev help_flag : Rule
 help_flag = with_index 3 (filled help_rule)
 
-each_rule : AllByRecursion (UseHasValues built_comparer.args_override_self) built_comparer.rules
-each_rule = (
+each_rule : (name : Text)
+    → AllByRecursion (UseHasValues (built_of_two name).args_override_self) (built_of_two name).rules
+each_rule name = (
   set_use false first_file refl refl,
   (set_use false second_file refl refl, (no_use false help_flag refl, tt)),
 )
@@ -147,25 +149,24 @@ abbrev HasFiles : List Row → Type 0
 HasFiles rows = (is_some (first_of (codes "A") rows) ≡ true)
     × (is_some (first_of (codes "B") rows) ≡ true)
 
-level_has_files : (words : List Text)
-    → level_passes built_comparer [] nothing_held words false ≡ true
-    → HasFiles (rows_after built_comparer.rules [] words)
-level_has_files words passes =
-    let end = (fold (walked built_comparer.rules []) (walk_from nothing_held) words).held in
-    let rows = finished built_comparer.rules end in
-    let walks = both (walk_passes built_comparer [] (walk_from nothing_held) words) _ passes in
-    let settles =
-    both (settle_passes built_comparer.rules built_comparer.args_override_self end) _ walks.1 in
-    let defaults =
-    both (list_all default_passes built_comparer.rules) (is_valid built_comparer rows false)
+level_has_files : (name : Text) (words : List Text)
+    → level_passes (built_of_two name) [] nothing_held words false ≡ true
+    → HasFiles (rows_after (built_of_two name).rules [] words)
+level_has_files name words passes =
+    let shape = built_of_two name in
+    let end = (fold (walked shape.rules []) (walk_from nothing_held) words).held in
+    let rows = finished shape.rules end in
+    let walks = both (walk_passes shape [] (walk_from nothing_held) words) _ passes in
+    let settles = both (settle_passes shape.rules shape.args_override_self end) _ walks.1 in
+    let defaults = both (list_all default_passes shape.rules) (is_valid shape rows false)
     settles.1 in
-    let have = finished_keeps built_comparer [] HaveValues
-    (λ p a values held found. find_all (UseHasValues built_comparer.args_override_self) p
-    built_comparer.rules a each_rule found values held)
+    let have = finished_keeps shape [] HaveValues
+    (λ p a values held found. find_all (UseHasValues shape.args_override_self) p
+    shape.rules a (each_rule name) found values held)
     default_added words (walk_from nothing_held) walks.0 settles.0 tt in
     let needs = both true _ (both true _ defaults.1).1 in
-    let required : list_all (λ a. not a.required || is_given a.id rows) built_comparer.rules
-    ≡ true = (both (list_all (λ (a : Rule). a.is_free) built_comparer.rules) _ needs.1).1 in
+    let required : list_all (λ a. not a.required || is_given a.id rows) shape.rules
+    ≡ true = (both (list_all (λ (a : Rule). a.is_free) shape.rules) _ needs.1).1 in
     let first = both (is_given (codes "A") rows) _ required in
     let second = both (is_given (codes "B") rows) _ first.1 in
     (first_given (codes "A") rows have first.0, first_given (codes "B") rows have second.0)
@@ -216,16 +217,22 @@ IsOnly word shape =
 other : {P : Type 0} → false ≡ true → P
 other e = absurd (true≢false (sym e))
 
-only_compare : IsOnly (codes "compare") built_comparer
+only_compare : IsOnly (codes "compare") (built_of_two (codes "compare"))
 only_compare = (
   other,
-  (other, (other, (other, (other, (other, (other, (λ e. refl, (other, tt)))))))),
+  (other, (other, (other, (other, (other, (other, (λ e. refl, (other, (other, tt))))))))),
+)
+
+only_diff : IsOnly (codes "diff") (built_of_two (codes "diff"))
+only_diff = (
+  other,
+  (other, (other, (other, (other, (other, (other, (other, (λ e. refl, (other, tt))))))))),
 )
 
 only_mask : IsOnly (codes "mask") built_masker
 only_mask = (
   other,
-  (other, (other, (other, (other, (λ e. refl, (other, (other, (other, tt)))))))),
+  (other, (other, (other, (other, (λ e. refl, (other, (other, (other, (other, tt))))))))),
 )
 
 module _ (word : Text) (shape : Shape) (Has : List Row → Type 0) (only : IsOnly word shape)
@@ -269,41 +276,49 @@ module _ (word : Text) (shape : Shape) (Has : List Row → Type 0) (only : IsOnl
 
 -- ---- the job
 
-both_files : (a b : Option Text) → is_some a ≡ true → is_some b ≡ true
-    → is_some (two_files a b) ≡ true
-both_files None b some other = absurd (true≢false (sym some))
-both_files (Some a) None some other = absurd (true≢false (sym other))
-both_files (Some a) (Some b) some other = refl
+both_files : (job : Text → Text → Told) (a b : Option Text) → is_some a ≡ true
+    → is_some b ≡ true → is_some (over_files job (two_files a b)) ≡ true
+both_files job None b some other = absurd (true≢false (sym some))
+both_files job (Some a) None some other = absurd (true≢false (sym other))
+both_files job (Some a) (Some b) some other = refl
 
 mask_there : (rules : Option Text) → is_some rules ≡ true
     → is_some (option_map line.mask rules) ≡ true
 mask_there None some = some
 mask_there (Some rules) some = refl
 
-by_name : (compact record_trace normalise check show mask rows compare : Bool)
-    (checked row : Told) (masked files : Option Told)
+by_name : (compact record_trace normalise check show mask rows compare diff : Bool)
+    (checked row : Told) (masked files apart : Option Told)
     → (mask ≡ true → is_some masked ≡ true) → (compare ≡ true → is_some files ≡ true)
-    → (compact
-    || (record_trace || (normalise || (check || (show || (mask || (rows || compare))))))) ≡ true
+    → (diff ≡ true → is_some apart ≡ true)
+    → (compact || (record_trace
+    || (normalise || (check || (show || (mask || (rows || (compare || diff)))))))) ≡ true
     → is_some (cond compact (Some line.compact)
     (cond record_trace (Some line.recording)
     (cond normalise (Some line.normalise)
     (cond check (Some checked)
     (cond show (Some line.show)
-    (cond mask masked (cond rows (Some row) (cond compare files None)))))))) ≡ true
-by_name true r n k s m o c checked row masked files has both_there one = refl
-by_name false true n k s m o c checked row masked files has both_there one = refl
-by_name false false true k s m o c checked row masked files has both_there one = refl
-by_name false false false true s m o c checked row masked files has both_there one = refl
-by_name false false false false true m o c checked row masked files has both_there one = refl
-by_name false false false false false true o c checked row masked files has both_there one =
-    has refl
-by_name false false false false false false true c checked row masked files has both_there one =
+    (cond mask masked
+    (cond rows (Some row) (cond compare files (cond diff apart None))))))))) ≡ true
+by_name true r n k s m o c d checked row masked files apart has both_there two_there one = refl
+by_name false true n k s m o c d checked row masked files apart has both_there two_there one =
     refl
-by_name false false false false false false false true checked row masked files has both_there
-    one = both_there refl
-by_name false false false false false false false false checked row masked files has both_there
-    one = absurd (true≢false (sym one))
+by_name false false true k s m o c d checked row masked files apart has both_there two_there one =
+    refl
+by_name false false false true s m o c d checked row masked files apart has both_there two_there
+    one = refl
+by_name false false false false true m o c d checked row masked files apart has both_there
+    two_there one = refl
+by_name false false false false false true o c d checked row masked files apart has both_there
+    two_there one = has refl
+by_name false false false false false false true c d checked row masked files apart has both_there
+    two_there one = refl
+by_name false false false false false false false true d checked row masked files apart has
+    both_there two_there one = both_there refl
+by_name false false false false false false false false true checked row masked files apart has
+    both_there two_there one = two_there refl
+by_name false false false false false false false false false checked row masked files apart has
+    both_there two_there one = absurd (true≢false (sym one))
 
 -- Words that a parse takes with one of the subcommands name a job.
 pub takes_job : (words : List Text) → takes program words ≡ true
@@ -311,6 +326,15 @@ pub takes_job : (words : List Text) → takes program words ≡ true
     → is_some (job_named (subcommand_of program words)) ≡ true
 takes_job words taken names = by_subcommand (subcommand_of program words) refl names
   where
+    there : (job : Text → Text → Told) (word : Text) → IsOnly word (built_of_two word)
+        → (p : Text × List Row) → bytes_eq p.0 word ≡ true → subcommand_of program words ≡ Some p
+        → is_some (over_files job (two_files (first_of (codes "A") p.1) (first_of (codes "B") p.1)))
+        ≡ true
+    there job word only p named is =
+        let files = has_given word (built_of_two word) HasFiles only (level_has_files word) words
+        p.0 p.1 named taken is in
+        both_files job (first_of (codes "A") p.1) (first_of (codes "B") p.1) files.0 files.1
+
     by_subcommand : (named : Option (Text × List Row)) → subcommand_of program words ≡ named
         → names_job named ≡ true → is_some (job_named named) ≡ true
     by_subcommand None is one = absurd (true≢false (sym one))
@@ -319,14 +343,15 @@ takes_job words taken names = by_subcommand (subcommand_of program words) refl n
         (bytes_eq p.0 (codes "normalise")) (bytes_eq p.0 (codes "check"))
         (bytes_eq p.0 (codes "show")) (bytes_eq p.0 (codes "mask"))
         (bytes_eq p.0 (codes "rows")) (bytes_eq p.0 (codes "compare"))
+        (bytes_eq p.0 (codes "diff"))
         (line.check (is_set (first_of (codes "complete") p.1)))
         (line.rows (first_of (codes "N") p.1))
         (option_map line.mask (first_of (codes "RULES") p.1))
-        (two_files (first_of (codes "A") p.1) (first_of (codes "B") p.1))
+        (over_files line.compare (two_files (first_of (codes "A") p.1) (first_of (codes "B") p.1)))
+        (over_files line.diff (two_files (first_of (codes "A") p.1) (first_of (codes "B") p.1)))
         (λ masks. mask_there (first_of (codes "RULES") p.1)
         (has_given (codes "mask") built_masker HasRules only_mask level_has_rules words p.0 p.1
         masks taken is))
-        (λ compare. let files = has_given (codes "compare") built_comparer HasFiles only_compare
-        level_has_files words p.0 p.1 compare taken is in both_files
-        (first_of (codes "A") p.1) (first_of (codes "B") p.1) files.0 files.1)
+        (λ compares. there line.compare (codes "compare") only_compare p compares is)
+        (λ diffs. there line.diff (codes "diff") only_diff p diffs is)
         one

@@ -38,9 +38,16 @@ row_teller =
 abbrev pub file : Text → Rule
 file name = record (new_rule name) { required = true; action = Some Set }
 
--- the subcommand `compare`, with its two files
+-- a subcommand with its two files
+abbrev pub of_two_files : Text → App
+of_two_files name = with_rule (with_rule (new_app name) (file (codes "A"))) (file (codes "B"))
+
+-- the subcommands `compare` and `diff`
 abbrev pub comparer : App
-comparer = with_rule (with_rule (new_app (codes "compare")) (file (codes "A"))) (file (codes "B"))
+comparer = of_two_files (codes "compare")
+
+abbrev pub differ : App
+differ = of_two_files (codes "diff")
 
 -- the subcommand `mask`, with the file of its rules
 abbrev pub masker : App
@@ -61,12 +68,14 @@ program =
     (with_subcommand
     (with_subcommand
     (with_subcommand
+    (with_subcommand
     (with_subcommand (with_subcommand bare (plain (codes "compact")).top)
     (plain (codes "record")).top) (plain (codes "normalise")).top) checker.top)
     (plain (codes "show")).top)
     masker.top)
     row_teller.top)
-    comparer.top
+    comparer.top)
+    differ.top
 
 -- The command is this one, and its subcommands inherit no argument.
 abbrev pub IsCommand : App → Command → Type 0
@@ -82,6 +91,7 @@ pub data Told : Type 0 where
   mask : Text → Told
   rows : Option Text → Told
   compare : Text → Text → Told
+  diff : Text → Text → Told
 
 abbrev pub told : Job → Told
 told job.Compact = compact
@@ -92,20 +102,29 @@ told job.Show = show
 told (job.Mask rules) = mask rules.now
 told (job.Rows number) = rows (option_map (λ text. text.now) number)
 told (job.Compare a b) = compare a.now b.now
+told (job.Diff a b) = diff a.now b.now
 
 -- the text behind a reference that may be there
 abbrev pub text_in : Option (Bor Text) → Option Text
 text_in = option_map (λ text. text.now)
+
+-- the texts behind two references that may be there
+abbrev pub texts_in : Option (Bor Text × Bor Text) → Option (Text × Text)
+texts_in = option_map (λ texts. (texts.0.now, texts.1.now))
 
 -- a flag is set
 abbrev pub is_set : Option Text → Bool
 is_set None = false
 is_set (Some text) = bytes_eq text (codes "true")
 
--- the comparison of two files, where both are named
-abbrev pub two_files : Option Text → Option Text → Option Told
-two_files (Some a) (Some b) = Some (compare a b)
+-- two names, where both are given
+abbrev pub two_files : Option Text → Option Text → Option (Text × Text)
+two_files (Some a) (Some b) = Some (a, b)
 two_files _ _ = None
+
+-- a job over two files
+abbrev pub over_files : (Text → Text → Told) → Option (Text × Text) → Option Told
+over_files job = option_map (λ files. job files.0 files.1)
 
 -- the job of a subcommand with the words that it was given
 abbrev pub job_of : Text → List Row → Option Told
@@ -118,8 +137,10 @@ job_of name given =
     else if bytes_eq name (codes "show") then Some show
     else if bytes_eq name (codes "mask") then option_map mask (first_of (codes "RULES") given)
     else if bytes_eq name (codes "rows") then Some (rows (first_of (codes "N") given))
-    else if bytes_eq name (codes "compare") then two_files (first_of (codes "A") given)
-    (first_of (codes "B") given)
+    else if bytes_eq name (codes "compare") then over_files compare
+    (two_files (first_of (codes "A") given) (first_of (codes "B") given))
+    else if bytes_eq name (codes "diff") then over_files diff
+    (two_files (first_of (codes "A") given) (first_of (codes "B") given))
     else None
 
 -- The subcommand is one of the program's.
@@ -132,7 +153,8 @@ names_job (Some p) =
     || (bytes_eq p.0 (codes "check")
     || (bytes_eq p.0 (codes "show")
     || (bytes_eq p.0 (codes "mask")
-    || (bytes_eq p.0 (codes "rows") || bytes_eq p.0 (codes "compare")))))))
+    || (bytes_eq p.0 (codes "rows")
+    || (bytes_eq p.0 (codes "compare") || bytes_eq p.0 (codes "diff"))))))))
 
 abbrev pub job_named : Option (Text × List Row) → Option Told
 job_named = option_and_then (λ p. job_of p.0 p.1)

@@ -32,10 +32,17 @@ pair_line pair =
     sort_word pair.sort ++ codes " " ++ signed_decimal pair.from ++ codes " "
     ++ signed_decimal pair.to ++ codes "\n"
 
+-- the line that two recordings are the same, and the line that they differ at this record
+abbrev pub same_line : List ℕ
+same_line = codes "same\n"
+
+abbrev pub differ_line : ℕ → List ℕ
+differ_line number = codes "differ " ++ decimal number ++ codes "\n"
+
 -- the first line of a verdict, and the pairs whose lines stand behind it
 abbrev pub first_line : Verdict → List ℕ
-first_line (Same renaming) = codes "same\n"
-first_line (Differ number) = codes "differ " ++ decimal number ++ codes "\n"
+first_line (Same renaming) = same_line
+first_line (Differ number) = differ_line number
 
 abbrev pub pairs_in : Verdict → List Pair
 pairs_in (Same renaming) = pairs_of renaming
@@ -54,14 +61,15 @@ abbrev pub refusal_status : CompareRefused → ℕ
 refusal_status (Input which refused) = refused_status refused
 refusal_status Memory = 5
 
-module _ {W E : Type 0} (sink : Sink W) (errors : Sink E) where
-  -- The lines of a verdict go out and are flushed; or a front of them goes out and the writer
-  -- fails, and that is told. Of a refusal nothing goes out, and it is told.
-  abbrev pub ComparisonIsTold : Result Verdict CompareRefused → W → W → E → E → ℕ → Type 0
-  ComparisonIsTold (Ok verdict) before after old new status =
-      (AllSent sink before after (verdict_text verdict) × (new ≡ old)
-      × (status ≡ verdict_status verdict))
-      ⊎ (FrontWritten sink before after (verdict_text verdict)
+module _ {W E V : Type 0} (sink : Sink W) (errors : Sink E) (text : V → List ℕ)
+    (status_for : V → ℕ) where
+  -- The text of an answer goes out and is flushed, and the status is that of it; or a front of the
+  -- text goes out and the writer fails, and that is told. Of a refusal nothing goes out, and it is
+  -- told.
+  abbrev pub ComparisonIsTold : Result V CompareRefused → W → W → E → E → ℕ → Type 0
+  ComparisonIsTold (Ok answer) before after old new status =
+      (AllSent sink before after (text answer) × (new ≡ old) × (status ≡ status_for answer))
+      ⊎ (FrontWritten sink before after (text answer)
       × HasSent errors old new (fault_line (refused_text WriteFault)) × (status ≡ 4))
   ComparisonIsTold (Err because) before after old new status = (after ≡ before)
       × HasSent errors old new (fault_line (compare_refused_text because))
@@ -73,4 +81,5 @@ pub record CompareIsTold {R S W E : Type 0} (source_a : Source R) (source_b : So
     (before after : W) (silent spoken : E) (status : ℕ) : Type 0 where
   pub answer : Result Verdict CompareRefused
   pub compares : Compares source_a source_b limits old_a new_a old_b new_b answer
-  pub tells : ComparisonIsTold sink errors answer before after silent spoken status
+  pub tells : ComparisonIsTold sink errors verdict_text verdict_status answer before after silent
+      spoken status

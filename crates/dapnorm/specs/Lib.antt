@@ -1,5 +1,6 @@
 pub mod CommandLine
 pub mod ComparingRun
+pub mod DiffRun
 pub mod FaultLine
 pub mod MaskRun
 pub mod RowsRun
@@ -7,6 +8,7 @@ pub mod Run
 pub use Rattle.dap_compact.specs.Compacting
 pub use Rattle.dap_compare.specs.Comparing
 pub use Rattle.dap_compare.specs.Verdicts
+pub use Rattle.dap_diff.specs.Diffs
 pub use Rattle.dap_input.specs.Engine
 pub use Rattle.dap_input.specs.Inputs
 pub use Rattle.dap_input.specs.Judging

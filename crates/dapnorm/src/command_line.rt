@@ -1,14 +1,15 @@
 //! Reads the words of a command line with `clap`.
-ghost use Rattle.std.specs.Prelude.{[], ◌≡◌, IfOk, IfErr, Some, true, false, map, option_map};
-ghost use Rattle.clap.specs.Words.{fault_of as faults_of, app_of, found_of, rows_of, subcommand_of};
+ghost use Rattle.std.specs.Prelude.{[], ◌≡◌, codes, IfOk, IfErr, Some, true, false, map};
+ghost use Rattle.std.specs.Prelude.{option_map};
+ghost use Rattle.clap.specs.Words.{fault_of as faults_of, app_of, first_of, found_of, rows_of};
+ghost use Rattle.clap.specs.Words.{subcommand_of};
 ghost use Rattle.clap.specs.Words.{subcommand_rows_of, takes, kind_of, with_subcommand};
 ghost use Rattle.clap.specs.declared.Command.TheViews.{out-Command as fields_of};
 ghost use Rattle.dapnorm.specs.CommandLine.{IsCommand, IsToldFor, IsToldOf, bare, checker};
-ghost use Rattle.dapnorm.specs.CommandLine.{comparer, is_asked, is_set, plain};
+ghost use Rattle.dapnorm.specs.CommandLine.{is_asked, is_set, of_two_files, plain};
 ghost use Rattle.dapnorm.specs.CommandLine.{mask, masker};
 ghost use Rattle.dapnorm.specs.CommandLine.{job_named, job_of, names_job, program, row_teller};
-ghost use Rattle.dapnorm.specs.CommandLine.{text_in, told};
-ghost use Rattle.dapnorm.specs.CommandLine.{two_files};
+ghost use Rattle.dapnorm.specs.CommandLine.{text_in, texts_in, told, two_files};
 ghost use Rattle.dapnorm.specs.declared.jobs.UsageFault.TheVariants.{Memory};
 
 use crate::jobs::{Job, UsageFault};
@@ -56,9 +57,13 @@ fn check_command<'a>(alloc: Global) -> Result<Command<'a>, AllocError>
         .arg(complete)
 }
 
-/// The subcommand `compare`.
-fn compare_command<'a>(alloc: Global) -> Result<Command<'a>, AllocError>
-    ensures { IfOk result (IsCommand comparer) }
+/// A subcommand of two files.
+fn two_files_command<'a>(
+    alloc: Global,
+    name: &'a str,
+    about: &'a str,
+) -> Result<Command<'a>, AllocError>
+    ensures { IfOk result (IsCommand (of_two_files name.entry.now)) }
 {
     let first = Arg::new(alloc, "A")
         .required(true)
@@ -68,8 +73,8 @@ fn compare_command<'a>(alloc: Global) -> Result<Command<'a>, AllocError>
         .required(true)
         .action(ArgAction::Set)
         .help("The file of another");
-    Command::new(alloc, "compare")
-        .about("Tells how the recordings of two files are the same, or where they differ")
+    Command::new(alloc, name)
+        .about(about)
         .arg(first)?
         .arg(second)
 }
@@ -117,7 +122,16 @@ fn command<'a>(alloc: Global) -> Result<Command<'a>, AllocError>
     ensures { IfOk result (λ c. app_of c ≡ program) }
 {
     let check = check_command(alloc)?;
-    let compare = compare_command(alloc)?;
+    let compare = two_files_command(
+        alloc,
+        "compare",
+        "Tells how the recordings of two files are the same, or where they differ",
+    )?;
+    let diff = two_files_command(
+        alloc,
+        "diff",
+        "Tells what differs at the first record where the recordings of two files differ",
+    )?;
     let mask = mask_command(alloc)?;
     let rows = rows_command(alloc)?;
     let compact = with_plain(
@@ -159,10 +173,15 @@ fn command<'a>(alloc: Global) -> Result<Command<'a>, AllocError>
         "Example: dapnorm mask lldb.mask < session.rec > session.masked",
     )?;
     let telling = with_other(masking, rows, "Example: dapnorm rows 62")?;
-    with_other(
+    let comparing = with_other(
         telling,
         compare,
         "Example: dapnorm compare session.golden session.rec",
+    )?;
+    with_other(
+        comparing,
+        diff,
+        "Example: dapnorm diff session.golden session.rec",
     )
 }
 
@@ -176,14 +195,22 @@ fn is_true(value: Option<&str>) -> bool
     }
 }
 
-/// The comparison of two files, where both are named.
-fn both<'a>(first: Option<&'a str>, second: Option<&'a str>) -> Option<Job<'a>>
-    ensures { option_map told result ≡ two_files (text_in first.entry) (text_in second.entry) }
+/// Both of two names, where both are there.
+fn both<'a>(first: Option<&'a str>, second: Option<&'a str>) -> Option<(&'a str, &'a str)>
+    ensures { texts_in result ≡ two_files (text_in first.entry) (text_in second.entry) }
 {
     match (first, second) {
-        (Some(a), Some(b)) => Some(Job::Compare { a, b }),
+        (Some(a), Some(b)) => Some((a, b)),
         _ => None,
     }
+}
+
+/// The names of the two files that a subcommand was given.
+fn files_of<'a>(rows: &ArgMatches<'a>) -> Option<(&'a str, &'a str)>
+    ensures { texts_in result ≡ two_files (first_of (codes "A") (rows_of (found_of rows.now)))
+        (first_of (codes "B") (rows_of (found_of rows.now))) }
+{
+    both(rows.get_str("A"), rows.get_str("B"))
 }
 
 /// The masking by a file of rules, where it is named.
@@ -213,7 +240,14 @@ fn job_by<'a>(name: &str, rows: &ArgMatches<'a>) -> Option<Job<'a>>
         "rows" => Some(Job::Rows {
             number: rows.get_str("N"),
         }),
-        "compare" => both(rows.get_str("A"), rows.get_str("B")),
+        "compare" => {
+            let (a, b) = files_of(rows)?;
+            Some(Job::Compare { a, b })
+        }
+        "diff" => {
+            let (a, b) = files_of(rows)?;
+            Some(Job::Diff { a, b })
+        }
         _ => None,
     }
 }

@@ -1,9 +1,9 @@
 //! Compares two inputs, and tells of it what the program tells: lines and a status.
 ghost use Rattle.std.specs.Prelude.{◌≡◌, ◌+◌, ◌<◌, ◌≤◌, ◌^◌};
 ghost use Rattle.std.specs.List.{flat_map};
-ghost use Rattle.dapnorm.specs.ComparingRun.{CompareIsTold, first_line, pair_line, pairs_in};
-ghost use Rattle.dapnorm.specs.ComparingRun.{refusal_status, sort_word, verdict_status};
-ghost use Rattle.dapnorm.specs.ComparingRun.{verdict_text};
+ghost use Rattle.dapnorm.specs.ComparingRun.{CompareIsTold, differ_line, first_line, pair_line};
+ghost use Rattle.dapnorm.specs.ComparingRun.{pairs_in, refusal_status, same_line, sort_word};
+ghost use Rattle.dapnorm.specs.ComparingRun.{verdict_status, verdict_text};
 ghost use Rattle.dap_device.specs.Written.{HasSentAll, HasWrittenAll};
 ghost use Rattle.dap_input.specs.Limits.{AreSound};
 ghost use Rattle.dap_normal.specs.NameTables.{AreReady};
@@ -47,21 +47,35 @@ fn line_of(pair: Pair) -> ArrayString<LINE>
     line
 }
 
+/// The line that two recordings are the same, with its LF.
+pub(crate) fn same_line() -> ArrayString<LINE>
+    ensures { result.bytes ≡ same_line }
+{
+    let mut line = ArrayString::new();
+    line.push_str("same\n");
+    line
+}
+
+/// The line that two recordings differ at this record, with its LF.
+pub(crate) fn differ_line(number: u64) -> ArrayString<LINE>
+    ensures { result.bytes ≡ differ_line number }
+{
+    let mut digits = Buffer::new();
+    let mut line = ArrayString::new();
+    line.push_str("differ ");
+    line.push_str(digits.format(number));
+    line.push_str("\n");
+    line
+}
+
 /// The first line of a verdict, with its LF.
 fn first_line_of(verdict: &Verdict) -> ArrayString<LINE>
     ensures { result.bytes ≡ first_line verdict.now }
 {
-    let mut line = ArrayString::new();
     match verdict {
-        Verdict::Same(_) => line.push_str("same\n"),
-        Verdict::Differ(record) => {
-            let mut number = Buffer::new();
-            line.push_str("differ ");
-            line.push_str(number.format(*record));
-            line.push_str("\n");
-        }
+        Verdict::Same(_) => same_line(),
+        Verdict::Differ(record) => differ_line(*record),
     }
-    line
 }
 
 /// The pairs of a verdict that has some.
@@ -106,7 +120,7 @@ fn status(verdict: &Verdict) -> u8
 }
 
 /// The status of the program where the inputs were not compared to the end.
-fn refusal_status(refused: CompareRefused) -> u8
+pub(crate) fn refusal_status(refused: CompareRefused) -> u8
     ensures { result ≡ refusal_status refused }
 {
     match refused {

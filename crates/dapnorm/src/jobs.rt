@@ -19,6 +19,8 @@ pub enum Job<'a> {
     Rows { number: Option<&'a str> },
     /// Compare the recordings of two files, by their names.
     Compare { a: &'a str, b: &'a str },
+    /// Tell what differs between the recordings of two files, by their names.
+    Diff { a: &'a str, b: &'a str },
 }
 
 /// Why the words name no job.

@@ -3,6 +3,7 @@
 
 mod command_line;
 mod compare_run;
+mod diff_run;
 mod fault_line;
 mod jobs;
 pub mod laws;
@@ -16,6 +17,7 @@ pub use compare_run::{run_compare, run_compare_with};
 pub use dap_compact::compact;
 pub use dap_compare::{CompareRefused, Verdict, Which, compare, compare_with};
 pub use dap_device::{DeviceFault, MemorySink, MemorySource, Sink, Source, StdSink, StdSource};
+pub use dap_diff::{Diff, diff};
 pub use dap_input::{Limits, Refused};
 pub use dap_mask::{MaskRules, RulesCause, RulesFault};
 pub use dap_mask_input::mask;
@@ -28,6 +30,7 @@ pub use dap_rename::{IndexNames, NameTable, Pair, Renaming, Tables};
 pub use dap_session::Rule;
 pub use dap_show::show;
 pub use dap_trace::record;
+pub use diff_run::run_diff;
 pub use jobs::{Job, UsageFault};
 pub use mask_run::run_mask;
 pub use run_job::{run_stream, run_stream_with, run_usage};

@@ -79,8 +79,8 @@ fn print<W: Sink>(writer: &mut W, answer: Result<Checked, Refused>) -> Result<()
     }
 }
 
-/// Does a job over a reader and a writer alone, which neither a comparison nor a masking is, and
-/// answers the program's status. A refusal is told on `errors`, in one line.
+/// Does a job over a reader and a writer alone, which a job over two files and a masking are not,
+/// and answers the program's status. A refusal is told on `errors`, in one line.
 ///
 /// Of a recording that `check` accepts the numbers go to `writer`: `accepted records=R open=C,A`
 /// and LF, with the open requests of the client and of the adapter.
@@ -97,6 +97,7 @@ pub fn run_stream<R: Source, W: Sink, E: Sink>(
 ) -> u8
     requires stream { (a b : _) → job.now ≡ Job.Compare a b → ⊥ }
     requires no_rules { (rules : _) → job.now ≡ Job.Mask rules → ⊥ }
+    requires no_diff { (a b : _) → job.now ≡ Job.Diff a b → ⊥ }
     requires limits { AreSound limits }
     requires given { R.given reader.old < 2 ^ 62 }
     requires read_failures { R.failures reader.old < 2 ^ 62 }
@@ -165,6 +166,7 @@ pub fn run_stream_with<R: Source, W: Sink, E: Sink, T: NameTable + Drop>(
 ) -> u8
     requires stream { (a b : _) → job.now ≡ Job.Compare a b → ⊥ }
     requires no_rules { (rules : _) → job.now ≡ Job.Mask rules → ⊥ }
+    requires no_diff { (a b : _) → job.now ≡ Job.Diff a b → ⊥ }
     requires limits { AreSound limits }
     requires tables { AreReady T.numbers T.limit limits tables }
     requires given { R.given reader.old < 2 ^ 62 }
@@ -206,7 +208,7 @@ pub fn run_stream_with<R: Source, W: Sink, E: Sink, T: NameTable + Drop>(
         ),
         Job::Show => show(alloc, reader, writer, limits),
         Job::Rows { number } => return tell_rows(alloc, number, writer, errors),
-        Job::Mask { .. } | Job::Compare { .. } => unreachable!(),
+        Job::Mask { .. } | Job::Compare { .. } | Job::Diff { .. } => unreachable!(),
     };
     tell_answer(errors, answer)
 }

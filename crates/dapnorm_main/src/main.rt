@@ -9,9 +9,10 @@ ghost use Rattle.dapnorm.specs.NameTables.{AreReady};
 use dap_frame::FrameLimits;
 use dapnorm::{
     IndexNames, Job, Limits, StdSink, StdSource, Tables, UsageFault, job, run_compare_with,
-    run_mask, run_stream_with, run_usage,
+    run_diff, run_mask, run_stream_with, run_usage,
 };
 use std::alloc::Global;
+use std::fs::File;
 use std::hash::RandomState;
 use std::io::{Error, ErrorKind};
 use std::os::fd::AsRawFd;
@@ -55,6 +56,7 @@ fn tables(alloc: Global, limits: Limits, hasher: RandomState) -> Tables<IndexNam
 fn perform(rt: &HostRuntime, job: &Job, hasher: RandomState) -> u8
     requires stream { (a b : _) → job.now ≡ Job.Compare a b → ⊥ }
     requires no_rules { (rules : _) → job.now ≡ Job.Mask rules → ⊥ }
+    requires no_diff { (a b : _) → job.now ≡ Job.Diff a b → ⊥ }
 {
     let mut reader = StdSource::new(rt.stdin());
     let mut writer = StdSink::new(rt.stdout());
@@ -70,15 +72,24 @@ fn perform(rt: &HostRuntime, job: &Job, hasher: RandomState) -> u8
     )
 }
 
-/// Compares the recordings of two files. A file that does not open is a read fault of that input.
+/// Opens the file of an input, which has this name in the fault lines. One that does not open is a
+/// read fault of that input, and told.
+fn open_input(rt: &HostRuntime, path: &str, which: &str) -> Result<File, u8> {
+    match fs::open(rt, path) {
+        Ok(file) => Ok(file),
+        Err(error) => Err(tell_unopened(rt, &error, which)),
+    }
+}
+
+/// Compares the recordings of two files.
 fn compare_files(rt: &HostRuntime, a: &str, b: &str, hasher: RandomState) -> u8 {
-    let file_a = match fs::open(rt, a) {
+    let file_a = match open_input(rt, a, "A") {
         Ok(file) => file,
-        Err(error) => return tell_unopened(rt, &error, "A"),
+        Err(status) => return status,
     };
-    let file_b = match fs::open(rt, b) {
+    let file_b = match open_input(rt, b, "B") {
         Ok(file) => file,
-        Err(error) => return tell_unopened(rt, &error, "B"),
+        Err(status) => return status,
     };
     let mut reader_a = StdSource::new(file_a);
     let mut reader_b = StdSource::new(file_b);
@@ -96,13 +107,37 @@ fn compare_files(rt: &HostRuntime, a: &str, b: &str, hasher: RandomState) -> u8 
     )
 }
 
+/// Tells how the recordings of two files differ.
+fn diff_files(rt: &HostRuntime, a: &str, b: &str) -> u8 {
+    let file_a = match open_input(rt, a, "A") {
+        Ok(file) => file,
+        Err(status) => return status,
+    };
+    let file_b = match open_input(rt, b, "B") {
+        Ok(file) => file,
+        Err(status) => return status,
+    };
+    let mut reader_a = StdSource::new(file_a);
+    let mut reader_b = StdSource::new(file_b);
+    let mut writer = StdSink::new(rt.stdout());
+    let mut errors = StdSink::new(rt.stderr());
+    run_diff(
+        rt.alloc(),
+        &mut reader_a,
+        &mut reader_b,
+        &mut writer,
+        &mut errors,
+        LIMITS,
+    )
+}
+
 /// Masks the recording of the standard input by the rules of a file. A file that does not open is a
 /// read fault of the rules. One that the system gives the number of the standard input shows that
 /// this is closed: a read fault too.
 fn mask_by_file(rt: &HostRuntime, rules: &str) -> u8 {
-    let file = match fs::open(rt, rules) {
+    let file = match open_input(rt, rules, "rules") {
         Ok(file) => file,
-        Err(error) => return tell_unopened(rt, &error, "rules"),
+        Err(status) => return status,
     };
     if file.as_raw_fd() == STANDARD_INPUT {
         return tell_unread(rt);
@@ -155,6 +190,7 @@ fn run_words(rt: &HostRuntime, alloc: Global, words: &[String]) -> u8 {
     };
     match job {
         Job::Compare { a, b } => compare_files(rt, a, b, hasher),
+        Job::Diff { a, b } => diff_files(rt, a, b),
         Job::Mask { rules } => mask_by_file(rt, rules),
         job => perform(rt, &job, hasher),
     }

@@ -4,6 +4,8 @@
 #[cfg(test)]
 mod devices;
 #[cfg(test)]
+mod differences;
+#[cfg(test)]
 mod frames;
 #[cfg(test)]
 mod lines;

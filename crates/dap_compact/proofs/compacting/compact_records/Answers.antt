@@ -68,18 +68,20 @@ loop-out-preserved g c =
     g.R.Source c.loop-out.records c.next.new.self
     c.loop-out.reader c.next.new.reader (Ok o)) c.in-Some.is
     (c.in_ok-content.ensures c.args.limits.frame c.loop-out.invariant.going.behind.between) in
-    one_more c.args.limits c.requires.sound g.R.Source c.args.reader.now c.loop-out.reader
+    rw c.recycle.ensures
+    (one_more c.args.limits c.requires.sound g.R.Source c.args.reader.now c.loop-out.reader
     c.loop-out.records
     c.loop-out.out.items c.loop-out.invariant c.next.new.self c.next.new.reader (tt {0})
     c.in-Some.content c.append_compact.new.out.items read
-    (rw c.as_slice.ensures at c.in_ok-append_compact.ensures)
+    (rw c.as_slice.ensures at c.in_ok-append_compact.ensures))
 
 pub loop-out-smaller : goal.loop-out-smaller
 loop-out-smaller g c =
-    fewer c.args.limits c.requires.sound g.R.Source c.args.reader.now c.loop-out.reader
+    rw c.recycle.ensures
+    (fewer c.args.limits c.requires.sound g.R.Source c.args.reader.now c.loop-out.reader
     c.loop-out.records c.loop-out.out.items c.loop-out.invariant c.next.new.self c.next.new.reader
     c.in-Some.content
     (subst (λ o. ReadsNext (frame_items c.args.limits.frame) (StandsForFrame c.args.limits.frame)
     g.R.Source c.loop-out.records c.next.new.self
     c.loop-out.reader c.next.new.reader (Ok o)) c.in-Some.is
-    (c.in_ok-content.ensures c.args.limits.frame c.loop-out.invariant.going.behind.between))
+    (c.in_ok-content.ensures c.args.limits.frame c.loop-out.invariant.going.behind.between)))

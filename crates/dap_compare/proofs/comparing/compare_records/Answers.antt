@@ -3,12 +3,13 @@ use Rattle.std.proofs.lemmas.Result.{err_from_is_err_and}
 use Rattle.dap_normal.proofs.StreamAnswers.{ended, gone}
 use Rattle.dap_normal.proofs.StreamLoop.{at_start, few_taken, on, passed_taken}
 use Rattle.dap_compare.proofs.StreamComparing.{both_ended, equal_counts, names_a, names_b}
-use Rattle.dap_compare.proofs.StreamComparing.{passed_by}
+use Rattle.dap_compare.proofs.LeftTexts.{left_text}
+use Rattle.dap_compare.proofs.StreamComparing.{one_number, passed_by}
 use Rattle.dap_compare.proofs.StreamComparing.{still_alike, told_apart, told_by_a, told_by_b}
 use Rattle.dap_compare.proofs.comparing.compare_records.Goals as goal
 
-pub loop-text_b-init : goal.loop-text_b-init
-loop-text_b-init g c =
+pub records-init : goal.records-init
+records-init g c =
     record {
       a = at_start g.A.Source c.args.limits
           c.args.reader_a.now
@@ -22,24 +23,24 @@ loop-text_b-init g c =
 pub returns-in_err-some_a-clause-answer : goal.returns-in_err-some_a-clause-answer
 returns-in_err-some_a-clause-answer g c =
     let because = err_from_is_err_and c.from_residual.result c.from_residual.ensures.1 in
-    let told = (c.in_err-some_a.ensures c.args.limits c.loop-text_b.invariant.a.bytes
-    c.loop-text_b.invariant.a.messages c.loop-text_b.invariant.a.normal
-    c.loop-text_b.invariant.a.stands) in
+    let told = (c.in_err-some_a.ensures c.args.limits c.records.invariant.a.bytes
+    c.records.invariant.a.messages c.records.invariant.a.normal
+    c.records.invariant.a.stands) in
     rw (because.1, because.2)
     (told_by_a g.A.Source
     g.B.Source c.args.limits
-    c.args.reader_a.now c.loop-text_b.reader_a c.loop-text_b.records_a c.loop-text_b.invariant.a
-    c.args.reader_b.now c.loop-text_b.reader_b c.loop-text_b.records_b c.loop-text_b.invariant.b
-    c.loop-text_b.invariant.alike c.next_text.new.records c.next_text.new.reader told.0 _ told.2
+    c.args.reader_a.now c.records.reader_a c.records.records_a c.records.invariant.a
+    c.args.reader_b.now c.records.reader_b c.records.records_b c.records.invariant.b
+    c.records.invariant.alike c.next_text.new.records c.next_text.new.reader told.0 _ told.2
     told.1)
 
 pub returns-in_err-some_a-clause-taken_a : goal.returns-in_err-some_a-clause-taken_a
 returns-in_err-some_a-clause-taken_a g c =
-    let told = (c.in_err-some_a.ensures c.args.limits c.loop-text_b.invariant.a.bytes
-    c.loop-text_b.invariant.a.messages c.loop-text_b.invariant.a.normal
-    c.loop-text_b.invariant.a.stands) in
+    let told = (c.in_err-some_a.ensures c.args.limits c.records.invariant.a.bytes
+    c.records.invariant.a.messages c.records.invariant.a.normal
+    c.records.invariant.a.stands) in
     few_taken g.A.Source c.args.limits
-    c.args.reader_a.now c.loop-text_b.reader_a c.loop-text_b.records_a c.loop-text_b.invariant.a
+    c.args.reader_a.now c.records.reader_a c.records.records_a c.records.invariant.a
     c.next_text.new.reader c.next_text.new.records _ told.1
 
 pub returns-in_err-some_b-clause-answer : goal.returns-in_err-some_b-clause-answer
@@ -47,214 +48,238 @@ returns-in_err-some_b-clause-answer g c =
     let because =
     err_from_is_err_and c.from_residual-in_err-some_b.result
     c.from_residual-in_err-some_b.ensures.1 in
-    let told = (c.in_err-some_b.ensures c.args.limits c.loop-text_b.invariant.b.bytes
-    c.loop-text_b.invariant.b.messages c.loop-text_b.invariant.b.normal
-    c.loop-text_b.invariant.b.stands) in
+    let told = (c.in_err-some_b.ensures c.args.limits c.records.invariant.b.bytes
+    c.records.invariant.b.messages c.records.invariant.b.normal
+    c.records.invariant.b.stands) in
     let passed = passed_by g.A.Source
     g.B.Source c.args.limits
-    c.args.reader_a.now c.loop-text_b.reader_a c.loop-text_b.records_a c.loop-text_b.invariant.a
-    c.args.reader_b.now c.loop-text_b.reader_b c.loop-text_b.records_b c.loop-text_b.invariant.b
-    c.loop-text_b.invariant.alike c.next_text.new.records c.next_text.new.reader _ _
-    c.in_ok-some_a.some_a (c.in_ok-some_a.ensures c.args.limits c.loop-text_b.invariant.a.bytes
-    c.loop-text_b.invariant.a.messages c.loop-text_b.invariant.a.normal
-    c.loop-text_b.invariant.a.stands) in
+    c.args.reader_a.now c.records.reader_a c.records.records_a c.records.invariant.a
+    c.args.reader_b.now c.records.reader_b c.records.records_b c.records.invariant.b
+    c.records.invariant.alike c.next_text.new.records c.next_text.new.reader _ _
+    c.in_ok-some_a.some_a (c.in_ok-some_a.ensures c.args.limits c.records.invariant.a.bytes
+    c.records.invariant.a.messages c.records.invariant.a.normal
+    c.records.invariant.a.stands) in
     rw (because.1, because.2)
     (told_by_b g.A.Source
     g.B.Source c.args.limits
-    c.args.reader_a.now c.loop-text_b.reader_a c.loop-text_b.records_a c.loop-text_b.invariant.a
-    c.args.reader_b.now c.loop-text_b.reader_b c.loop-text_b.records_b c.loop-text_b.invariant.b
-    c.loop-text_b.invariant.alike c.next_text.new.reader passed.0 passed.1 passed.2
-    c.next_text-in-loop-text_b.new.records c.next_text-in-loop-text_b.new.reader told.0 _ told.2
+    c.args.reader_a.now c.records.reader_a c.records.records_a c.records.invariant.a
+    c.args.reader_b.now c.records.reader_b c.records.records_b c.records.invariant.b
+    c.records.invariant.alike c.next_text.new.reader passed.0 passed.1 passed.2
+    c.next_text-in-records.new.records c.next_text-in-records.new.reader told.0 _ told.2
     told.1)
 
 pub returns-in_err-some_b-clause-taken_a : goal.returns-in_err-some_b-clause-taken_a
 returns-in_err-some_b-clause-taken_a g c =
     passed_taken g.A.Source c.args.limits
-    c.args.reader_a.now c.loop-text_b.reader_a c.loop-text_b.records_a c.loop-text_b.invariant.a
+    c.args.reader_a.now c.records.reader_a c.records.records_a c.records.invariant.a
     c.next_text.new.records c.next_text.new.reader _ _ c.in_ok-some_a.some_a
-    (c.in_ok-some_a.ensures c.args.limits c.loop-text_b.invariant.a.bytes
-    c.loop-text_b.invariant.a.messages c.loop-text_b.invariant.a.normal
-    c.loop-text_b.invariant.a.stands)
+    (c.in_ok-some_a.ensures c.args.limits c.records.invariant.a.bytes
+    c.records.invariant.a.messages c.records.invariant.a.normal
+    c.records.invariant.a.stands)
 
 pub returns-in_err-some_b-clause-taken_b : goal.returns-in_err-some_b-clause-taken_b
 returns-in_err-some_b-clause-taken_b g c =
-    let told = (c.in_err-some_b.ensures c.args.limits c.loop-text_b.invariant.b.bytes
-    c.loop-text_b.invariant.b.messages c.loop-text_b.invariant.b.normal
-    c.loop-text_b.invariant.b.stands) in
+    let told = (c.in_err-some_b.ensures c.args.limits c.records.invariant.b.bytes
+    c.records.invariant.b.messages c.records.invariant.b.normal
+    c.records.invariant.b.stands) in
     few_taken g.B.Source c.args.limits
-    c.args.reader_b.now c.loop-text_b.reader_b c.loop-text_b.records_b c.loop-text_b.invariant.b
-    c.next_text-in-loop-text_b.new.reader
-    c.next_text-in-loop-text_b.new.records _ told.1
+    c.args.reader_b.now c.records.reader_b c.records.records_b c.records.invariant.b
+    c.next_text-in-records.new.reader
+    c.next_text-in-records.new.records _ told.1
 
 pub returns-in-Apart-clause-taken_a : goal.returns-in-Apart-clause-taken_a
 returns-in-Apart-clause-taken_a g c =
     passed_taken g.A.Source c.args.limits
-    c.args.reader_a.now c.loop-text_b.reader_a c.loop-text_b.records_a c.loop-text_b.invariant.a
+    c.args.reader_a.now c.records.reader_a c.records.records_a c.records.invariant.a
     c.next_text.new.records c.next_text.new.reader _ _ c.in_ok-some_a.some_a
-    (c.in_ok-some_a.ensures c.args.limits c.loop-text_b.invariant.a.bytes
-    c.loop-text_b.invariant.a.messages c.loop-text_b.invariant.a.normal
-    c.loop-text_b.invariant.a.stands)
+    (c.in_ok-some_a.ensures c.args.limits c.records.invariant.a.bytes
+    c.records.invariant.a.messages c.records.invariant.a.normal
+    c.records.invariant.a.stands)
 
 pub returns-in-Apart-clause-taken_b : goal.returns-in-Apart-clause-taken_b
 returns-in-Apart-clause-taken_b g c =
     passed_taken g.B.Source c.args.limits
-    c.args.reader_b.now c.loop-text_b.reader_b c.loop-text_b.records_b c.loop-text_b.invariant.b
-    c.next_text-in-loop-text_b.new.records c.next_text-in-loop-text_b.new.reader _ _
+    c.args.reader_b.now c.records.reader_b c.records.records_b c.records.invariant.b
+    c.next_text-in-records.new.records c.next_text-in-records.new.reader _ _
     c.in_ok-some_b.some_b
-    (c.in_ok-some_b.ensures c.args.limits c.loop-text_b.invariant.b.bytes
-    c.loop-text_b.invariant.b.messages c.loop-text_b.invariant.b.normal
-    c.loop-text_b.invariant.b.stands)
+    (c.in_ok-some_b.ensures c.args.limits c.records.invariant.b.bytes
+    c.records.invariant.b.messages c.records.invariant.b.normal
+    c.records.invariant.b.stands)
 
 pub returns-in_default-clause-taken_a : goal.returns-in_default-clause-taken_a
 returns-in_default-clause-taken_a g c =
     passed_taken g.A.Source c.args.limits
-    c.args.reader_a.now c.loop-text_b.reader_a c.loop-text_b.records_a c.loop-text_b.invariant.a
+    c.args.reader_a.now c.records.reader_a c.records.records_a c.records.invariant.a
     c.next_text.new.records c.next_text.new.reader _ _ c.in_ok-some_a.some_a
-    (c.in_ok-some_a.ensures c.args.limits c.loop-text_b.invariant.a.bytes
-    c.loop-text_b.invariant.a.messages c.loop-text_b.invariant.a.normal
-    c.loop-text_b.invariant.a.stands)
+    (c.in_ok-some_a.ensures c.args.limits c.records.invariant.a.bytes
+    c.records.invariant.a.messages c.records.invariant.a.normal
+    c.records.invariant.a.stands)
 
 pub returns-in_default-clause-taken_b : goal.returns-in_default-clause-taken_b
 returns-in_default-clause-taken_b g c =
     passed_taken g.B.Source c.args.limits
-    c.args.reader_b.now c.loop-text_b.reader_b c.loop-text_b.records_b c.loop-text_b.invariant.b
-    c.next_text-in-loop-text_b.new.records c.next_text-in-loop-text_b.new.reader _ _
+    c.args.reader_b.now c.records.reader_b c.records.records_b c.records.invariant.b
+    c.next_text-in-records.new.records c.next_text-in-records.new.reader _ _
     c.in_ok-some_b.some_b
-    (c.in_ok-some_b.ensures c.args.limits c.loop-text_b.invariant.b.bytes
-    c.loop-text_b.invariant.b.messages c.loop-text_b.invariant.b.normal
-    c.loop-text_b.invariant.b.stands)
+    (c.in_ok-some_b.ensures c.args.limits c.records.invariant.b.bytes
+    c.records.invariant.b.messages c.records.invariant.b.normal
+    c.records.invariant.b.stands)
 
 pub returns-in-NoneLeft-clause-taken_a : goal.returns-in-NoneLeft-clause-taken_a
 returns-in-NoneLeft-clause-taken_a g c =
     passed_taken g.A.Source c.args.limits
-    c.args.reader_a.now c.loop-text_b.reader_a c.loop-text_b.records_a c.loop-text_b.invariant.a
+    c.args.reader_a.now c.records.reader_a c.records.records_a c.records.invariant.a
     c.next_text.new.records c.next_text.new.reader _ _ c.in_ok-some_a.some_a
-    (c.in_ok-some_a.ensures c.args.limits c.loop-text_b.invariant.a.bytes
-    c.loop-text_b.invariant.a.messages c.loop-text_b.invariant.a.normal
-    c.loop-text_b.invariant.a.stands)
+    (c.in_ok-some_a.ensures c.args.limits c.records.invariant.a.bytes
+    c.records.invariant.a.messages c.records.invariant.a.normal
+    c.records.invariant.a.stands)
 
 pub returns-in-NoneLeft-clause-taken_b : goal.returns-in-NoneLeft-clause-taken_b
 returns-in-NoneLeft-clause-taken_b g c =
     passed_taken g.B.Source c.args.limits
-    c.args.reader_b.now c.loop-text_b.reader_b c.loop-text_b.records_b c.loop-text_b.invariant.b
-    c.next_text-in-loop-text_b.new.records c.next_text-in-loop-text_b.new.reader _ _
+    c.args.reader_b.now c.records.reader_b c.records.records_b c.records.invariant.b
+    c.next_text-in-records.new.records c.next_text-in-records.new.reader _ _
     c.in_ok-some_b.some_b
-    (c.in_ok-some_b.ensures c.args.limits c.loop-text_b.invariant.b.bytes
-    c.loop-text_b.invariant.b.messages c.loop-text_b.invariant.b.normal
-    c.loop-text_b.invariant.b.stands)
+    (c.in_ok-some_b.ensures c.args.limits c.records.invariant.b.bytes
+    c.records.invariant.b.messages c.records.invariant.b.normal
+    c.records.invariant.b.stands)
 
-pub loop-text_b-smaller : goal.loop-text_b-smaller
-loop-text_b-smaller g c = (gone g.A.Source c.args.limits
-    c.args.reader_a.now c.loop-text_b.reader_a c.loop-text_b.records_a c.loop-text_b.invariant.a
+pub records-smaller : goal.records-smaller
+records-smaller g c = (gone g.A.Source c.args.limits
+    c.args.reader_a.now c.records.reader_a c.records.records_a c.records.invariant.a
     c.next_text.new.records c.next_text.new.reader _ _ _
-    (c.in_ok-some_a.ensures c.args.limits c.loop-text_b.invariant.a.bytes
-    c.loop-text_b.invariant.a.messages c.loop-text_b.invariant.a.normal
-    c.loop-text_b.invariant.a.stands) c.in-Alike.ensures.0).shorter
+    (c.in_ok-some_a.ensures c.args.limits c.records.invariant.a.bytes
+    c.records.invariant.a.messages c.records.invariant.a.normal
+    c.records.invariant.a.stands) c.in-Alike.ensures.0).shorter
 
-pub loop-text_b-preserved : goal.loop-text_b-preserved
-loop-text_b-preserved g c =
+pub records-preserved : goal.records-preserved
+records-preserved g c =
     let one = gone g.A.Source c.args.limits
-    c.args.reader_a.now c.loop-text_b.reader_a c.loop-text_b.records_a c.loop-text_b.invariant.a
+    c.args.reader_a.now c.records.reader_a c.records.records_a c.records.invariant.a
     c.next_text.new.records c.next_text.new.reader _ _ _
-    (c.in_ok-some_a.ensures c.args.limits c.loop-text_b.invariant.a.bytes
-    c.loop-text_b.invariant.a.messages c.loop-text_b.invariant.a.normal
-    c.loop-text_b.invariant.a.stands) c.in-Alike.ensures.0 in
+    (c.in_ok-some_a.ensures c.args.limits c.records.invariant.a.bytes
+    c.records.invariant.a.messages c.records.invariant.a.normal
+    c.records.invariant.a.stands) c.in-Alike.ensures.0 in
     let two = gone g.B.Source c.args.limits
-    c.args.reader_b.now c.loop-text_b.reader_b c.loop-text_b.records_b c.loop-text_b.invariant.b
-    c.next_text-in-loop-text_b.new.records c.next_text-in-loop-text_b.new.reader _ _ _
-    (c.in_ok-some_b.ensures c.args.limits c.loop-text_b.invariant.b.bytes
-    c.loop-text_b.invariant.b.messages c.loop-text_b.invariant.b.normal
-    c.loop-text_b.invariant.b.stands) c.in-Alike.ensures.1 in
+    c.args.reader_b.now c.records.reader_b c.records.records_b c.records.invariant.b
+    c.next_text-in-records.new.records c.next_text-in-records.new.reader _ _ _
+    (c.in_ok-some_b.ensures c.args.limits c.records.invariant.b.bytes
+    c.records.invariant.b.messages c.records.invariant.b.normal
+    c.records.invariant.b.stands) c.in-Alike.ensures.1 in
     record {
       a = on g.A.Source c.args.limits
-          c.args.reader_a.now c.loop-text_b.reader_a c.loop-text_b.records_a
-          c.loop-text_b.invariant.a c.next_text.new.records c.next_text.new.reader _ _ one;
+          c.args.reader_a.now c.records.reader_a c.records.records_a
+          c.records.invariant.a c.next_text.new.records c.next_text.new.reader _ _ one;
       b = on g.B.Source c.args.limits
-          c.args.reader_b.now c.loop-text_b.reader_b c.loop-text_b.records_b
-          c.loop-text_b.invariant.b c.next_text-in-loop-text_b.new.records
-          c.next_text-in-loop-text_b.new.reader _ _ two;
+          c.args.reader_b.now c.records.reader_b c.records.records_b
+          c.records.invariant.b c.next_text-in-records.new.records
+          c.next_text-in-records.new.reader _ _ two;
       alike = still_alike g.A.Source
           g.B.Source c.args.limits
-          c.args.reader_a.now c.loop-text_b.reader_a c.loop-text_b.records_a
-          c.loop-text_b.invariant.a
-          c.args.reader_b.now c.loop-text_b.reader_b c.loop-text_b.records_b
-          c.loop-text_b.invariant.b
-          c.loop-text_b.invariant.alike c.next_text.new.records c.next_text.new.reader _ _
-          c.next_text-in-loop-text_b.new.records c.next_text-in-loop-text_b.new.reader _ _ one
+          c.args.reader_a.now c.records.reader_a c.records.records_a
+          c.records.invariant.a
+          c.args.reader_b.now c.records.reader_b c.records.records_b
+          c.records.invariant.b
+          c.records.invariant.alike c.next_text.new.records c.next_text.new.reader _ _
+          c.next_text-in-records.new.records c.next_text-in-records.new.reader _ _ one
           two c.requires.limits refl refl
           (sym c.as_slice.ensures.value ∙ c.in-Alike.ensures.2
-          ∙ c.as_slice-in-loop-text_b.ensures.value);
+          ∙ c.as_slice-in-records.ensures.value);
     }
 
 pub returns-in-Apart-clause-answer : goal.returns-in-Apart-clause-answer
 returns-in-Apart-clause-answer g c =
     told_apart g.A.Source
     g.B.Source c.args.limits
-    c.args.reader_a.now c.loop-text_b.reader_a c.loop-text_b.records_a c.loop-text_b.invariant.a
-    c.args.reader_b.now c.loop-text_b.reader_b c.loop-text_b.records_b c.loop-text_b.invariant.b
-    c.loop-text_b.invariant.alike c.next_text.new.records c.next_text.new.reader [] _
-    c.next_text-in-loop-text_b.new.records c.next_text-in-loop-text_b.new.reader [] _
+    c.args.reader_a.now c.records.reader_a c.records.records_a c.records.invariant.a
+    c.args.reader_b.now c.records.reader_b c.records.records_b c.records.invariant.b
+    c.records.invariant.alike c.next_text.new.records c.next_text.new.reader [] _
+    c.next_text-in-records.new.records c.next_text-in-records.new.reader [] _
     c.in_ok-some_a.some_a c.in_ok-some_b.some_b
-    (c.in_ok-some_a.ensures c.args.limits c.loop-text_b.invariant.a.bytes
-    c.loop-text_b.invariant.a.messages c.loop-text_b.invariant.a.normal
-    c.loop-text_b.invariant.a.stands)
-    (c.in_ok-some_b.ensures c.args.limits c.loop-text_b.invariant.b.bytes
-    c.loop-text_b.invariant.b.messages c.loop-text_b.invariant.b.normal
-    c.loop-text_b.invariant.b.stands) refl refl
-    (rw (c.as_slice.ensures.value, c.as_slice-in-loop-text_b.ensures.value) at c.in-Apart.ensures)
+    (c.in_ok-some_a.ensures c.args.limits c.records.invariant.a.bytes
+    c.records.invariant.a.messages c.records.invariant.a.normal
+    c.records.invariant.a.stands)
+    (c.in_ok-some_b.ensures c.args.limits c.records.invariant.b.bytes
+    c.records.invariant.b.messages c.records.invariant.b.normal
+    c.records.invariant.b.stands) refl refl
+    (rw (c.as_slice.ensures.value, c.as_slice-in-records.ensures.value) at c.in-Apart.ensures)
     _ c.number-number.ensures
 
 pub renaming_to-requires : goal.renaming_to-requires
 renaming_to-requires g c =
     equal_counts g.A.Source
     g.B.Source c.args.limits
-    c.args.reader_a.now c.loop-text_b.reader_a c.loop-text_b.records_a c.loop-text_b.invariant.a
-    c.args.reader_b.now c.loop-text_b.reader_b c.loop-text_b.records_b c.loop-text_b.invariant.b
-    c.loop-text_b.invariant.alike c.next_text.new.records c.next_text.new.reader _ _
-    c.next_text-in-loop-text_b.new.records c.next_text-in-loop-text_b.new.reader _ _
+    c.args.reader_a.now c.records.reader_a c.records.records_a c.records.invariant.a
+    c.args.reader_b.now c.records.reader_b c.records.records_b c.records.invariant.b
+    c.records.invariant.alike c.next_text.new.records c.next_text.new.reader _ _
+    c.next_text-in-records.new.records c.next_text-in-records.new.reader _ _
     (ended g.A.Source c.args.limits
-    c.args.reader_a.now c.loop-text_b.reader_a c.loop-text_b.records_a c.loop-text_b.invariant.a
+    c.args.reader_a.now c.records.reader_a c.records.records_a c.records.invariant.a
     c.next_text.new.records c.next_text.new.reader _ _ _
-    (c.in_ok-some_a.ensures c.args.limits c.loop-text_b.invariant.a.bytes
-    c.loop-text_b.invariant.a.messages c.loop-text_b.invariant.a.normal
-    c.loop-text_b.invariant.a.stands) c.in-NoneLeft.ensures.0)
+    (c.in_ok-some_a.ensures c.args.limits c.records.invariant.a.bytes
+    c.records.invariant.a.messages c.records.invariant.a.normal
+    c.records.invariant.a.stands) c.in-NoneLeft.ensures.0)
     (ended g.B.Source c.args.limits
-    c.args.reader_b.now c.loop-text_b.reader_b c.loop-text_b.records_b c.loop-text_b.invariant.b
-    c.next_text-in-loop-text_b.new.records c.next_text-in-loop-text_b.new.reader _ _ _
-    (c.in_ok-some_b.ensures c.args.limits c.loop-text_b.invariant.b.bytes
-    c.loop-text_b.invariant.b.messages c.loop-text_b.invariant.b.normal
-    c.loop-text_b.invariant.b.stands) c.in-NoneLeft.ensures.1)
+    c.args.reader_b.now c.records.reader_b c.records.records_b c.records.invariant.b
+    c.next_text-in-records.new.records c.next_text-in-records.new.reader _ _ _
+    (c.in_ok-some_b.ensures c.args.limits c.records.invariant.b.bytes
+    c.records.invariant.b.messages c.records.invariant.b.normal
+    c.records.invariant.b.stands) c.in-NoneLeft.ensures.1)
 
 pub returns-in-NoneLeft-clause-answer : goal.returns-in-NoneLeft-clause-answer
 returns-in-NoneLeft-clause-answer g c =
     let one = ended g.A.Source c.args.limits
-    c.args.reader_a.now c.loop-text_b.reader_a c.loop-text_b.records_a c.loop-text_b.invariant.a
+    c.args.reader_a.now c.records.reader_a c.records.records_a c.records.invariant.a
     c.next_text.new.records c.next_text.new.reader _ _ _
-    (c.in_ok-some_a.ensures c.args.limits c.loop-text_b.invariant.a.bytes
-    c.loop-text_b.invariant.a.messages c.loop-text_b.invariant.a.normal
-    c.loop-text_b.invariant.a.stands) c.in-NoneLeft.ensures.0 in
+    (c.in_ok-some_a.ensures c.args.limits c.records.invariant.a.bytes
+    c.records.invariant.a.messages c.records.invariant.a.normal
+    c.records.invariant.a.stands) c.in-NoneLeft.ensures.0 in
     let two = ended g.B.Source c.args.limits
-    c.args.reader_b.now c.loop-text_b.reader_b c.loop-text_b.records_b c.loop-text_b.invariant.b
-    c.next_text-in-loop-text_b.new.records c.next_text-in-loop-text_b.new.reader _ _ _
-    (c.in_ok-some_b.ensures c.args.limits c.loop-text_b.invariant.b.bytes
-    c.loop-text_b.invariant.b.messages c.loop-text_b.invariant.b.normal
-    c.loop-text_b.invariant.b.stands) c.in-NoneLeft.ensures.1 in
+    c.args.reader_b.now c.records.reader_b c.records.records_b c.records.invariant.b
+    c.next_text-in-records.new.records c.next_text-in-records.new.reader _ _ _
+    (c.in_ok-some_b.ensures c.args.limits c.records.invariant.b.bytes
+    c.records.invariant.b.messages c.records.invariant.b.normal
+    c.records.invariant.b.stands) c.in-NoneLeft.ensures.1 in
     both_ended g.A.Source
     g.B.Source c.args.limits
-    c.args.reader_a.now c.loop-text_b.reader_a c.loop-text_b.records_a c.loop-text_b.invariant.a
-    c.args.reader_b.now c.loop-text_b.reader_b c.loop-text_b.records_b c.loop-text_b.invariant.b
-    c.loop-text_b.invariant.alike c.next_text.new.records c.next_text.new.reader _ _
-    c.next_text-in-loop-text_b.new.records c.next_text-in-loop-text_b.new.reader _ _ one two _
-    (c.in-Ok.ensures.pairs c.loop-text_b.invariant.a.messages c.loop-text_b.invariant.b.messages
+    c.args.reader_a.now c.records.reader_a c.records.records_a c.records.invariant.a
+    c.args.reader_b.now c.records.reader_b c.records.records_b c.records.invariant.b
+    c.records.invariant.alike c.next_text.new.records c.next_text.new.reader _ _
+    c.next_text-in-records.new.records c.next_text-in-records.new.reader _ _ one two _
+    (c.in-Ok.ensures.pairs c.records.invariant.a.messages c.records.invariant.b.messages
     (names_a g.A.Source
     g.B.Source c.args.limits
-    c.args.reader_a.now c.loop-text_b.reader_a c.loop-text_b.records_a c.loop-text_b.invariant.a
-    c.args.reader_b.now c.loop-text_b.reader_b c.loop-text_b.records_b c.loop-text_b.invariant.b
-    c.loop-text_b.invariant.alike c.next_text.new.records c.next_text.new.reader _ _
-    c.next_text-in-loop-text_b.new.records c.next_text-in-loop-text_b.new.reader _ _ one two)
+    c.args.reader_a.now c.records.reader_a c.records.records_a c.records.invariant.a
+    c.args.reader_b.now c.records.reader_b c.records.records_b c.records.invariant.b
+    c.records.invariant.alike c.next_text.new.records c.next_text.new.reader _ _
+    c.next_text-in-records.new.records c.next_text-in-records.new.reader _ _ one two)
     (names_b g.A.Source
     g.B.Source c.args.limits
-    c.args.reader_a.now c.loop-text_b.reader_a c.loop-text_b.records_a c.loop-text_b.invariant.a
-    c.args.reader_b.now c.loop-text_b.reader_b c.loop-text_b.records_b c.loop-text_b.invariant.b
-    c.loop-text_b.invariant.alike c.next_text.new.records c.next_text.new.reader _ _
-    c.next_text-in-loop-text_b.new.records c.next_text-in-loop-text_b.new.reader _ _ one two))
+    c.args.reader_a.now c.records.reader_a c.records.records_a c.records.invariant.a
+    c.args.reader_b.now c.records.reader_b c.records.records_b c.records.invariant.b
+    c.records.invariant.alike c.next_text.new.records c.next_text.new.reader _ _
+    c.next_text-in-records.new.records c.next_text-in-records.new.reader _ _ one two))
+
+pub returns-in-Apart-clause-text_a : goal.returns-in-Apart-clause-text_a
+returns-in-Apart-clause-text_a g c =
+    left_text g.A.Source c.args.limits
+    c.args.reader_a.now c.records.reader_a c.records.records_a c.records.invariant.a
+    c.next_text.new.records c.next_text.new.reader [] _ c.in_ok-some_a.some_a
+    (c.in_ok-some_a.ensures c.args.limits c.records.invariant.a.bytes
+    c.records.invariant.a.messages c.records.invariant.a.normal
+    c.records.invariant.a.stands) refl _ c.number-number.ensures
+
+pub returns-in-Apart-clause-text_b : goal.returns-in-Apart-clause-text_b
+returns-in-Apart-clause-text_b g c =
+    left_text g.B.Source c.args.limits
+    c.args.reader_b.now c.records.reader_b c.records.records_b c.records.invariant.b
+    c.next_text-in-records.new.records c.next_text-in-records.new.reader [] _
+    c.in_ok-some_b.some_b
+    (c.in_ok-some_b.ensures c.args.limits c.records.invariant.b.bytes
+    c.records.invariant.b.messages c.records.invariant.b.normal
+    c.records.invariant.b.stands) refl _
+    (c.number-number.ensures
+    ∙ sym (one_number g.A.Source g.B.Source c.args.limits
+    c.args.reader_a.now c.records.reader_a c.records.records_a c.records.invariant.a
+    c.args.reader_b.now c.records.reader_b c.records.records_b c.records.invariant.b
+    c.records.invariant.alike))

@@ -3,8 +3,8 @@ use Rattle.dap_normal.specs.NormalSteps.{remaining}
 use Rattle.dap_normal.proofs.StreamLoop.{Going}
 use Rattle.dap_compare.proofs.comparing.compare_records.Given as goal
 
-abbrev pub invariant-loop-text_b : goal.invariant-loop-text_b
-invariant-loop-text_b g l = record {
+abbrev pub invariant-records : goal.invariant-records
+invariant-records g l = record {
   a : Going g.T.NameTable.numbers g.T.NameTable.limit g.A.Source l.fn.limits l.fn.reader_a
       l.reader_a l.records_a;
   b : Going g.T.NameTable.numbers g.T.NameTable.limit g.B.Source l.fn.limits l.fn.reader_b
@@ -12,5 +12,5 @@ invariant-loop-text_b g l = record {
   alike : a.normal ≡ b.normal;
 }
 
-abbrev pub decreases-loop-text_b : goal.decreases-loop-text_b
-decreases-loop-text_b g l = remaining l.records_a
+abbrev pub decreases-records : goal.decreases-records
+decreases-records g l = remaining l.records_a

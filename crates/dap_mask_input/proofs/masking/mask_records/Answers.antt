@@ -58,16 +58,18 @@ returns-then-is_err-clause-answer g c =
 
 pub loop-whole-smaller : goal.loop-whole-smaller
 loop-whole-smaller g c =
-    fewer c.args.rules.now c.args.limits c.requires.limits g.R.Source g.W.Sink c.args.reader.now
+    rw c.recycle.ensures
+    (fewer c.args.rules.now c.args.limits c.requires.limits g.R.Source g.W.Sink c.args.reader.now
     c.args.writer.now
     c.loop-whole.reader c.loop-whole.writer c.loop-whole.records c.loop-whole.written
     c.loop-whole.invariant c.next.new.self c.next.new.reader c.in-Ok-Some.whole (rw
     c.in-Ok-Some.field-0-is at c.in-Ok-Some.ensures c.args.limits.frame
-    c.loop-whole.invariant.stands.going.behind.between)
+    c.loop-whole.invariant.stands.going.behind.between))
 
 pub loop-whole-preserved : goal.loop-whole-preserved
 loop-whole-preserved g c =
-    written_on c.args.rules.now c.args.limits c.requires.limits g.R.Source g.W.Sink
+    rw c.recycle.ensures
+    (written_on c.args.rules.now c.args.limits c.requires.limits g.R.Source g.W.Sink
     c.args.reader.now c.args.writer.now
     c.loop-whole.reader c.loop-whole.writer c.loop-whole.records c.loop-whole.written
     c.loop-whole.invariant c.next.new.self c.next.new.reader c.in-Ok-Some.whole (rw
@@ -77,4 +79,4 @@ loop-whole-preserved g c =
     c.loop-whole.invariant.count) c.clear.ensures.items c.as_slice.ensures.value
     c.write_all.new.writer (all_written g.W.Sink c.loop-whole.writer
     c.write_all.new.writer c.write_all.result c.as_slice.result.now c.write_all.ensures (sym
-    c.is_err.ensures.value ∙ c.if-is_err.false))
+    c.is_err.ensures.value ∙ c.if-is_err.false)))

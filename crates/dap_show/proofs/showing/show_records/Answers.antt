@@ -77,20 +77,22 @@ loop-out-preserved g c = λ limits start.
     g.R.Source c.loop-out.records c.next.new.self
     c.loop-out.reader c.next.new.reader (Ok o)) c.in-Some.is
     (c.in_ok-whole.ensures limits.frame was.going.behind.between) in
-    one_more limits g.R.Source c.args.reader.now
+    rw c.recycle.ensures
+    (one_more limits g.R.Source c.args.reader.now
     c.loop-out.reader c.loop-out.records (string_bytes c.loop-out.out) was
     c.next.new.self c.next.new.reader (tt {0}) c.in-Some.whole
     (string_bytes c.append_lines.new.out) read (rw c.number-number.ensures at
-    c.in_ok-append_lines.ensures)
+    c.in_ok-append_lines.ensures))
 
 pub loop-out-smaller : goal.loop-out-smaller
 loop-out-smaller g c =
     let ready = c.requires.start in
     let was = c.loop-out.invariant ready.0 ready.2 in
-    fewer ready.0 g.R.Source c.args.reader.now
+    rw c.recycle.ensures
+    (fewer ready.0 g.R.Source c.args.reader.now
     c.loop-out.reader c.loop-out.records (string_bytes c.loop-out.out) was
     c.next.new.self c.next.new.reader c.in-Some.whole
     (subst (λ o. ReadsNext (record_items ready.0.frame) (StandsForRecord ready.0.frame)
     g.R.Source c.loop-out.records c.next.new.self
     c.loop-out.reader c.next.new.reader (Ok o)) c.in-Some.is
-    (c.in_ok-whole.ensures ready.0.frame was.going.behind.between))
+    (c.in_ok-whole.ensures ready.0.frame was.going.behind.between)))

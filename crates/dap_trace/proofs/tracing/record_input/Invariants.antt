@@ -1,9 +1,10 @@
-use Rattle.std.proofs.Common.{length}
-use Rattle.dap_trace.proofs.TracingLoop.{Tracing}
+use Rattle.std.proofs.Common.{◌-◌}
+use Rattle.dap_trace.proofs.PieceLoop.{Going}
 use Rattle.dap_trace.proofs.tracing.record_input.Given as goal
 
-abbrev pub invariant-loop-rest : goal.invariant-loop-rest
-invariant-loop-rest l = Tracing l.fn.limits l.initial.rest l.rest l.reader l.recorder l.last
+abbrev pub invariant-loop-stop : goal.invariant-loop-stop
+invariant-loop-stop g l =
+    Going g.R.Source l.fn.limits l.fn.reader l.reader l.pieces l.trace l.recorder l.last
 
-abbrev pub decreases-loop-rest : goal.decreases-loop-rest
-decreases-loop-rest l = length l.rest
+abbrev pub decreases-loop-stop : goal.decreases-loop-stop
+decreases-loop-stop g l = l.pieces.limit - l.pieces.taken

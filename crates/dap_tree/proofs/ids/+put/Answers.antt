@@ -4,7 +4,7 @@ use Rattle.dap_tree.specs.Doc.{depth, members_depth}
 use Rattle.dap_tree.specs.Ids.{items_with_ids}
 use Rattle.dap_tree.specs.View.{view, items_view, members_view}
 use Rattle.dap_tree.proofs.Joins.{put_step, put_done, shallow_step, member_shallow, folds_keep}
-use Rattle.dap_tree.proofs.Joins.{retained_with_ids}
+use Rattle.dap_tree.proofs.Joins.{retained_with_ids, left_step}
 use Rattle.dap_tree.proofs.Views.{view-Object}
 use Rattle.dap_tree.specs.declared.tree.Tree.{the_lemmas}
 use Rattle.dap_tree.proofs.ids.+put.Goals as goal
@@ -27,8 +27,8 @@ put_members-retain-requires t c = record {
       (omega arith, subst (λ n. depth (view q.now) ≤ n) (sym same) shallow);
 }
 
-pub put_members-returns : goal.put_members-returns
-put_members-returns t c =
+pub put_members-returns-clause-put : goal.put_members-returns-clause-put
+put_members-returns-clause-put t c =
     retained_with_ids {F = State} _ (λ f. f.0.now)
     (λ f k v b w g s. (search rules, search rules, search rules)) _ _ _ c.retain.ensures.filtered
 
@@ -38,14 +38,17 @@ put_items-loop-item-preserved t c =
     let lt : l.item-index < length l.item-items = omega arith in
     record {
       shallow = rw add-one
-          (shallow_step l.item-items l.item-index c.put.new.tree c.args.levels l.invariant.shallow);
-      done = rw (add-one, c.skip-left.ensures)
-          (put_step l.item-items l.item-index c.item-item.result c.put.new.tree l.rest.now lt
-          c.put.ensures ∙ l.invariant.done);
+          (shallow_step l.item-items l.item-index c.put-rest.new.tree c.args.levels l.invariant.shallow);
+      done = rw (add-one, c.put-rest.ensures.left)
+          (put_step l.item-items l.item-index c.item-item.result c.put-rest.new.tree l.rest.now lt
+          c.put-rest.ensures.put ∙ l.invariant.done);
+      left = rw (add-one, c.put-rest.ensures.left)
+          (left_step l.item-items l.item-index c.item-item.result c.put-rest.new.tree l.rest.now lt
+          ∙ l.invariant.left);
     }
 
-pub put_items-returns : goal.put_items-returns
-put_items-returns t c =
+pub put_items-returns-clause-put : goal.put_items-returns-clause-put
+put_items-returns-clause-put t c =
     let l = c.loop-item in
     let past : length l.item-items ≤ l.item-index = omega arith in
     let same : c.args.items.now.len ≡ length l.item-items = omega arith in

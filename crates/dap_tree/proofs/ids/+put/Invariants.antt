@@ -1,6 +1,6 @@
 use Rattle.std.proofs.Common.{◌≡◌, ◌+◌, ◌*◌, ◌≤◌, drop, take}
 use Rattle.dap_tree.specs.Doc.{items_depth}
-use Rattle.dap_tree.specs.Ids.{items_with_ids}
+use Rattle.dap_tree.specs.Ids.{items_with_ids, items_id_count}
 use Rattle.dap_tree.specs.View.{items_view}
 use Rattle.dap_tree.proofs.Joins.{items_join}
 use Rattle.dap_tree.proofs.ids.+put.Given as goal
@@ -24,4 +24,6 @@ invariant-put_items-loop-item l = record {
   done : items_join (take l.item-index l.item-items)
       (items_with_ids (items_view (drop l.item-index l.item-items)) l.rest)
       ≡ items_with_ids (items_view l.initial.item-items) l.numbers;
+  left : drop (items_id_count (items_view (drop l.item-index l.item-items))) l.rest
+      ≡ drop (items_id_count (items_view l.initial.item-items)) l.numbers;
 }

@@ -24,6 +24,9 @@ returns c =
     c.in_ok-masking.ensures ∙ ap₂ with_subcommand showing (ap top c.in_ok-mask.ensures.0) in
     let telling =
     c.in_ok-telling.ensures ∙ ap₂ with_subcommand masking (ap top c.in_ok-rows.ensures.0) in
-    IfOk-weaker c.with_other-4.result _ _
-    (λ d h. h ∙ ap₂ with_subcommand telling (ap top c.in_ok-compare.ensures.0))
-    c.with_other-4.ensures
+    let comparing =
+    c.in_ok-comparing.ensures
+    ∙ ap₂ with_subcommand telling (ap top c.in_ok-compare.ensures.0) in
+    IfOk-weaker c.with_other-5.result _ _
+    (λ d h. h ∙ ap₂ with_subcommand comparing (ap top c.in_ok-diff.ensures.0))
+    c.with_other-5.ensures

@@ -27,12 +27,3 @@ returns-in-rows c =
     let number : text_in c.get_str-in-rows.result ≡ first_of (codes "N") rows =
     c.get_str-in-rows.ensures ∙ first_value-rows (found_of c.args.rows.now) (codes "N") in
     ap (λ n. Some (told_rows n)) number ∙ sym (ap (λ n. job_of n rows) c.in-rows.is)
-
-pub returns-in-compare : goal.returns-in-compare
-returns-in-compare c =
-    let rows = rows_of (found_of c.args.rows.now) in
-    let first : text_in c.get_str-in-compare.result ≡ first_of (codes "A") rows =
-    c.get_str-in-compare.ensures ∙ first_value-rows (found_of c.args.rows.now) (codes "A") in
-    let second : text_in c.get_str-in-compare-2.result ≡ first_of (codes "B") rows =
-    c.get_str-in-compare-2.ensures ∙ first_value-rows (found_of c.args.rows.now) (codes "B") in
-    c.both.ensures ∙ ap₂ two_files first second ∙ sym (ap (λ n. job_of n rows) c.in-compare.is)

@@ -46,7 +46,8 @@ returns g c = λ limits bytes messages normal was.
     c.args.self.now.records c.next.new.self
     c.args.reader.now c.next.new.reader (Ok o)) c.in-Some.is
     (c.in_ok-whole.ensures limits.frame was.between) in
-    gone_on g.R.Source limits bytes c.args.self.now
+    rw c.recycle.ensures
+    (gone_on g.R.Source limits bytes c.args.self.now
     messages normal was c.next.new.self c.args.reader.now c.next.new.reader c.in-Some.whole read
     c.judge.new.self c.args.text.now.items c.judge.new.out.items c.in_ok-judge.ensures.limits
-    c.in_ok-judge.ensures.judges
+    c.in_ok-judge.ensures.judges)

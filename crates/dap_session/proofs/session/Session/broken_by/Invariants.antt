@@ -1,10 +1,10 @@
 use Rattle.std.proofs.Common.{◌≡◌, drop}
-use Rattle.dap_message.specs.Message.{sent}
 use Rattle.dap_session.specs.Rules.{rules, first_of}
 use Rattle.dap_session.specs.KeptRules.{tells}
+use Rattle.dap_session.specs.EnvelopeView.{message_of}
 use Rattle.dap_session.proofs.session.Session.broken_by.Given as goal
 
 abbrev pub invariant-loop-rule : goal.invariant-loop-rule
 invariant-loop-rule l =
-    first_of (λ r. tells r l.self (sent l.message)) rules
-    ≡ first_of (λ r. tells r l.self (sent l.message)) (drop l.rule-index rules)
+    first_of (λ r. tells r l.self (message_of l.message)) rules
+    ≡ first_of (λ r. tells r l.self (message_of l.message)) (drop l.rule-index rules)

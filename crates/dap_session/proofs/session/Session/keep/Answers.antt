@@ -1,19 +1,19 @@
 use Rattle.std.proofs.Common.{ap, sym, subst}
 use Rattle.dap_tree.specs.declared.side.Side.TheVariants.{Client, Adapter}
-use Rattle.dap_message.specs.Message.{sent}
 use Rattle.dap_session.specs.Kept.{Kept, Requests}
 use Rattle.dap_session.specs.RequestSteps.{FitsRequests}
 use Rattle.dap_session.proofs.RuleTests.{may_follow}
+use Rattle.dap_session.specs.EnvelopeView.{message_of}
 use Rattle.dap_session.proofs.session.Session.keep.Goals as goal
 
 pub note-requires : goal.note-requires
 note-requires c =
-    subst (λ (es : Requests). FitsRequests Client es (sent c.args.message.now))
+    subst (λ (es : Requests). FitsRequests Client es (message_of c.args.message.now))
     (sym (ap (λ (k : Kept). k.client) c.self.view_is))
-    (may_follow c.args.self.now (sent c.args.message.now) Client c.requires)
+    (may_follow c.args.self.now (message_of c.args.message.now) Client c.requires)
 
 pub note-requires-2 : goal.note-requires-2
 note-requires-2 c =
-    subst (λ (es : Requests). FitsRequests Adapter es (sent c.args.message.now))
+    subst (λ (es : Requests). FitsRequests Adapter es (message_of c.args.message.now))
     (sym (ap (λ (k : Kept). k.adapter) c.self.view_is))
-    (may_follow c.args.self.now (sent c.args.message.now) Adapter c.requires)
+    (may_follow c.args.self.now (message_of c.args.message.now) Adapter c.requires)

@@ -7,14 +7,14 @@ use Rattle.dap_tree.proofs.tree.Tree.replace_ids.Goals as goal
 
 pub returns-clause-numbers : goal.returns-clause-numbers
 returns-clause-numbers c =
-    ap (λ d. numbers_of (ids d)) c.put.ensures
+    ap (λ d. numbers_of (ids d)) c.put.ensures.put
     ∙ numbers-with (view c.args.self.now) c.args.numbers.now c.requires.one_each
 
 pub returns-clause-alike : goal.returns-clause-alike
 returns-clause-alike c =
-    ap skeleton c.put.ensures ∙ skeleton-with (view c.args.self.now) c.args.numbers.now
+    ap skeleton c.put.ensures.put ∙ skeleton-with (view c.args.self.now) c.args.numbers.now
 
 pub returns-clause-sound : goal.returns-clause-sound
 returns-clause-sound c =
-    ap is_sound c.put.ensures ∙ sound_with (view c.args.self.now) c.args.numbers.now
+    ap is_sound c.put.ensures.put ∙ sound_with (view c.args.self.now) c.args.numbers.now
     ∙ c.requires.sound

@@ -1,0 +1,2 @@
+pub mod ReadTexts
+pub mod Texts

@@ -1,0 +1,126 @@
+-- What is read of a text that is the record of a message.
+use Rattle.std.proofs.Common.{◌≡◌, ℕ, List, [], ◌++◌, length, take, drop, Option, Some, None, MatchOption}
+use Rattle.std.proofs.Common.{refl, sym, ◌∙◌, subst, append-nil, take-append-drop}
+use Rattle.dap_frame.specs.declared.limits.FrameLimits.{FrameLimits}
+use Rattle.dap_tree.specs.Json.{text_of}
+use Rattle.dap_items.proofs.Ends.{item_not_faulty, item_not_open, one_item}
+use Rattle.dap_message.specs.Message.{Sent}
+use Rattle.dap_message.proofs.Contents.{typed_not_refused}
+use Rattle.dap_recording.specs.Recording.{IsOpenRecord, IsRecord, ShowsFault}
+use Rattle.dap_recording.specs.RecordReading.{RecordReading, StandsFor, GivesRecordFault}
+use Rattle.dap_recording.specs.RecordReading.{GivesFedRecord, next_number, record_limits}
+use Rattle.dap_recording.specs.declared.fed_record.FedRecord.{FedRecord}
+use Rattle.dap_recording.specs.declared.record.Record.{Record}
+use Rattle.dap_recording.specs.declared.record_fault.RecordCause.TheVariants as cause
+use Rattle.dap_recording.specs.declared.record_fault.RecordFault.{RecordFault}
+use Rattle.dap_recording.proofs.Records.{record_grammar}
+use Rattle.dap_recording.proofs.RecordSteps.{stands_open}
+use Rattle.dap_input.specs.declared.limits.Limits.{Limits}
+use Rattle.dap_input.specs.Limits.{AreSound}
+use Rattle.dap_input.specs.Judging.{Reason, faulty, input_too_long, cut, objected, no_message}
+use Rattle.dap_input.specs.Judging.{broken, too_many_ids, grew}
+use Rattle.dap_input.specs.Refusals.{IsObjected, RefusesHeld, reason_of}
+use Rattle.dap_input.specs.declared.refused.Refused.{Refused}
+use Rattle.dap_input.specs.declared.refused.Refused.TheVariants as why
+use Rattle.dap_normal.specs.Accepting.{Held, HoldsNoMessage, IsMessage}
+use Rattle.dap_normal.specs.JudgingSteps.{held_of}
+use Rattle.dap_normal.proofs.AcceptingFacts.{message_once}
+use Rattle.dap_diff.specs.Texts.{IsRecordOf, IsLeftText}
+use Rattle.dap_diff.proofs.Texts.{record_here}
+
+module _ (limits : Limits) (sound : AreSound limits) (text : List ℕ) (m : Sent)
+    (is : IsRecordOf limits text m) (l : FrameLimits) (same : l ≡ limits.frame) where
+  here : IsRecord l text m.side (text_of m.doc)
+  here = subst (λ k. IsRecord k text m.side (text_of m.doc)) (sym same)
+      (record_here limits sound text m is)
+
+  -- A record at its front is the whole text.
+  is_held : (used : ℕ) (whole : Record)
+      → IsRecord l (take used text) whole.side whole.content → IsMessage (held_of whole) m
+  is_held used whole front =
+      let one = one_item (record_grammar l) (take used text) text (drop used text) []
+      (whole.side, whole.content) (m.side, text_of m.doc)
+      (take-append-drop used text ∙ sym (append-nil text)) front here in
+      subst (λ h. IsMessage h m) (sym one.1) (refl, is.typed)
+
+  not_open : (reader : RecordReading) → record_limits reader ≡ l → StandsFor reader 1 text → ⊥
+  not_open reader of stands =
+      item_not_open (record_grammar l) text [] (m.side, text_of m.doc) here
+      (subst (λ k. IsOpenRecord k (text ++ [])) of
+      (subst (IsOpenRecord (record_limits reader)) (sym (append-nil text))
+      (stands_open reader 1 text stands)))
+
+  -- A call that answered gave the record, and could not give none.
+  module _ (fed : FedRecord) (new : RecordReading) (gives : GivesFedRecord l 1 [] text fed new)
+    where
+      pub given_is_held : (whole : Record) → Some whole ≡ fed.whole → IsMessage (held_of whole) m
+      given_is_held whole some =
+          is_held fed.used whole
+          (subst (λ o. MatchOption o
+          ((fed.used ≡ length text) × StandsFor new 1 ([] ++ text))
+          (λ w. IsRecord l ([] ++ take fed.used text) w.side w.content
+          × StandsFor new (next_number 1) [])) (sym some) gives.1).0
+
+      pub not_given : None ≡ fed.whole → record_limits new ≡ l → ⊥
+      not_given none of =
+          not_open new of
+          (subst (λ o. MatchOption o
+          ((fed.used ≡ length text) × StandsFor new 1 ([] ++ text))
+          (λ w. IsRecord l ([] ++ take fed.used text) w.side w.content
+          × StandsFor new (next_number 1) [])) (sym none) gives.1).1
+
+  pub no_fault : (fault : RecordFault) (new : RecordReading)
+      → GivesRecordFault l 1 [] text fault new → (fault.cause ≡ cause.Memory → ⊥) → ⊥
+  no_fault fault new gives other =
+      let shown = gives.shown other in
+      item_not_faulty (record_grammar l) text [] (m.side, text_of m.doc) fault.cause shown.0 here
+      (subst (λ t. ShowsFault l t fault.cause shown.0) (sym (append-nil text)) shown.1)
+
+-- What is read as a message is that of the text.
+pub is_told : (limits : Limits) (text : List ℕ) (held : Held) (n : Sent) → (text ≡ [] → ⊥)
+    → IsLeftText limits text → ((m : Sent) → IsRecordOf limits text m → IsMessage held m)
+    → IsMessage held n → IsRecordOf limits text n
+is_told limits text held n some (None, none) each is = absurd (some none)
+is_told limits text held n some (Some m, holds) each is =
+    subst (IsRecordOf limits text) (message_once held m n (each m holds) is) holds
+
+-- What holds a message is not refused for holding none.
+module _ (held : Held) (m : Sent) (is : IsMessage held m) where
+  no_reason : (o : Option (ℕ × Reason))
+      → MatchOption o ⊥ (λ told. (told.0 ≡ 1) × IsObjected (HoldsNoMessage held) told.1) → ⊥
+  no_reason None told = told
+  no_reason (Some (n, objected (no_message e))) told =
+      typed_not_refused held.0 held.1 m.doc e is.1 told.1
+  no_reason (Some (n, objected (broken rule))) told = told.1
+  no_reason (Some (n, objected too_many_ids)) told = told.1
+  no_reason (Some (n, objected grew)) told = told.1
+  no_reason (Some (n, faulty cause)) told = told.1
+  no_reason (Some (n, input_too_long)) told = told.1
+  no_reason (Some (n, cut)) told = told.1
+
+  not_refused : (because : Refused) → (because ≡ why.Memory → ⊥)
+      → RefusesHeld (HoldsNoMessage held) 1 because → ⊥
+  not_refused (why.InputTooLong n) other told = no_reason (reason_of (why.InputTooLong n)) told
+  not_refused (why.Record n x) other told = no_reason (reason_of (why.Record n x)) told
+  not_refused (why.Json n) other told = no_reason (reason_of (why.Json n)) told
+  not_refused (why.Fraction n) other told = no_reason (reason_of (why.Fraction n)) told
+  not_refused (why.Message n x) other told = no_reason (reason_of (why.Message n x)) told
+  not_refused (why.Rule n x) other told = no_reason (reason_of (why.Rule n x)) told
+  not_refused (why.TooManyIds n) other told = no_reason (reason_of (why.TooManyIds n)) told
+  not_refused (why.Grew n) other told = no_reason (reason_of (why.Grew n)) told
+  not_refused (why.Incomplete n x) other told = no_reason (reason_of (why.Incomplete n x)) told
+  not_refused (why.TraceTooLong n) other told = no_reason (reason_of (why.TraceTooLong n)) told
+  not_refused (why.Trace n x) other told = no_reason (reason_of (why.Trace n x)) told
+  not_refused (why.Recorder n x) other told = no_reason (reason_of (why.Recorder n x)) told
+  not_refused why.ReadFault other told = no_reason (reason_of why.ReadFault) told
+  not_refused why.WriteFault other told = no_reason (reason_of why.WriteFault) told
+  not_refused why.Memory other told = other refl
+
+-- And where the text is none, nothing was to be read.
+pub refused_none : (limits : Limits) (text : List ℕ) (held : Held) (because : Refused)
+    → (text ≡ [] → ⊥) → IsLeftText limits text
+    → ((m : Sent) → IsRecordOf limits text m → IsMessage held m)
+    → (because ≡ why.Memory → ⊥) → RefusesHeld (HoldsNoMessage held) 1 because → ⊥
+refused_none limits text held because some (None, none) each other told = some none
+refused_none limits text held because some (Some m, holds) each other told =
+    not_refused held m (each m holds) because other told

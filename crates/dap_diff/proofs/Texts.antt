@@ -1,0 +1,156 @@
+-- What the texts that `compare` leaves hold, and that each holds one thing.
+use Rattle.std.proofs.Common.{◌≡◌, inl, inr, ℕ, ◌≤◌, List, [], ◌∷◌, ◌++◌, length, Option}
+use Rattle.std.proofs.Common.{Some, None, refl, sym, ◌∙◌, ap, subst, append-nil}
+use Rattle.std.specs.List.{AllByRecursion}
+use Rattle.dap_device.specs.declared.device.Source.{Ghosts as Source}
+use Rattle.dap_device.specs.declared.reading.Stop.{Stop}
+use Rattle.dap_device.specs.declared.reading.Stop.TheVariants.{End, Full, Failed}
+use Rattle.dap_tree.specs.Json.{text_of}
+use Rattle.dap_message.specs.Message.{Sent}
+use Rattle.dap_recording.specs.Recording.{IsRecord, IsRecording, recording_text}
+use Rattle.dap_recording.proofs.Records.{record_grammar, readable}
+use Rattle.dap_recording.proofs.RecordsWritten.{written_is_record, written_is_recording}
+use Rattle.dap_items.proofs.Ends.{not_empty, one_item}
+use Rattle.dap_items.proofs.Streams.{one_list}
+use Rattle.dap_rename.specs.Messages.{IsNormal, in_whole}
+use Rattle.dap_input.specs.declared.limits.Limits.{Limits}
+use Rattle.dap_input.specs.Inputs.{Input}
+use Rattle.dap_input.specs.Limits.{AreSound}
+use Rattle.dap_input.specs.ReadTo.{IsOf, so_far}
+use Rattle.dap_normal.specs.Accepting.{Held, AreMessages, IsAccepted, IsMessage, text}
+use Rattle.dap_normal.specs.JudgingSteps.{record_of}
+use Rattle.dap_normal.proofs.AcceptingFacts.{message_once}
+use Rattle.dap_normal.proofs.NormalFormLaws.{normal_accepted}
+use Rattle.dap_compare.specs.LeftTexts.{IsRecordAt, LeavesRecord}
+use Rattle.dap_diff.specs.Diffs.{HasAt, HasRead, TellsRecord}
+use Rattle.dap_diff.specs.Texts.{IsRecordOf, Holds, IsLeftText, TellsTexts}
+
+-- ---- a message of a normal form is that of its own text
+
+abbrev contents : List Sent → List Held
+contents [] = []
+contents (m ∷ ms) = (m.side, text_of m.doc) ∷ contents ms
+
+contents_text : (ms : List Sent) → recording_text (contents ms) ≡ text ms
+contents_text [] = refl
+contents_text (m ∷ ms) = ap (λ t. record_of m ++ t) (contents_text ms)
+
+module _ (limits : Limits) where
+  abbrev AreShort : List Sent → Type 0
+  AreShort ms = AllByRecursion (λ (m : Sent). length (text_of m.doc) ≤ limits.frame.content) ms
+
+  contents_short : (ms : List Sent) → AreShort ms
+      → AllByRecursion (λ (h : Held). length h.1 ≤ limits.frame.content) (contents ms)
+  contents_short [] short = tt
+  contents_short (m ∷ ms) short = (short.0, contents_short ms short.1)
+
+  last_short : (ms : List Sent) (m : Sent) → AreShort (ms ++ m ∷ [])
+      → length (text_of m.doc) ≤ limits.frame.content
+  last_short [] m short = short.0
+  last_short (n ∷ ms) m short = last_short ms m short.1
+
+last_message : (ms : List Sent) (m : Sent) → AreMessages (contents (ms ++ m ∷ [])) (ms ++ m ∷ [])
+    → IsMessage (m.side, text_of m.doc) m
+last_message [] m typed = typed.0
+last_message (n ∷ ms) m typed = last_message ms m typed.1
+
+module _ (limits : Limits) (sound : AreSound limits) where
+  own_contents : (bytes : List ℕ) (values all : List Sent) → IsAccepted limits bytes values
+      → IsNormal in_whole values all → AreMessages (contents all) all
+  own_contents bytes values all accepted is_normal =
+      let again : IsAccepted limits (text all) all =
+      (normal_accepted limits sound bytes values all accepted is_normal).0 in
+      let short = contents_short limits all (accepted.fits all is_normal).each in
+      let written : IsRecording limits.frame (text all) (contents all) =
+      subst (λ t. IsRecording limits.frame t (contents all)) (contents_text all)
+      (written_is_recording limits.frame (contents all) sound.frame short) in
+      subst (λ r. AreMessages r all)
+      (one_list (record_grammar limits.frame) (not_empty (readable limits.frame)) (text all)
+      again.records (contents all) again.recording written)
+      again.typed
+
+  record_is : (text bytes : List ℕ) (values normal : List Sent) (named : Sent)
+      → IsAccepted limits bytes values → IsNormal in_whole values (normal ++ named ∷ [])
+      → text ≡ record_of named → IsRecordOf limits text named
+  record_is text bytes values normal named accepted is_normal is = record {
+    is_record = is;
+    short = last_short limits normal named (accepted.fits (normal ++ named ∷ []) is_normal).each;
+    typed =
+        (last_message normal named
+        (own_contents bytes values (normal ++ named ∷ []) accepted is_normal)).1;
+  }
+
+  -- ---- what the text of a record holds
+
+  found_at : (input : Input) (number : ℕ) (text : List ℕ) → IsRecordAt limits input number text
+      → (found : Option Sent) × Holds limits text found × HasAt limits input number found
+  found_at input number text (inl (before, ended, none)) = (None, none, (before, ended))
+  found_at input number text (inr (next, normal, named, is_normal, is)) = (
+    Some named,
+    record_is text next.front next.values normal named next.accepted is_normal is,
+    (next, normal, is_normal),
+  )
+
+  pub record_here : (text : List ℕ) (m : Sent) → IsRecordOf limits text m
+      → IsRecord limits.frame text m.side (text_of m.doc)
+  record_here text m is =
+      subst (λ t. IsRecord limits.frame t m.side (text_of m.doc)) (sym is.is_record)
+      (written_is_record limits.frame m.side (text_of m.doc) sound.frame is.short)
+
+  not_nothing : (text : List ℕ) (m : Sent) → IsRecordOf limits text m → text ≡ [] → ⊥
+  not_nothing text m is none = let never : [] ≡ record_of m = sym none ∙ is.is_record in cc
+
+  one_holds : (text : List ℕ) (a b : Option Sent) → Holds limits text a → Holds limits text b
+      → a ≡ b
+  one_holds text None None is other = refl
+  one_holds text None (Some m) is other = absurd (not_nothing text m other is)
+  one_holds text (Some m) None is other = absurd (not_nothing text m is other)
+  one_holds text (Some m) (Some n) is other =
+      let one = one_item (record_grammar limits.frame) text text [] [] (m.side, text_of m.doc)
+      (n.side, text_of n.doc) refl (record_here text m is) (record_here text n other) in
+      ap Some
+      (message_once (m.side, text_of m.doc) m n (refl, is.typed)
+      (subst (λ h. IsMessage h n) (sym one.1) (refl, other.typed)))
+
+  -- ---- the record that is left of a reader
+
+  is_so_far : (bytes : List ℕ) (stop : Option Stop) → IsOf bytes stop (so_far bytes stop)
+  is_so_far bytes None = ([], sym (append-nil bytes))
+  is_so_far bytes (Some End) = (refl, refl)
+  is_so_far bytes (Some Full) = ([], sym (append-nil bytes))
+  is_so_far bytes (Some Failed) = (refl, refl)
+
+  module _ {R : Type 0} (source : Source R) (old new : R) (number : ℕ) (text : List ℕ)
+      (left : LeavesRecord source limits old new number text) where
+    has_read : (found : Option Sent) → Holds limits text found
+        → HasRead source limits old new number found
+    has_read found holds = record {
+      bytes = left.bytes;
+      stop = left.stop;
+      came = left.came;
+      has = λ input is.
+          let here = found_at input number text (left.is_record input is) in
+          subst (HasAt limits input number) (one_holds text here.0 found here.1 holds) here.2;
+    }
+
+    pub is_left : IsLeftText limits text
+    is_left =
+        let here = found_at (so_far left.bytes left.stop) number text
+        (left.is_record (so_far left.bytes left.stop) (is_so_far left.bytes left.stop)) in
+        (here.0, here.1)
+
+  -- ---- the records that are left of two readers
+
+  module _ {R S : Type 0} (source_a : Source R) (source_b : Source S) (old_a new_a : R)
+      (old_b new_b : S) (number : ℕ) (text_a text_b lines : List ℕ)
+      (left_a : LeavesRecord source_a limits old_a new_a number text_a)
+      (left_b : LeavesRecord source_b limits old_b new_b number text_b) where
+    pub tells_record : TellsTexts limits text_a text_b lines
+        → TellsRecord source_a source_b limits old_a new_a old_b new_b number lines
+    tells_record tells = record {
+      of_a = tells.of_a;
+      of_b = tells.of_b;
+      read_a = has_read source_a old_a new_a number text_a left_a tells.of_a tells.holds_a;
+      read_b = has_read source_b old_b new_b number text_b left_b tells.of_b tells.holds_b;
+      lines_are = tells.lines_are;
+    }

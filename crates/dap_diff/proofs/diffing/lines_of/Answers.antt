@@ -1,0 +1,12 @@
+use Rattle.std.proofs.Common.{option_map}
+use Rattle.dap_message.specs.Message.{sent}
+use Rattle.dap_diff.proofs.diffing.lines_of.Goals as goal
+
+pub returns : goal.returns
+returns c = record {
+  of_a = option_map sent c.in_ok-message_a.message_a;
+  of_b = option_map sent c.in_ok-message_b.message_b;
+  holds_a = c.in_ok-message_a.ensures;
+  holds_b = c.in_ok-message_b.ensures;
+  lines_are = c.in_ok-lines.ensures;
+}

@@ -1,0 +1,121 @@
+-- How two recordings differ: the lines that tell it of the records at which they do. Source: own;
+-- the leaves that differ are told as `dap_difference` says.
+use Rattle.std.specs.Prelude.{◌≡◌, ℕ, ◌+◌, Bool, true, false, ◌&&◌, List, [], ◌∷◌, ◌++◌, Option}
+use Rattle.std.specs.Prelude.{Some, None}
+use Rattle.std.specs.Prelude.{Result, Ok, Err, bytes_eq, codes, unwrap_or, if◌then◌else◌}
+use Rattle.std.specs.List.{flat_map}
+use Rattle.dap_device.specs.declared.device.Source.{Ghosts as Source}
+use Rattle.dap_device.specs.declared.reading.Stop.{Stop}
+use Rattle.dap_device.specs.Pieces.{HasComeSoFar}
+use Rattle.dap_tree.specs.Doc.{Doc, text}
+use Rattle.dap_tree.specs.Ids.{without_ids}
+use Rattle.dap_tree.specs.Json.{text_of}
+use Rattle.dap_tree.specs.declared.side.Side.{Side}
+use Rattle.dap_tree.specs.declared.side.Side.TheVariants.{Client, Adapter}
+use Rattle.dap_profile.specs.declared.profile.Kind.{Kind}
+use Rattle.dap_profile.specs.declared.profile.Kind.TheVariants.{Request, Response, Event}
+use Rattle.dap_message.specs.Envelope.{kind_of, name_of}
+use Rattle.dap_message.specs.Message.{Sent}
+use Rattle.dap_message.specs.Rows.{is_of_kind}
+use Rattle.dap_rename.specs.Messages.{IsNormal, in_whole}
+use Rattle.dap_input.specs.declared.limits.Limits.{Limits}
+use Rattle.dap_input.specs.Inputs.{Input, AcceptedBefore}
+use Rattle.dap_input.specs.ReadTo.{IsOf}
+use Rattle.dap_normal.specs.Accepting.{accepting}
+use Rattle.dap_compare.specs.Verdicts.{Compares}
+use Rattle.dap_compare.specs.declared.verdict.CompareRefused.{CompareRefused}
+use Rattle.dap_compare.specs.declared.verdict.Verdict.TheVariants as verdict
+use Rattle.dap_difference.specs.Telling.{differences}
+use Rattle.dap_difference.specs.Lines.{difference_lines}
+use Rattle.dap_diff.specs.declared.answer.Diff.{Diff}
+use Rattle.dap_diff.specs.declared.answer.Diff.TheVariants.{Same, Differ}
+
+-- ---- the lines
+
+-- the marker of a side, and the word for a kind
+abbrev pub side_word : Side → List ℕ
+side_word Client = codes "> "
+side_word Adapter = codes "< "
+
+abbrev pub kind_word : Kind → List ℕ
+kind_word Request = codes "request "
+kind_word Response = codes "response "
+kind_word Event = codes "event "
+
+-- The head line of a message, as `< event "stopped"`: its side, its kind, and its name as JSON
+-- text. Every message has a name.
+abbrev pub head_line : Sent → List ℕ
+head_line m =
+    side_word m.side ++ kind_word (kind_of m.doc) ++ text_of (text (unwrap_or (name_of m.doc) []))
+    ++ codes "\n"
+
+-- The line of what one input has, A or B: the head line of its message, or that it has ended.
+abbrev pub input_line : List ℕ → Option Sent → List ℕ
+input_line which None = which ++ codes " ends\n"
+input_line which (Some m) = which ++ codes " " ++ head_line m
+
+-- Two messages of one side, one kind and one name.
+abbrev pub same_side : Side → Side → Bool
+same_side Client Client = true
+same_side Adapter Adapter = true
+same_side _ _ = false
+
+abbrev pub have_one_head : Sent → Sent → Bool
+have_one_head a b =
+    same_side a.side b.side
+    && (is_of_kind (kind_of a.doc) b.doc
+    && bytes_eq (unwrap_or (name_of a.doc) []) (unwrap_or (name_of b.doc) []))
+
+-- The lines of the leaves at which two documents differ, each id as its number.
+abbrev pub leaf_lines : Doc → Doc → List ℕ
+leaf_lines d e = flat_map difference_lines (differences (without_ids d) (without_ids e))
+
+-- The lines of what A and what B has. Of messages of one head: that head, and the leaves at which
+-- they differ. Of all else: the line of A, then that of B.
+abbrev pub diff_lines : Option Sent → Option Sent → List ℕ
+diff_lines (Some a) (Some b) =
+    if have_one_head a b then head_line a ++ leaf_lines a.doc b.doc
+    else input_line (codes "A") (Some a) ++ input_line (codes "B") (Some b)
+diff_lines a b = input_line (codes "A") a ++ input_line (codes "B") b
+
+-- ---- the record that is told
+
+-- The input's normal form has this message at the record; or, where there is none, all records
+-- before it are accepted, and the input ends there.
+abbrev pub HasAt : Limits → Input → ℕ → Option Sent → Type 0
+HasAt limits input number None = (before : AcceptedBefore (accepting limits) input number)
+    × (before.rest ≡ [])
+HasAt limits input number (Some named) =
+    (next : AcceptedBefore (accepting limits) input (number + 1))
+    × (normal : List Sent) × IsNormal in_whole next.values (normal ++ named ∷ [])
+
+-- So much came from the reader, and whatever else the input holds, it has this at the record.
+pub record HasRead {R : Type 0} (source : Source R) (limits : Limits) (old new : R) (number : ℕ)
+    (found : Option Sent) : Type 0 where
+  pub bytes : List ℕ
+  pub stop : Option Stop
+  pub came : HasComeSoFar source old new bytes stop
+  pub has : (input : Input) → IsOf bytes stop input → HasAt limits input number found
+
+-- ---- the answer
+
+-- Two readers, by what they tell of their bytes, and by their counts.
+module _ {R S : Type 0} (source_a : Source R) (source_b : Source S) (limits : Limits)
+    (old_a new_a : R) (old_b new_b : S) where
+  -- The lines tell what each input has at the record.
+  pub record TellsRecord (number : ℕ) (lines : List ℕ) : Type 0 where
+    pub of_a : Option Sent
+    pub of_b : Option Sent
+    pub read_a : HasRead source_a limits old_a new_a number of_a
+    pub read_b : HasRead source_b limits old_b new_b number of_b
+    pub lines_are : lines ≡ diff_lines of_a of_b
+
+  -- What `compare` may answer is answered; of a difference, the lines of its record too.
+  abbrev pub TellsDifference : Result Diff CompareRefused → Type 0
+  TellsDifference (Ok Same) = (renaming : _)
+      × Compares source_a source_b limits old_a new_a old_b new_b (Ok (verdict.Same renaming))
+  TellsDifference (Ok (Differ number lines)) =
+      Compares source_a source_b limits old_a new_a old_b new_b (Ok (verdict.Differ number))
+      × TellsRecord number lines.items
+  TellsDifference (Err refused) =
+      Compares source_a source_b limits old_a new_a old_b new_b (Err refused)

@@ -1,0 +1,2 @@
+pub mod Diffs
+pub mod Texts

@@ -1,0 +1,87 @@
+//! Tells how two recordings differ.
+ghost use Rattle.std.specs.Prelude.{◌+◌, ◌<◌, ◌≤◌, ◌^◌, IfOk};
+ghost use Rattle.dap_input.specs.Limits.{AreSound};
+ghost use Rattle.dap_diff.specs.Diffs.{TellsDifference};
+ghost use Rattle.dap_diff.specs.Texts.{IsLeftText, TellsTexts};
+
+use crate::answer::Diff;
+use crate::lines::diff_lines;
+use crate::reading::message_in;
+use dap_compare::{CompareRefused, Verdict, compare_texts_with};
+use dap_device::Source;
+use dap_input::Limits;
+use dap_normal::index_tables;
+use std::alloc::{AllocError, Global};
+
+/// The lines of the records that were left of A and of B.
+fn lines_of(
+    alloc: Global,
+    text_a: &[u8],
+    text_b: &[u8],
+    limits: Limits,
+) -> Result<Vec<u8>, AllocError>
+    requires sound { AreSound limits }
+    requires is_left_a { IsLeftText limits text_a.now }
+    requires is_left_b { IsLeftText limits text_b.now }
+    ensures { IfOk result (λ lines. TellsTexts limits text_a.now text_b.now lines.items) }
+{
+    let message_a = message_in(alloc, text_a, limits)?;
+    let message_b = message_in(alloc, text_b, limits)?;
+    let lines = diff_lines(alloc, &message_a, &message_b)?;
+    Ok(lines)
+}
+
+/// Compares two recordings as [`compare`](dap_compare::compare) does, and where they differ tells
+/// how, in lines.
+///
+/// Where both have a record there, of one side, one kind and one name, the first line is the head
+/// of its message, as `< event "stopped"`, and the lines behind it are those of the leaves at which
+/// the normal forms differ, ids as numbers. Else there are two lines, as `A > request "next"` and
+/// `B ends`.
+///
+/// # Errors
+///
+/// Those of [`compare`](dap_compare::compare).
+pub fn diff<A: Source, B: Source>(
+    alloc: Global,
+    reader_a: &mut A,
+    reader_b: &mut B,
+    limits: Limits,
+) -> Result<Diff, CompareRefused>
+    requires limits { AreSound limits }
+    requires given_a { A.given reader_a.old < 2 ^ 62 }
+    requires given_b { B.given reader_b.old < 2 ^ 62 }
+    requires failures_a { A.failures reader_a.old < 2 ^ 62 }
+    requires failures_b { B.failures reader_b.old < 2 ^ 62 }
+
+    // The one verdict on the two inputs is answered; where they differ, with the lines that tell
+    // how.
+    ensures answer { TellsDifference A.Source B.Source limits reader_a.old reader_a.new
+        reader_b.old reader_b.new result }
+
+    // It takes at most one byte past the limit of each.
+    ensures taken_a { A.given reader_a.new ≤ A.given reader_a.old + limits.input + 1 }
+    ensures taken_b { B.given reader_b.new ≤ B.given reader_b.old + limits.input + 1 }
+{
+    let mut text_a = Vec::new(alloc);
+    let mut text_b = Vec::new(alloc);
+    let verdict = compare_texts_with(
+        alloc,
+        reader_a,
+        reader_b,
+        limits,
+        index_tables(alloc, limits),
+        index_tables(alloc, limits),
+        &mut text_a,
+        &mut text_b,
+    )?;
+    match verdict {
+        Verdict::Same(_) => Ok(Diff::Same),
+        Verdict::Differ(record) => {
+            match lines_of(alloc, text_a.as_slice(), text_b.as_slice(), limits) {
+                Ok(lines) => Ok(Diff::Differ { record, lines }),
+                Err(_) => Err(CompareRefused::Memory),
+            }
+        }
+    }
+}

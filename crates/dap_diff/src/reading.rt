@@ -1,0 +1,80 @@
+//! The message that a record's text holds, and the tree of a message as plain JSON.
+ghost use Rattle.std.specs.Prelude.{◌≡◌, IfOk, option_map, true};
+ghost use Rattle.dap_input.specs.Limits.{AreSound};
+ghost use Rattle.dap_message.specs.Message.{Sent, doc_of, sent};
+ghost use Rattle.dap_normal.specs.Accepting.{IsMessage};
+ghost use Rattle.dap_normal.specs.JudgingSteps.{held_of};
+ghost use Rattle.dap_tree.specs.Doc.{is_sound};
+ghost use Rattle.dap_tree.specs.Ids.{without_ids};
+ghost use Rattle.dap_tree.specs.View.{view};
+ghost use Rattle.dap_diff.specs.Texts.{Holds, IsLeftText, IsRecordOf, IsRecordText};
+
+use dap_input::{Limits, Refused};
+use dap_message::Message;
+use dap_normal::read_message;
+use dap_recording::{FedRecord, Record, RecordCause, RecordReader};
+use dap_tree::{Scratch, Tree, TreeFault, read_tree};
+use std::alloc::{AllocError, Global};
+
+/// The tree of a message as plain JSON, each id as its number.
+pub fn plain_tree(alloc: Global, message: &Message) -> Result<Tree, AllocError>
+    ensures plain { IfOk result (λ tree. view tree ≡ without_ids (doc_of message.now)) }
+    ensures sound { IfOk result (λ tree. is_sound (view tree) ≡ true) }
+{
+    let Ok(text) = message.content(alloc) else {
+        return Err(AllocError);
+    };
+    match read_tree(alloc, text.as_bytes()) {
+        Ok(tree) => Ok(tree),
+        Err(TreeFault::Memory) => Err(AllocError),
+        Err(TreeFault::Json) => unreachable!(),
+        Err(TreeFault::Fraction) => unreachable!(),
+    }
+}
+
+/// The record that a call gave, if one ended.
+fn whole_of(fed: FedRecord) -> Option<Record>
+    ensures { result ≡ fed.whole }
+{
+    fed.whole
+}
+
+/// The record whose text this is.
+fn record_in(alloc: Global, text: &[u8], limits: Limits) -> Result<Record, AllocError>
+    requires sound { AreSound limits }
+    requires is_record { IsRecordText limits text.now }
+    ensures { IfOk result (λ whole. (message : Sent) → IsRecordOf limits text.now message
+        → IsMessage (held_of whole) message) }
+{
+    let mut reader = RecordReader::new(alloc, limits.frame);
+    match reader.feed(text) {
+        Ok(fed) => match whole_of(fed) {
+            Some(whole) => Ok(whole),
+            None => unreachable!(),
+        },
+        Err(fault) => match fault.cause {
+            RecordCause::Memory => Err(AllocError),
+            _ => unreachable!(),
+        },
+    }
+}
+
+/// The message that the text of a record holds; none, where there is no text.
+pub fn message_in(alloc: Global, text: &[u8], limits: Limits) -> Result<Option<Message>, AllocError>
+    requires sound { AreSound limits }
+    requires is_left { IsLeftText limits text.now }
+    ensures { IfOk result (λ message. Holds limits text.now (option_map sent message)) }
+{
+    if text.is_empty() {
+        return Ok(None);
+    }
+    let whole = record_in(alloc, text, limits)?;
+    let mut scratch = Scratch::new(alloc);
+    match read_message(alloc, 1, whole.side, whole.content.as_slice(), &mut scratch) {
+        Ok(message) => Ok(Some(message)),
+        Err(refused) => match refused {
+            Refused::Memory => Err(AllocError),
+            _ => unreachable!(),
+        },
+    }
+}

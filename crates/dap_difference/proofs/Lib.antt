@@ -1,0 +1,10 @@
+pub mod Members
+pub mod Scalars
+pub mod Paths
+pub mod Told
+pub mod EveryOne
+pub mod Ordered
+pub mod PutIn
+pub mod Steps
+pub mod TreeSteps
+pub mod SoundValues

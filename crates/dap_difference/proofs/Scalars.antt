@@ -1,0 +1,92 @@
+-- What it tells that two documents without parts are the same, or are not.
+use Rattle.std.proofs.Common.{◌≡◌, ◌≢◌, Bool, true, false, Option, Some, None, option_map}
+use Rattle.std.proofs.Common.{refl, sym, ap, ap₂, ◌∙◌}
+use Rattle.std.proofs.lemmas.Bool.Decides.{Decides-int_eq}
+use Rattle.std.proofs.lemmas.Slice.Eq.{bytes_eq-Decides}
+use Rattle.std.specs.Ordering.{int_eq}
+use Rattle.dap_tree.specs.declared.sort.Sort.{Sort}
+use Rattle.dap_tree.specs.declared.sort.Sort.TheVariants.{ClientSeq, AdapterSeq, Frame, Reference}
+use Rattle.dap_tree.specs.Doc.{Doc, null, boolean, whole, text, list, object, id}
+use Rattle.dap_tree.proofs.Booleans.{and_left, and_right, and_both}
+use Rattle.dap_difference.specs.Differences.{have_parts, form}
+use Rattle.dap_difference.specs.Telling.{same_boolean, same_sort, same_scalar}
+
+boolean_is : (a b : Bool) → same_boolean a b ≡ true → a ≡ b
+boolean_is true b h = sym h
+boolean_is false true h = absurd cc
+boolean_is false false h = refl
+
+sort_is : (s t : Sort) → same_sort s t ≡ true → s ≡ t
+sort_is ClientSeq ClientSeq h = refl
+sort_is AdapterSeq AdapterSeq h = refl
+sort_is Frame Frame h = refl
+sort_is Reference Reference h = refl
+sort_is s t h = absurd cc
+
+pub same_is : (d e : Doc) → same_scalar d e ≡ true → d ≡ e
+same_is null null h = refl
+same_is (boolean a) (boolean b) h = ap boolean (boolean_is a b h)
+same_is (whole y) (whole z) h = ap whole ((Decides-int_eq y z).0 h)
+same_is (text s) (text t) h = ap text ((bytes_eq-Decides s t).0 h)
+same_is (id s y) (id t z) h =
+    ap₂ id (sort_is s t (and_left (same_sort s t) (int_eq y z) h))
+    ((Decides-int_eq y z).0 (and_right (same_sort s t) (int_eq y z) h))
+same_is d e h = absurd cc
+
+boolean_itself : (b : Bool) → same_boolean b b ≡ true
+boolean_itself true = refl
+boolean_itself false = refl
+
+sort_itself : (s : Sort) → same_sort s s ≡ true
+sort_itself ClientSeq = refl
+sort_itself AdapterSeq = refl
+sort_itself Frame = refl
+sort_itself Reference = refl
+
+itself : (d : Doc) → have_parts (Some d) (Some d) ≡ false → same_scalar d d ≡ true
+itself null h = refl
+itself (boolean b) h = boolean_itself b
+itself (whole z) h = (Decides-int_eq z z).1 refl
+itself (text s) h = (bytes_eq-Decides s s).1 refl
+itself (list ds) h = absurd cc
+itself (object ms) h = absurd cc
+itself (id s z) h = and_both _ _ (sort_itself s) ((Decides-int_eq z z).1 refl)
+
+pub apart_are : (d e : Doc) → have_parts (Some d) (Some e) ≡ false → same_scalar d e ≡ false
+    → d ≢ e
+apart_are d e parts h same =
+    let parts_d = ap (λ x. have_parts (Some d) (Some x)) same ∙ parts in
+    let hit = itself d parts_d in
+    let missed = ap (λ x. same_scalar d x) same ∙ h in
+    absurd cc
+
+-- without parts, the forms tell the documents
+pub form_tells : (d e : Doc) → have_parts (Some d) (Some e) ≡ false → form d ≡ form e → d ≡ e
+form_tells (list ds) (list es) h k = absurd cc
+form_tells (object ms) (object ns) h k = absurd cc
+form_tells null null h k = refl
+form_tells (boolean a) (boolean b) h k = k
+form_tells (whole y) (whole z) h k = k
+form_tells (text s) (text t) h k = k
+form_tells (id s y) (id t z) h k = k
+form_tells d e h k = absurd cc
+
+pub forms_tell : (o q : Option Doc) → have_parts o q ≡ false
+    → option_map form o ≡ option_map form q → o ≡ q
+forms_tell (Some d) (Some e) h k =
+    let inner : form d ≡ form e = cc in ap Some (form_tells d e h inner)
+forms_tell (Some d) None h k = absurd cc
+forms_tell None (Some e) h k = absurd cc
+forms_tell None None h k = refl
+
+-- two with parts have one form
+parts_of : (d e : Doc) → have_parts (Some d) (Some e) ≡ true → form d ≡ form e
+parts_of (list ds) (list es) h = refl
+parts_of (object ms) (object ns) h = refl
+parts_of d e h = absurd cc
+
+pub parts_have_form : (o q : Option Doc) → have_parts o q ≡ true
+    → option_map form o ≡ option_map form q
+parts_have_form (Some d) (Some e) h = ap Some (parts_of d e h)
+parts_have_form (Some d) None h = absurd cc
+parts_have_form None q h = absurd cc

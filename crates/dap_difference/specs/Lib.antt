@@ -1,0 +1,6 @@
+pub mod Differences
+pub mod Telling
+pub mod Lines
+pub mod Shown
+pub mod TellingSteps
+pub mod Laws

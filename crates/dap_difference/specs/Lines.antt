@@ -1,0 +1,77 @@
+-- The lines that tell differences. Source: own; a path is written as a place of a mask is, with the
+-- place of an item in its brackets.
+use Rattle.std.specs.Prelude.{ℕ, ◌-◌, ◌==◌, Bool, true, false, cond, not, ◌&&◌, ◌||◌, nat_lt, List}
+use Rattle.std.specs.Prelude.{[], ◌∷◌, ◌++◌, length, Option, Some, None, codes, decimal}
+use Rattle.std.specs.Prelude.{if◌then◌else◌}
+use Rattle.std.specs.Char.{is_ascii_alphanumeric}
+use Rattle.std.specs.List.{flat_map}
+use Rattle.dap_tree.specs.Doc.{Doc, text, is_sound}
+use Rattle.dap_tree.specs.Json.{text_of}
+use Rattle.dap_tree.specs.Path.{Step, name, place}
+use Rattle.dap_difference.specs.Differences.{Difference}
+
+-- A byte of a name that is written as it is: a letter, a digit, `_`, `-` or `$`.
+abbrev pub is_plain : ℕ → Bool
+is_plain b = is_ascii_alphanumeric b || ((b == 95) || ((b == 45) || (b == 36)))
+
+abbrev pub are_plain : List ℕ → Bool
+are_plain [] = true
+are_plain (b ∷ s) = is_plain b && are_plain s
+
+-- A name of these bytes alone, at least one of them.
+abbrev pub is_plain_name : List ℕ → Bool
+is_plain_name [] = false
+is_plain_name (b ∷ s) = are_plain (b ∷ s)
+
+-- A name as it is, or as a JSON string.
+abbrev pub name_text : List ℕ → List ℕ
+name_text k = if is_plain_name k then k else text_of (text k)
+
+abbrev pub step_text : Step → List ℕ
+step_text (name k) = codes "." ++ name_text k
+step_text (place n) = codes "[" ++ decimal n ++ codes "]"
+
+-- A path, as `body.stackFrames[2].line`; `.` is the whole document.
+abbrev pub path_text : List Step → List ℕ
+path_text [] = codes "."
+path_text (name k ∷ p) = name_text k ++ flat_map step_text p
+path_text (place n ∷ p) = flat_map step_text (place n ∷ p)
+
+-- A byte that goes on the character of the byte before it (UTF-8).
+abbrev pub goes_on : ℕ → Bool
+goes_on b = not (nat_lt b 128) && nat_lt b 192
+
+-- The bytes of the first n characters.
+abbrev pub first_characters : ℕ → List ℕ → List ℕ
+first_characters n [] = []
+first_characters n (b ∷ s) =
+    cond (goes_on b) (b ∷ first_characters n s)
+    (cond (nat_lt 0 n) (b ∷ first_characters (n - 1) s) [])
+
+-- A text, cut behind 200 characters with `...`.
+abbrev pub cut : List ℕ → List ℕ
+cut s = first_characters 200 s
+    ++ (if nat_lt (length (first_characters 200 s)) (length s) then codes "..." else [])
+
+-- The line of what one of the documents has at a path: none, where it has nothing there.
+abbrev pub value_line : List ℕ → List Step → Option Doc → List ℕ
+value_line side p None = []
+value_line side p (Some d) =
+    side ++ codes " " ++ path_text p ++ codes " " ++ cut (text_of d) ++ codes "\n"
+
+-- The lines of a difference: what A has, and what B has.
+abbrev pub difference_lines : Difference → List ℕ
+difference_lines x =
+    value_line (codes "A") x.path x.of_a ++ value_line (codes "B") x.path x.of_b
+
+-- What is told of a difference can be written.
+abbrev pub is_sound_value : Option Doc → Bool
+is_sound_value None = true
+is_sound_value (Some d) = is_sound d
+
+abbrev pub is_sound_difference : Difference → Bool
+is_sound_difference x = is_sound_value x.of_a && is_sound_value x.of_b
+
+abbrev pub are_sound : List Difference → Bool
+are_sound [] = true
+are_sound (x ∷ xs) = is_sound_difference x && are_sound xs

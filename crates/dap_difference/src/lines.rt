@@ -1,0 +1,221 @@
+//! Lines that tell differences, for people.
+ghost use Rattle.std.specs.Prelude.{◌≡◌, ◌++◌, ◌≤◌, true, Some, length, take, IfOk, OnOk};
+ghost use Rattle.std.specs.List.{flat_map};
+ghost use Rattle.dap_tree.specs.Doc.{is_sound};
+ghost use Rattle.dap_tree.specs.Json.{text_of};
+ghost use Rattle.dap_tree.specs.View.{view};
+ghost use Rattle.dap_difference.specs.Lines.{are_plain, cut, difference_lines, first_characters};
+ghost use Rattle.dap_difference.specs.Lines.{goes_on};
+ghost use Rattle.dap_difference.specs.Lines.{is_plain, is_plain_name, is_sound_difference};
+ghost use Rattle.dap_difference.specs.Lines.{are_sound};
+ghost use Rattle.dap_difference.specs.Lines.{name_text, path_text, step_text, value_line};
+ghost use Rattle.dap_difference.specs.Shown.{at_path, path_of, step_of, told};
+ghost use Rattle.dap_difference.specs.Telling.{differences};
+
+use crate::{Difference, Step, Values, differences};
+use dap_tree::{Tree, write_tree};
+use itoa::Buffer;
+use std::alloc::{AllocError, Global};
+
+/// How many characters of a value are shown.
+const SHOWN: usize = 200;
+
+/// Whether a byte of a name is written as it is.
+fn is_plain(byte: u8) -> bool
+    ensures { result ≡ is_plain byte }
+{
+    byte.is_ascii_alphanumeric() || byte == b'_' || byte == b'-' || byte == b'$'
+}
+
+fn are_plain(bytes: &[u8]) -> bool
+    ensures { result ≡ are_plain bytes.now }
+{
+    for byte in bytes {
+        if !is_plain(*byte) {
+            return false;
+        }
+    }
+    true
+}
+
+/// Whether a name is written as it is.
+fn is_plain_name(name: &[u8]) -> bool
+    ensures { result ≡ is_plain_name name.now }
+{
+    match name {
+        [] => false,
+        [_, ..] => are_plain(name),
+    }
+}
+
+/// Appends a name, as it is or as a JSON string.
+fn push_name(alloc: Global, name: &str, out: &mut Vec<u8>) -> Result<(), AllocError>
+    ensures { OnOk result (out.new.items ≡ out.old.items ++ name_text name.now) }
+{
+    if is_plain_name(name.as_bytes()) {
+        return out.extend_from_slice(name.as_bytes());
+    }
+    let tree = Tree::Text(String::from_str(alloc, name)?);
+    let Ok(text) = write_tree(alloc, &tree) else {
+        return Err(AllocError);
+    };
+    out.extend_from_slice(text.as_bytes())
+}
+
+/// Appends a step behind another.
+fn push_step(alloc: Global, step: Step<'_>, out: &mut Vec<u8>) -> Result<(), AllocError>
+    ensures { OnOk result (out.new.items ≡ out.old.items ++ step_text (step_of step.entry)) }
+{
+    match step {
+        Step::Member(name) => {
+            out.extend_from_slice(b".")?;
+            push_name(alloc, name, out)
+        }
+        Step::Item(place) => {
+            let mut digits = Buffer::new();
+            out.extend_from_slice(b"[")?;
+            out.extend_from_slice(digits.format(place).as_bytes())?;
+            out.extend_from_slice(b"]")
+        }
+    }
+}
+
+/// Appends the steps behind the first.
+fn push_steps(alloc: Global, steps: &[Step<'_>], out: &mut Vec<u8>) -> Result<(), AllocError>
+    ensures { OnOk result
+        (out.new.items ≡ out.old.items ++ flat_map step_text (path_of steps.now)) }
+{
+    for step in steps {
+        push_step(alloc, *step, out)?;
+    }
+    Ok(())
+}
+
+/// Appends a path, as `body.stackFrames[2].line`.
+fn push_path(alloc: Global, path: &[Step<'_>], out: &mut Vec<u8>) -> Result<(), AllocError>
+    ensures { OnOk result (out.new.items ≡ out.old.items ++ path_text (path_of path.now)) }
+{
+    match path {
+        [] => out.extend_from_slice(b"."),
+        [Step::Member(name), further @ ..] => {
+            push_name(alloc, name, out)?;
+            push_steps(alloc, further, out)
+        }
+        [Step::Item(_), ..] => push_steps(alloc, path, out),
+    }
+}
+
+/// Whether a byte goes on the character of the byte before it.
+fn goes_on(byte: u8) -> bool
+    ensures { result ≡ goes_on byte }
+{
+    byte >= 128 && byte < 192
+}
+
+/// How many bytes the characters have that are shown of a text.
+fn shown_length(text: &[u8]) -> usize
+    ensures front { take result text.now ≡ first_characters 200 text.now }
+    ensures within { result ≤ length text.now }
+{
+    let mut left = SHOWN;
+    for (i, byte) in text.iter().enumerate() {
+        if !goes_on(*byte) {
+            if left == 0 {
+                return i;
+            }
+            left -= 1;
+        }
+    }
+    text.len()
+}
+
+/// Appends a text, cut where it is long.
+fn push_cut(text: &[u8], out: &mut Vec<u8>) -> Result<(), AllocError>
+    ensures { OnOk result (out.new.items ≡ out.old.items ++ cut text.now) }
+{
+    let shown = shown_length(text);
+    out.extend_from_slice(&text[..shown])?;
+    if shown < text.len() {
+        out.extend_from_slice(b"...")?;
+    }
+    Ok(())
+}
+
+/// Appends the line of what one side has at a path.
+fn push_line(
+    alloc: Global,
+    side: &str,
+    path: &[Step<'_>],
+    tree: &Tree,
+    out: &mut Vec<u8>,
+) -> Result<(), AllocError>
+    requires { is_sound (view tree.now) ≡ true }
+    ensures { OnOk result (out.new.items
+        ≡ out.old.items ++ value_line side.now (path_of path.now) (Some (view tree.now))) }
+{
+    let Ok(text) = write_tree(alloc, tree) else {
+        return Err(AllocError);
+    };
+    out.extend_from_slice(side.as_bytes())?;
+    out.extend_from_slice(b" ")?;
+    push_path(alloc, path, out)?;
+    out.extend_from_slice(b" ")?;
+    push_cut(text.as_bytes(), out)?;
+    out.extend_from_slice(b"\n")
+}
+
+/// Appends the lines of what the trees have at a path.
+fn push_values(
+    alloc: Global,
+    path: &[Step<'_>],
+    values: Values<'_>,
+    out: &mut Vec<u8>,
+) -> Result<(), AllocError>
+    requires { is_sound_difference (at_path path.now values) ≡ true }
+    ensures { OnOk result
+        (out.new.items ≡ out.old.items ++ difference_lines (at_path path.now values.entry)) }
+{
+    match values {
+        Values::OnlyA(tree) => push_line(alloc, "A", path, tree, out),
+        Values::OnlyB(tree) => push_line(alloc, "B", path, tree, out),
+        Values::Both(a, b) => {
+            push_line(alloc, "A", path, a, out)?;
+            push_line(alloc, "B", path, b, out)
+        }
+    }
+}
+
+/// The lines that tell the differences of two sound trees, in the order of their paths.
+///
+/// A line is `A` or `B`, the path, and the JSON text of what that tree has there, cut behind 200
+/// characters with `...`; `body.stackFrames[2].line` is a path. What just one of the trees has is
+/// told on that one's line alone.
+///
+/// # Errors
+///
+/// Memory was refused.
+pub fn difference_text(alloc: Global, a: &Tree, b: &Tree) -> Result<Vec<u8>, AllocError>
+    requires a { is_sound (view a.now) ≡ true }
+    requires b { is_sound (view b.now) ≡ true }
+    ensures { IfOk result (λ text. text.items
+        ≡ flat_map difference_lines (differences (view a.now) (view b.now))) }
+{
+    let found = differences(alloc, a, b)?;
+    lines_of(alloc, found.as_slice())
+}
+
+fn lines_of(alloc: Global, found: &[Difference<'_>]) -> Result<Vec<u8>, AllocError>
+    requires { are_sound (told found.now) ≡ true }
+    ensures { IfOk result (λ text. text.items ≡ flat_map difference_lines (told found.now)) }
+{
+    let mut text = Vec::new(alloc);
+    for difference in found {
+        push_values(
+            alloc,
+            difference.path.as_slice(),
+            difference.values,
+            &mut text,
+        )?;
+    }
+    Ok(text)
+}

@@ -1,0 +1,285 @@
+//! The differences of two trees, leaf by leaf.
+ghost use Rattle.std.specs.Prelude.{◌≡◌, ◌∷◌, ◌++◌, [], drop, IfOk, OnOk, true};
+ghost use Rattle.dap_tree.specs.Doc.{is_ordered};
+ghost use Rattle.dap_tree.specs.View.{view, items_view, members_view};
+ghost use Rattle.dap_difference.specs.Differences.{AreDifferences, PutInIsB};
+ghost use Rattle.dap_difference.specs.Telling.{both, differences, items_differences};
+ghost use Rattle.dap_difference.specs.Telling.{items_of_b, members_differences, members_of_b};
+ghost use Rattle.dap_difference.specs.Telling.{same_scalar};
+ghost use Rattle.dap_difference.specs.Shown.{at_path, told};
+ghost use Rattle.dap_difference.specs.TellingSteps.{Appends, HasNoLower, PassesLower};
+ghost use Rattle.dap_difference.specs.TellingSteps.{TakesNamed};
+
+use crate::{Difference, Step, Values};
+use dap_tree::Tree;
+use std::alloc::{AllocError, Global};
+use std::cmp::Ordering;
+use std::collections::BTreeMap;
+use std::collections::btree_map::Iter;
+
+/// The differences of two trees, in the order of their paths: each leaf that differs.
+///
+/// Lists and objects that both have are gone into; a list or an object that just one of them has is
+/// told as a whole. An id and a number that is none differ, also where they are written alike.
+///
+/// # Errors
+///
+/// Memory was refused.
+pub fn differences<'t>(
+    alloc: Global,
+    a: &'t Tree,
+    b: &'t Tree,
+) -> Result<Vec<Difference<'t>>, AllocError>
+    ensures told { IfOk result
+        (λ found. told found.items ≡ differences (view a.now) (view b.now)) }
+
+    // Where members stand in order, as in each tree that is read, the paths are exactly those at
+    // which the documents differ, each with what both have there.
+    ensures exactly { IfOk result (λ found. is_ordered (view a.now) ≡ true
+        → is_ordered (view b.now) ≡ true
+        → AreDifferences (view a.now) (view b.now) (told found.items)) }
+
+    // And B's values put at them make A's document B's.
+    ensures put_in { IfOk result (λ found. is_ordered (view a.now) ≡ true
+        → is_ordered (view b.now) ≡ true
+        → PutInIsB (told found.items) (view a.now) (view b.now)) }
+{
+    let mut path = Vec::new(alloc);
+    let mut found = Vec::new(alloc);
+    add(alloc, a, b, &mut path, &mut found)?;
+    Ok(found)
+}
+
+/// Whether both are the same, and neither is a list or an object.
+fn same_scalar(a: &Tree, b: &Tree) -> bool
+    ensures { result ≡ same_scalar (view a.now) (view b.now) }
+{
+    match a {
+        Tree::Null => matches!(b, Tree::Null),
+        Tree::Bool(x) => matches!(b, Tree::Bool(y) if x == y),
+        Tree::Whole(x) => matches!(b, Tree::Whole(y) if x == y),
+        Tree::Text(x) => matches!(b, Tree::Text(y) if x.as_str() == y.as_str()),
+        Tree::Id(sort, x) => matches!(b, Tree::Id(other, y) if sort == other && x == y),
+        Tree::List(_) | Tree::Object(_) => false,
+    }
+}
+
+/// Adds the difference at a path.
+fn add_found<'t>(
+    alloc: Global,
+    path: &[Step<'t>],
+    values: Values<'t>,
+    found: &mut Vec<Difference<'t>>,
+) -> Result<(), AllocError>
+    ensures { OnOk result (told found.new.items
+        ≡ told found.old.items ++ at_path path.now values.entry ∷ []) }
+{
+    let path = Vec::from_slice(alloc, path)?;
+    found.push(Difference { path, values })?;
+    Ok(())
+}
+
+/// Adds the difference behind a step, where just one of the trees has something.
+fn add_behind<'t>(
+    alloc: Global,
+    step: Step<'t>,
+    values: Values<'t>,
+    path: &mut Vec<Step<'t>>,
+    found: &mut Vec<Difference<'t>>,
+) -> Result<(), AllocError>
+    ensures found { OnOk result (told found.new.items
+        ≡ told found.old.items ++ at_path (path.old.items ++ step.entry ∷ []) values.entry ∷ []) }
+    ensures path { OnOk result (path.new.items ≡ path.old.items) }
+{
+    path.push(step)?;
+    add_found(alloc, path.as_slice(), values, found)?;
+    path.pop();
+    Ok(())
+}
+
+/// Adds the two, where they are not the same.
+fn add_both<'t>(
+    alloc: Global,
+    a: &'t Tree,
+    b: &'t Tree,
+    path: &[Step<'t>],
+    found: &mut Vec<Difference<'t>>,
+) -> Result<(), AllocError>
+    ensures { OnOk result
+        (Appends path.now found.old.items found.new.items (both (view a.now) (view b.now))) }
+{
+    if same_scalar(a, b) {
+        Ok(())
+    } else {
+        add_found(alloc, path, Values::Both(a, b), found)
+    }
+}
+
+/// Adds the differences of two trees that stand at a path.
+#[cycle(add)]
+fn add<'t>(
+    alloc: Global,
+    a: &'t Tree,
+    b: &'t Tree,
+    path: &mut Vec<Step<'t>>,
+    found: &mut Vec<Difference<'t>>,
+) -> Result<(), AllocError>
+    ensures found { OnOk result (Appends path.old.items found.old.items found.new.items
+        (differences (view a.now) (view b.now))) }
+    ensures path { OnOk result (path.new.items ≡ path.old.items) }
+{
+    match a {
+        Tree::List(items) => match b {
+            Tree::List(others) => add_items(alloc, items, others, path, found),
+            _ => add_both(alloc, a, b, path.as_slice(), found),
+        },
+        Tree::Object(members) => match b {
+            Tree::Object(others) => add_members(alloc, members, others, path, found),
+            _ => add_both(alloc, a, b, path.as_slice(), found),
+        },
+        _ => add_both(alloc, a, b, path.as_slice(), found),
+    }
+}
+
+#[cycle(add)]
+fn add_items<'t>(
+    alloc: Global,
+    items: &'t Vec<Tree>,
+    others: &'t Vec<Tree>,
+    path: &mut Vec<Step<'t>>,
+    found: &mut Vec<Difference<'t>>,
+) -> Result<(), AllocError>
+    ensures found { OnOk result (Appends path.old.items found.old.items found.new.items
+        (items_differences 0 (items_view items.now.items) (items_view others.now.items))) }
+    ensures path { OnOk result (path.new.items ≡ path.old.items) }
+{
+    for (place, item) in items.iter().enumerate() {
+        match others.get(place) {
+            Some(other) => {
+                path.push(Step::Item(place))?;
+                add(alloc, item, other, path, found)?;
+                path.pop();
+            }
+            None => add_behind(alloc, Step::Item(place), Values::OnlyA(item), path, found)?,
+        }
+    }
+    add_items_of_b(alloc, others, items.len(), path, found)
+}
+
+/// Adds B's items from a place on, where A has none.
+fn add_items_of_b<'t>(
+    alloc: Global,
+    items: &'t Vec<Tree>,
+    first: usize,
+    path: &mut Vec<Step<'t>>,
+    found: &mut Vec<Difference<'t>>,
+) -> Result<(), AllocError>
+    ensures found { OnOk result (Appends path.old.items found.old.items found.new.items
+        (items_of_b first (items_view (drop first items.now.items)))) }
+    ensures path { OnOk result (path.new.items ≡ path.old.items) }
+{
+    for place in first..items.len() {
+        let value = Values::OnlyB(&items[place]);
+        add_behind(alloc, Step::Item(place), value, path, found)?;
+    }
+    Ok(())
+}
+
+#[cycle(add)]
+fn add_members<'t>(
+    alloc: Global,
+    members: &'t BTreeMap<String, Tree>,
+    others: &'t BTreeMap<String, Tree>,
+    path: &mut Vec<Step<'t>>,
+    found: &mut Vec<Difference<'t>>,
+) -> Result<(), AllocError>
+    ensures found { OnOk result (Appends path.old.items found.old.items found.new.items
+        (members_differences (members_view members.now.entries)
+        (members_view others.now.entries))) }
+    ensures path { OnOk result (path.new.items ≡ path.old.items) }
+{
+    let mut left = others.iter();
+    for (name, member) in members.iter() {
+        add_lower(alloc, name.as_str(), &mut left, path, found)?;
+        match next_named(name.as_str(), &mut left)? {
+            Some(other) => {
+                path.push(Step::Member(name.as_str()))?;
+                add(alloc, member, other, path, found)?;
+                path.pop();
+            }
+            None => {
+                let step = Step::Member(name.as_str());
+                add_behind(alloc, step, Values::OnlyA(member), path, found)?;
+            }
+        }
+    }
+    add_members_of_b(alloc, left, path, found)
+}
+
+/// Adds B's members that stand below a name, of those that are left.
+fn add_lower<'t>(
+    alloc: Global,
+    name: &str,
+    left: &mut Iter<'t, String, Tree>,
+    path: &mut Vec<Step<'t>>,
+    found: &mut Vec<Difference<'t>>,
+) -> Result<(), AllocError>
+    ensures found { OnOk result (PassesLower name.now path.old.items left.old left.new
+        found.old.items found.new.items) }
+    ensures none { OnOk result (HasNoLower name.now (members_view left.new)) }
+    ensures path { OnOk result (path.new.items ≡ path.old.items) }
+{
+    'lower: loop {
+        let mut ahead = left.clone()?;
+        match ahead.next() {
+            Some((other, value)) => match name.cmp(other.as_str()) {
+                Ordering::Greater => {
+                    let step = Step::Member(other.as_str());
+                    add_behind(alloc, step, Values::OnlyB(value), path, found)?;
+                    *left = ahead;
+                }
+                _ => return Ok(()),
+            },
+            None => return Ok(()),
+        }
+    }
+}
+
+/// Takes the next of B's members, where it has that name.
+fn next_named<'t>(
+    name: &str,
+    left: &mut Iter<'t, String, Tree>,
+) -> Result<Option<&'t Tree>, AllocError>
+    ensures { IfOk result (λ o. TakesNamed name.now left.old left.new o) }
+{
+    let mut ahead = left.clone()?;
+    match ahead.next() {
+        Some((other, value)) => {
+            if other.as_str() == name {
+                *left = ahead;
+                Ok(Some(value))
+            } else {
+                Ok(None)
+            }
+        }
+        None => Ok(None),
+    }
+}
+
+/// Adds B's members that are left, which A does not have.
+fn add_members_of_b<'t>(
+    alloc: Global,
+    left: Iter<'t, String, Tree>,
+    path: &mut Vec<Step<'t>>,
+    found: &mut Vec<Difference<'t>>,
+) -> Result<(), AllocError>
+    ensures found { OnOk result (Appends path.old.items found.old.items found.new.items
+        (members_of_b (members_view left.entry))) }
+    ensures path { OnOk result (path.new.items ≡ path.old.items) }
+{
+    for (name, member) in left {
+        let step = Step::Member(name.as_str());
+        add_behind(alloc, step, Values::OnlyB(member), path, found)?;
+    }
+    Ok(())
+}

@@ -1,0 +1,37 @@
+-- What the program tells of how two recordings differ. Source: own.
+use Rattle.std.specs.Prelude.{ℕ, List, [], ◌++◌, Result}
+use Rattle.dap_compare.specs.declared.verdict.CompareRefused.{CompareRefused}
+use Rattle.dap_device.specs.declared.device.Source.{Ghosts as Source}
+use Rattle.dap_device.specs.declared.device.Sink.{Ghosts as Sink}
+use Rattle.dap_diff.specs.Diffs.{TellsDifference}
+use Rattle.dap_diff.specs.declared.answer.Diff.{Diff}
+use Rattle.dap_diff.specs.declared.answer.Diff.TheVariants.{Same, Differ}
+use Rattle.dap_input.specs.declared.limits.Limits.{Limits}
+use Rattle.dapnorm.specs.ComparingRun.{ComparisonIsTold, differ_line, same_line}
+
+-- the first line, as `compare` has it, and the lines behind it that tell how they differ
+abbrev pub first_line : Diff → List ℕ
+first_line Same = same_line
+first_line (Differ number lines) = differ_line number
+
+abbrev pub lines_in : Diff → List ℕ
+lines_in Same = []
+lines_in (Differ number lines) = lines.items
+
+-- what the program prints
+abbrev pub diff_text : Diff → List ℕ
+diff_text diff = first_line diff ++ lines_in diff
+
+-- the status of the program: same or different
+abbrev pub diff_status : Diff → ℕ
+diff_status Same = 0
+diff_status (Differ number lines) = 1
+
+-- What `diff` answers of the readers is printed or told.
+pub record DiffIsTold {R S W E : Type 0} (source_a : Source R) (source_b : Source S)
+    (sink : Sink W) (errors : Sink E) (limits : Limits) (old_a new_a : R) (old_b new_b : S)
+    (before after : W) (silent spoken : E) (status : ℕ) : Type 0 where
+  pub answer : Result Diff CompareRefused
+  pub differs : TellsDifference source_a source_b limits old_a new_a old_b new_b answer
+  pub tells : ComparisonIsTold sink errors diff_text diff_status answer before after silent spoken
+      status

@@ -1,0 +1,103 @@
+//! Compares two inputs, and tells how they differ: lines and a status.
+ghost use Rattle.std.specs.Prelude.{◌≡◌, ◌+◌, ◌<◌, ◌≤◌, ◌^◌};
+ghost use Rattle.dapnorm.specs.DiffRun.{DiffIsTold, diff_status, diff_text, first_line, lines_in};
+ghost use Rattle.dap_device.specs.Written.{HasSentAll};
+ghost use Rattle.dap_input.specs.Limits.{AreSound};
+
+use crate::compare_run::{differ_line, refusal_status, same_line};
+use crate::fault_line::{LINE, tell, tell_of_input};
+use crate::status::{DIFFERENT, DONE, FAULT};
+use arrayvec::ArrayString;
+use dap_device::{DeviceFault, Sink, Source, write_all};
+use dap_diff::{Diff, diff};
+use dap_input::{Limits, Refused};
+use std::alloc::Global;
+
+/// The first line, with its LF.
+fn first_line_of(diff: &Diff) -> ArrayString<LINE>
+    ensures { result.bytes ≡ first_line diff.now }
+{
+    match diff {
+        Diff::Same => same_line(),
+        Diff::Differ { record, .. } => differ_line(*record),
+    }
+}
+
+/// The lines that tell how two recordings differ, where they do.
+fn lines(diff: &Diff) -> &[u8]
+    ensures { result.now ≡ lines_in diff.now }
+{
+    match diff {
+        Diff::Same => &[],
+        Diff::Differ { lines, .. } => lines.as_slice(),
+    }
+}
+
+/// Sends all lines out and flushes.
+fn print<W: Sink>(writer: &mut W, diff: &Diff) -> Result<(), DeviceFault>
+    requires { W.failures writer.old < 2 ^ 62 }
+    ensures { HasSentAll W.Sink writer.old writer.new result (diff_text diff.now) }
+{
+    write_all(writer, first_line_of(diff).as_bytes())?;
+    write_all(writer, lines(diff))?;
+    writer.flush()
+}
+
+/// The status of the program where both inputs were read.
+fn status(diff: &Diff) -> u8
+    ensures { result ≡ diff_status diff.now }
+{
+    match diff {
+        Diff::Same => DONE,
+        Diff::Differ { .. } => DIFFERENT,
+    }
+}
+
+/// Compares two recordings, tells what differs at the first record where they differ, and answers
+/// the program's status. What is wrong is told on `errors`, in one line.
+///
+/// Of recordings that are the same `same` goes to `writer`. Of others `differ K` goes there, with
+/// the number of that record, and then the lines of [`diff`].
+///
+/// The status is 0 where they are the same, 1 where they differ, 2 where an input is refused, 4
+/// where a device failed and 5 for want of memory.
+pub fn run_diff<A: Source, B: Source, W: Sink, E: Sink>(
+    alloc: Global,
+    reader_a: &mut A,
+    reader_b: &mut B,
+    writer: &mut W,
+    errors: &mut E,
+    limits: Limits,
+) -> u8
+    requires limits { AreSound limits }
+    requires given_a { A.given reader_a.old < 2 ^ 62 }
+    requires given_b { B.given reader_b.old < 2 ^ 62 }
+    requires failures_a { A.failures reader_a.old < 2 ^ 62 }
+    requires failures_b { B.failures reader_b.old < 2 ^ 62 }
+    requires write_failures { W.failures writer.old < 2 ^ 62 }
+    requires error_failures { E.failures errors.old < 2 ^ 62 }
+
+    // The output is the lines, flushed, a refusal is told, and so is a writer that failed; and the
+    // status is that of what was answered or told.
+    ensures told { DiffIsTold A.Source B.Source W.Sink E.Sink limits reader_a.old reader_a.new
+        reader_b.old reader_b.new writer.old writer.new errors.old errors.new result }
+
+    // It takes at most one byte past the limit of each.
+    ensures taken_a { A.given reader_a.new ≤ A.given reader_a.old + limits.input + 1 }
+    ensures taken_b { B.given reader_b.new ≤ B.given reader_b.old + limits.input + 1 }
+{
+    let answer = match diff(alloc, reader_a, reader_b, limits) {
+        Ok(answer) => answer,
+        Err(refused) => {
+            tell_of_input(errors, refused);
+            return refusal_status(refused);
+        }
+    };
+    match print(writer, &answer) {
+        Ok(()) => status(&answer),
+        Err(_) => {
+            tell(errors, Refused::WriteFault);
+            FAULT
+        }
+    }
+}
