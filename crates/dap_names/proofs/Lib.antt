@@ -1,3 +1,4 @@
 pub mod Additions
 pub mod FreshLists
+pub mod MixedNames
 pub mod Places

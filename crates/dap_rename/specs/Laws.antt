@@ -1,7 +1,9 @@
 -- The laws that the functions of `laws` state. They hold whatever messages classes begin anew
 -- behind, and so in the whole of a recording.
-use Rattle.std.specs.Prelude.{◌≡◌, ℕ, suc, ◌<◌, ◌^◌, pos, ℤ, true, List, [], ◌∷◌, ◌++◌, length, map}
-use Rattle.std.specs.List.{AllByRecursion}
+use Rattle.std.specs.Prelude.{◌≡◌, ℕ, suc, ◌<◌, ◌^◌, pos, ℤ, Bool, true, not, List, [], ◌∷◌, ◌++◌}
+use Rattle.std.specs.Prelude.{length, map}
+use Rattle.std.specs.List.{AllByRecursion, filter}
+use Rattle.dap_tree.specs.Ids.{ids}
 use Rattle.dap_tree.specs.declared.sort.Sort.{Sort}
 use Rattle.dap_message.specs.Message.{Sent}
 use Rattle.dap_message.specs.Numbers.{is_proper, has_small_ids}
@@ -52,6 +54,31 @@ SameCounts = (stop : Sent → ℕ) (ms ns : List Sent) → AreSame stop ms ns �
 abbrev pub FrontHasFewIds : Type 0
 FrontHasFewIds = (stop : Sent → ℕ) (limit : Sort → ℕ) (ms more : List Sent)
     → HasFewIds stop limit (ms ++ more) → HasFewIds stop limit ms
+
+-- ---- other ids beside them
+
+-- The ids of the sorts that pass.
+abbrev pub of_sorts : (Sort → Bool) → List (Sort × ℤ) → List (Sort × ℤ)
+of_sorts p is = filter (λ i. p i.0) is
+
+-- The messages o and q differ at most in the numbers of their ids. Those of the sorts that pass are
+-- the ids of m and of n; the others are equal.
+pub record IsMixed (p : Sort → Bool) (m n o q : Sent) : Type 0 where
+  pub skeleton : message_skeleton o ≡ message_skeleton q
+  pub of_first : of_sorts p (ids o.doc) ≡ ids m.doc
+  pub of_second : of_sorts p (ids q.doc) ≡ ids n.doc
+  pub others : of_sorts (λ s. not (p s)) (ids o.doc) ≡ of_sorts (λ s. not (p s)) (ids q.doc)
+
+-- So it is message by message.
+abbrev pub AreMixed : (Sort → Bool) → List Sent → List Sent → List Sent → List Sent → Type 0
+AreMixed p [] [] [] [] = Unit {0}
+AreMixed p (m ∷ ms) (n ∷ ns) (o ∷ os) (q ∷ qs) = IsMixed p m n o q × AreMixed p ms ns os qs
+AreMixed p _ _ _ _ = ⊥
+
+-- Where two lists are the same, so are two with their ids and equal others.
+abbrev pub SameByParts : Type 0
+SameByParts = (p : Sort → Bool) (ms ns os qs : List Sent) → AreSame in_whole ms ns
+    → AreMixed p ms ns os qs → AreProper os → AreProper qs → AreSame in_whole os qs
 
 -- ---- the normal form
 

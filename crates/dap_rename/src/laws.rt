@@ -5,7 +5,7 @@ ghost use Rattle.dap_rename.specs.Laws.{SameIsProper, SameFronts, SameCounts, Fr
 ghost use Rattle.dap_rename.specs.Laws.{FreshIsUnique, NormalIsUnique, NormalIsComplete};
 ghost use Rattle.dap_rename.specs.Laws.{NamedIsNormal, SomeNormal, NormalIsItsOwn, NormalOfFront};
 ghost use Rattle.dap_rename.specs.Laws.{NormalOfNext, NamesAreCounted, NamesAreSmall};
-ghost use Rattle.dap_rename.specs.Laws.{EqualPlacesRename, EqualPlacesCarry};
+ghost use Rattle.dap_rename.specs.Laws.{EqualPlacesRename, EqualPlacesCarry, SameByParts};
 
 /// Being the same is an equivalence on the lists without a variables reference of 0.
 pub fn same_is_equivalence()
@@ -20,6 +20,11 @@ pub fn same_share()
     ensures fronts { SameFronts }
     ensures counts { SameCounts }
     ensures few { FrontHasFewIds }
+{}
+
+/// Lists that are the same stay so with further ids that are equal, of other sorts.
+pub fn same_with_other_ids()
+    ensures { SameByParts }
 {}
 
 /// Lists have one normal form exactly where they are the same.

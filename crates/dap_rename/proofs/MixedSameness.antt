@@ -1,0 +1,114 @@
+-- Two lists of messages are the same whose ids of some sorts are those of two lists that are the
+-- same, and whose other ids are equal.
+use Rattle.std.proofs.Common.{◌≡◌, ℤ, Bool, not, List, [], ◌∷◌, ◌++◌, map, refl, sym, ◌∙◌, ap}
+use Rattle.std.proofs.lemmas.List.{map-append}
+use Rattle.dap_tree.specs.Ids.{ids, sorts_of}
+use Rattle.dap_tree.specs.declared.sort.Sort.{Sort}
+use Rattle.dap_tree.proofs.IdNumbers.{sorts_alike}
+use Rattle.dap_message.specs.Message.{Sent}
+use Rattle.dap_names.specs.Numbering.{named}
+use Rattle.dap_names.proofs.Additions.{by_bool}
+use Rattle.dap_names.proofs.MixedNames.{part, firsts, part-append, names_of_parts}
+use Rattle.dap_rename.specs.Laws.{of_sorts, AreMixed, SameByParts}
+use Rattle.dap_rename.specs.Messages.{Class, class_after, in_whole, message_skeleton, occurrence}
+use Rattle.dap_rename.specs.Messages.{occurrences, same_class}
+use Rattle.dap_rename.proofs.Lists.{head_of, tail_of}
+use Rattle.dap_rename.proofs.Occurrences.{class_decides, class_sort, docs_alike, proper_occurrences}
+use Rattle.dap_rename.proofs.Sameness.{alike, same_of}
+
+-- ---- the classes of ids
+
+firsts_of : (is js : List (Sort × ℤ)) → sorts_of is ≡ sorts_of js
+    → firsts (map (occurrence 0) is) ≡ firsts (map (occurrence 0) js)
+firsts_of [] [] h = refl
+firsts_of [] (j ∷ js) h = absurd cc
+firsts_of (i ∷ is) [] h = absurd cc
+firsts_of (i ∷ is) (j ∷ js) h =
+    let one : i.0 ≡ j.0 = cc in
+    let more : sorts_of is ≡ sorts_of js = cc in
+    rw (one, firsts_of is js more) refl
+
+firsts_alike : (ms ns : List Sent) → map message_skeleton ms ≡ map message_skeleton ns
+    → firsts (occurrences in_whole 0 ms) ≡ firsts (occurrences in_whole 0 ns)
+firsts_alike [] [] h = refl
+firsts_alike [] (n ∷ ns) h = absurd cc
+firsts_alike (m ∷ ms) [] h = absurd cc
+firsts_alike (m ∷ ms) (n ∷ ns) h =
+    let class : Class × ℤ → Class = λ o. o.0 in
+    let one = firsts_of (ids m.doc) (ids n.doc)
+    (sorts_alike m.doc n.doc (docs_alike m n (head_of h))) in
+    map-append class (map (occurrence 0) (ids m.doc)) (occurrences in_whole 0 ms)
+    ∙ rw (one, firsts_alike ms ns (tail_of h)) refl
+    ∙ sym (map-append class (map (occurrence 0) (ids n.doc)) (occurrences in_whole 0 ns))
+
+-- ---- the ids of some sorts
+
+part_of : (p : Sort → Bool) (is : List (Sort × ℤ))
+    → part (λ (c : Class). p c.0) (map (occurrence 0) is) ≡ map (occurrence 0) (of_sorts p is)
+part_of p [] = refl
+part_of p (i ∷ is) =
+    let s = class_sort 0 i.0 in
+    by_bool (p i.0)
+    (λ h. let k : p (class_after 0 i.0).0 ≡ p i.0 = ap p s in
+    rw (k, h) (ap (λ t. occurrence 0 i ∷ t) (part_of p is)))
+    (λ h. let k : p (class_after 0 i.0).0 ≡ p i.0 = ap p s in rw (k, h) (part_of p is))
+
+part-message : (p : Sort → Bool) (m : Sent) (ms : List Sent)
+    → part (λ (c : Class). p c.0) (occurrences in_whole 0 (m ∷ ms))
+    ≡ map (occurrence 0) (of_sorts p (ids m.doc))
+    ++ part (λ (c : Class). p c.0) (occurrences in_whole 0 ms)
+part-message p m ms =
+    let q : Class → Bool = λ c. p c.0 in
+    part-append q (map (occurrence 0) (ids m.doc)) (occurrences in_whole 0 ms)
+    ∙ ap (λ t. t ++ part q (occurrences in_whole 0 ms)) (part_of p (ids m.doc))
+
+skeletons_of : (p : Sort → Bool) (ms ns os qs : List Sent) → AreMixed p ms ns os qs
+    → map message_skeleton os ≡ map message_skeleton qs
+skeletons_of p [] [] [] [] h = refl
+skeletons_of p (m ∷ ms) (n ∷ ns) (o ∷ os) (q ∷ qs) h =
+    rw (h.0.skeleton, skeletons_of p ms ns os qs h.1) refl
+skeletons_of p _ _ _ _ h = absurd h
+
+left_of : (p : Sort → Bool) (ms ns os qs : List Sent) → AreMixed p ms ns os qs
+    → part (λ (c : Class). p c.0) (occurrences in_whole 0 os) ≡ occurrences in_whole 0 ms
+left_of p [] [] [] [] h = refl
+left_of p (m ∷ ms) (n ∷ ns) (o ∷ os) (q ∷ qs) h =
+    part-message p o os ∙ rw (h.0.of_first, left_of p ms ns os qs h.1) refl
+left_of p _ _ _ _ h = absurd h
+
+right_of : (p : Sort → Bool) (ms ns os qs : List Sent) → AreMixed p ms ns os qs
+    → part (λ (c : Class). p c.0) (occurrences in_whole 0 qs) ≡ occurrences in_whole 0 ns
+right_of p [] [] [] [] h = refl
+right_of p (m ∷ ms) (n ∷ ns) (o ∷ os) (q ∷ qs) h =
+    part-message p q qs ∙ rw (h.0.of_second, right_of p ms ns os qs h.1) refl
+right_of p _ _ _ _ h = absurd h
+
+others_of : (p : Sort → Bool) (ms ns os qs : List Sent) → AreMixed p ms ns os qs
+    → part (λ (c : Class). not (p c.0)) (occurrences in_whole 0 os)
+    ≡ part (λ (c : Class). not (p c.0)) (occurrences in_whole 0 qs)
+others_of p [] [] [] [] h = refl
+others_of p (m ∷ ms) (n ∷ ns) (o ∷ os) (q ∷ qs) h =
+    let r : Sort → Bool = λ s. not (p s) in
+    part-message r o os ∙ rw (h.0.others, others_of p ms ns os qs h.1) refl
+    ∙ sym (part-message r q qs)
+others_of p _ _ _ _ h = absurd h
+
+-- ---- the law
+
+pub same_by_parts : SameByParts
+same_by_parts p ms ns os qs same h left right =
+    let xs = occurrences in_whole 0 os in
+    let ys = occurrences in_whole 0 qs in
+    let skeletons = skeletons_of p ms ns os qs h in
+    let names : named same_class [] (part (λ (c : Class). p c.0) xs)
+    ≡ named same_class [] (part (λ (c : Class). p c.0) ys) =
+    ap (named same_class []) (left_of p ms ns os qs h) ∙ (alike in_whole ms ns same).names
+    ∙ sym (ap (named same_class []) (right_of p ms ns os qs h)) in
+    same_of in_whole os qs
+    (record {
+      skeletons = skeletons;
+      names = names_of_parts same_class class_decides (λ c. p c.0) xs ys
+          (firsts_alike os qs skeletons) names (others_of p ms ns os qs h);
+      left = proper_occurrences in_whole 0 os left;
+      right = proper_occurrences in_whole 0 qs right;
+    })
