@@ -1,5 +1,5 @@
 -- Names of some classes are those among the occurrences of these classes alone; so two lists have
--- one list of names if they have one for these classes and are equal in the others.
+-- one list of names if they are equal in some classes and have one for the others.
 use Rattle.std.proofs.Common.{◌≡◌, ℤ, Bool, true, false, not, List, [], ◌∷◌, ◌++◌, map, refl}
 use Rattle.std.proofs.Common.{sym, ◌∙◌, ap, subst, append-nil}
 use Rattle.std.specs.Bool.{Decides}
@@ -79,14 +79,14 @@ module _ {K : Type 0} where
     firsts-named e [] = refl
     firsts-named e (o ∷ os) = ap (λ t. o.0 ∷ t) (firsts-named (e ++ o ∷ []) os)
 
-    -- one list of names for the classes that pass, and equal in the others
+    -- equal in the classes that pass, and one list of names for the others
     pub names_of_parts : (p : K → Bool) (xs ys : List (K × ℤ)) → firsts xs ≡ firsts ys
-        → named same [] (part p xs) ≡ named same [] (part p ys)
-        → part (λ c. not (p c)) xs ≡ part (λ c. not (p c)) ys
+        → part p xs ≡ part p ys
+        → named same [] (part (λ c. not (p c)) xs) ≡ named same [] (part (λ c. not (p c)) ys)
         → named same [] xs ≡ named same [] ys
     names_of_parts p xs ys f a b =
         let other : K → Bool = λ c. not (p c) in
         parts_tell p (named same [] xs) (named same [] ys)
         (firsts-named [] xs ∙ f ∙ sym (firsts-named [] ys))
-        (named-part p [] xs ∙ a ∙ sym (named-part p [] ys))
-        (named-part other [] xs ∙ ap (named same []) b ∙ sym (named-part other [] ys))
+        (named-part p [] xs ∙ ap (named same []) a ∙ sym (named-part p [] ys))
+        (named-part other [] xs ∙ b ∙ sym (named-part other [] ys))

@@ -69,29 +69,30 @@ skeletons_of p (m ∷ ms) (n ∷ ns) (o ∷ os) (q ∷ qs) h =
     rw (h.0.skeleton, skeletons_of p ms ns os qs h.1) refl
 skeletons_of p _ _ _ _ h = absurd h
 
+equal_of : (p : Sort → Bool) (ms ns os qs : List Sent) → AreMixed p ms ns os qs
+    → part (λ (c : Class). p c.0) (occurrences in_whole 0 os)
+    ≡ part (λ (c : Class). p c.0) (occurrences in_whole 0 qs)
+equal_of p [] [] [] [] h = refl
+equal_of p (m ∷ ms) (n ∷ ns) (o ∷ os) (q ∷ qs) h =
+    part-message p o os ∙ rw (h.0.equal, equal_of p ms ns os qs h.1) refl
+    ∙ sym (part-message p q qs)
+equal_of p _ _ _ _ h = absurd h
+
 left_of : (p : Sort → Bool) (ms ns os qs : List Sent) → AreMixed p ms ns os qs
-    → part (λ (c : Class). p c.0) (occurrences in_whole 0 os) ≡ occurrences in_whole 0 ms
+    → part (λ (c : Class). not (p c.0)) (occurrences in_whole 0 os) ≡ occurrences in_whole 0 ms
 left_of p [] [] [] [] h = refl
 left_of p (m ∷ ms) (n ∷ ns) (o ∷ os) (q ∷ qs) h =
-    part-message p o os ∙ rw (h.0.of_first, left_of p ms ns os qs h.1) refl
+    let r : Sort → Bool = λ s. not (p s) in
+    part-message r o os ∙ rw (h.0.of_first, left_of p ms ns os qs h.1) refl
 left_of p _ _ _ _ h = absurd h
 
 right_of : (p : Sort → Bool) (ms ns os qs : List Sent) → AreMixed p ms ns os qs
-    → part (λ (c : Class). p c.0) (occurrences in_whole 0 qs) ≡ occurrences in_whole 0 ns
+    → part (λ (c : Class). not (p c.0)) (occurrences in_whole 0 qs) ≡ occurrences in_whole 0 ns
 right_of p [] [] [] [] h = refl
 right_of p (m ∷ ms) (n ∷ ns) (o ∷ os) (q ∷ qs) h =
-    part-message p q qs ∙ rw (h.0.of_second, right_of p ms ns os qs h.1) refl
-right_of p _ _ _ _ h = absurd h
-
-others_of : (p : Sort → Bool) (ms ns os qs : List Sent) → AreMixed p ms ns os qs
-    → part (λ (c : Class). not (p c.0)) (occurrences in_whole 0 os)
-    ≡ part (λ (c : Class). not (p c.0)) (occurrences in_whole 0 qs)
-others_of p [] [] [] [] h = refl
-others_of p (m ∷ ms) (n ∷ ns) (o ∷ os) (q ∷ qs) h =
     let r : Sort → Bool = λ s. not (p s) in
-    part-message r o os ∙ rw (h.0.others, others_of p ms ns os qs h.1) refl
-    ∙ sym (part-message r q qs)
-others_of p _ _ _ _ h = absurd h
+    part-message r q qs ∙ rw (h.0.of_second, right_of p ms ns os qs h.1) refl
+right_of p _ _ _ _ h = absurd h
 
 -- ---- the law
 
@@ -100,15 +101,15 @@ same_by_parts p ms ns os qs same h left right =
     let xs = occurrences in_whole 0 os in
     let ys = occurrences in_whole 0 qs in
     let skeletons = skeletons_of p ms ns os qs h in
-    let names : named same_class [] (part (λ (c : Class). p c.0) xs)
-    ≡ named same_class [] (part (λ (c : Class). p c.0) ys) =
+    let names : named same_class [] (part (λ (c : Class). not (p c.0)) xs)
+    ≡ named same_class [] (part (λ (c : Class). not (p c.0)) ys) =
     ap (named same_class []) (left_of p ms ns os qs h) ∙ (alike in_whole ms ns same).names
     ∙ sym (ap (named same_class []) (right_of p ms ns os qs h)) in
     same_of in_whole os qs
     (record {
       skeletons = skeletons;
       names = names_of_parts same_class class_decides (λ c. p c.0) xs ys
-          (firsts_alike os qs skeletons) names (others_of p ms ns os qs h);
+          (firsts_alike os qs skeletons) (equal_of p ms ns os qs h) names;
       left = proper_occurrences in_whole 0 os left;
       right = proper_occurrences in_whole 0 qs right;
     })

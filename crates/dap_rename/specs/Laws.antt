@@ -62,12 +62,12 @@ abbrev pub of_sorts : (Sort → Bool) → List (Sort × ℤ) → List (Sort × �
 of_sorts p is = filter (λ i. p i.0) is
 
 -- The messages o and q differ at most in the numbers of their ids. Those of the sorts that pass are
--- the ids of m and of n; the others are equal.
+-- equal; the others are the ids of m and of n.
 pub record IsMixed (p : Sort → Bool) (m n o q : Sent) : Type 0 where
   pub skeleton : message_skeleton o ≡ message_skeleton q
-  pub of_first : of_sorts p (ids o.doc) ≡ ids m.doc
-  pub of_second : of_sorts p (ids q.doc) ≡ ids n.doc
-  pub others : of_sorts (λ s. not (p s)) (ids o.doc) ≡ of_sorts (λ s. not (p s)) (ids q.doc)
+  pub equal : of_sorts p (ids o.doc) ≡ of_sorts p (ids q.doc)
+  pub of_first : of_sorts (λ s. not (p s)) (ids o.doc) ≡ ids m.doc
+  pub of_second : of_sorts (λ s. not (p s)) (ids q.doc) ≡ ids n.doc
 
 -- So it is message by message.
 abbrev pub AreMixed : (Sort → Bool) → List Sent → List Sent → List Sent → List Sent → Type 0
@@ -75,7 +75,7 @@ AreMixed p [] [] [] [] = Unit {0}
 AreMixed p (m ∷ ms) (n ∷ ns) (o ∷ os) (q ∷ qs) = IsMixed p m n o q × AreMixed p ms ns os qs
 AreMixed p _ _ _ _ = ⊥
 
--- Where two lists are the same, so are two with their ids and equal others.
+-- Where two lists are the same, so are two with their ids and further ones that are equal.
 abbrev pub SameByParts : Type 0
 SameByParts = (p : Sort → Bool) (ms ns os qs : List Sent) → AreSame in_whole ms ns
     → AreMixed p ms ns os qs → AreProper os → AreProper qs → AreSame in_whole os qs
