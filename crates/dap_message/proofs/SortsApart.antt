@@ -5,6 +5,8 @@ use Rattle.dap_tree.specs.declared.side.Side.TheVariants.{Client, Adapter}
 use Rattle.dap_tree.specs.declared.sort.Sort.{Sort}
 use Rattle.dap_tree.specs.declared.sort.Sort.TheVariants.{ClientSeq, AdapterSeq, Frame as FrameSort}
 use Rattle.dap_tree.specs.declared.sort.Sort.TheVariants.{Reference as ReferenceSort}
+use Rattle.dap_tree.specs.declared.sort.Sort.TheVariants.{Thread as ThreadSort}
+use Rattle.dap_tree.specs.declared.sort.Sort.TheVariants.{Breakpoint as BreakpointSort}
 use Rattle.dap_tree.proofs.Booleans.{and_left, and_right, and_both}
 use Rattle.std.proofs.Common.{◌≡◌, ℕ, Bool, true, false, cond, not, ◌&&◌, ◌||◌, List, [], ◌∷◌}
 use Rattle.std.proofs.Common.{Option, Some, None, codes, refl, sym, ◌∙◌, ap, ap₂, bytes_eq}
@@ -129,6 +131,8 @@ one_sort ClientSeq ClientSeq = true
 one_sort AdapterSeq AdapterSeq = true
 one_sort FrameSort FrameSort = true
 one_sort ReferenceSort ReferenceSort = true
+one_sort ThreadSort ThreadSort = true
+one_sort BreakpointSort BreakpointSort = true
 one_sort _ _ = false
 
 abbrev sorts_apart : Option Sort → Option Sort → Bool → Bool
@@ -156,6 +160,8 @@ from_side Adapter ClientSeq = AdapterSeq
 from_side Adapter AdapterSeq = ClientSeq
 from_side Adapter FrameSort = FrameSort
 from_side Adapter ReferenceSort = ReferenceSort
+from_side Adapter ThreadSort = ThreadSort
+from_side Adapter BreakpointSort = BreakpointSort
 
 abbrev SortFrom : Side → Want → Sort → Type 0
 SortFrom side w s = (t : Sort) × (sort_of Client w ≡ Some t) × (s ≡ from_side side t)
@@ -177,6 +183,8 @@ sorts_equal ClientSeq ClientSeq h = refl
 sorts_equal AdapterSeq AdapterSeq h = refl
 sorts_equal FrameSort FrameSort h = refl
 sorts_equal ReferenceSort ReferenceSort h = refl
+sorts_equal ThreadSort ThreadSort h = refl
+sorts_equal BreakpointSort BreakpointSort h = refl
 sorts_equal _ _ h = cc
 
 or_false : (a b : Bool) → (a || not b) ≡ true → b ≡ true → a ≡ true
