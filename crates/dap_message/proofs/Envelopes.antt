@@ -18,7 +18,7 @@ use Rattle.std.proofs.lemmas.Slice.Eq.{bytes_eq-Decides}
 use Rattle.std.specs.Cmp.Lexicographic.{slice_cmp}
 use Rattle.std.specs.Ordering.{match_ordering}
 use Rattle.dap_profile.specs.PlaceSteps.{named}
-use Rattle.dap_profile.specs.Profile.{profile}
+use Rattle.dap_profile.specs.Profile.{profile, first_rows, later_rows}
 use Rattle.dap_profile.specs.ProfileRows.{ProfileRow}
 use Rattle.dap_profile.specs.declared.profile.Kind.{Kind}
 use Rattle.dap_profile.specs.declared.profile.Kind.TheVariants.{Request, Response, Event}
@@ -444,7 +444,7 @@ row_6 = record {
 
 seq_there : (side : Side) (d : Doc) → is_object d ≡ true → first_fault profile d ≡ None
     → is_some (seq_of (mark_rows profile side (filled side d))) ≡ true
-unfolding profile
+unfolding profile first_rows later_rows
 seq_there side d ob h =
     let s = row_free 1 None None (codes "seq") OwnSeq d ob refl (free_at 0 profile row_1 d h refl)
     in
@@ -486,7 +486,7 @@ words_there side d n kd k ob is away free =
 success_there : (side : Side) (d : Doc) → is_object d ≡ true → is_of_kind Response d ≡ true
     → first_fault profile d ≡ None
     → is_some (boolean_value (get (codes "success") (After side d))) ≡ true
-unfolding profile
+unfolding profile first_rows later_rows
 success_there side d ob is h =
     let s = row_free 5 (Some Response) None (codes "success") WantBool d ob is
     (free_at 4 profile row_5 d h refl) in
@@ -497,7 +497,7 @@ success_there side d ob is h =
 request_seq_there : (side : Side) (d : Doc) → is_object d ≡ true → is_of_kind Response d ≡ true
     → first_fault profile d ≡ None
     → is_some (id_number (get (codes "request_seq") (After side d))) ≡ true
-unfolding profile
+unfolding profile first_rows later_rows
 request_seq_there side d ob is h =
     let s = row_free 4 (Some Response) None (codes "request_seq") OtherSeq d ob is
     (free_at 3 profile row_4 d h refl) in
@@ -545,7 +545,7 @@ rows_free d h = h
 
 enveloped : (side : Side) (d : Doc) → is_object d ≡ true → has_kind d ≡ true
     → first_fault profile d ≡ None → has_envelope (After side d) ≡ true
-unfolding profile
+unfolding profile first_rows later_rows
 enveloped side d ob known h =
     let e = After side d in
     let a = is_named Request e in

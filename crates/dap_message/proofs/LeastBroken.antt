@@ -4,7 +4,7 @@ use Rattle.std.proofs.Common.{◌≡◌, ◌⊎◌, ⊎_elim, ℕ, zero, suc, �
 use Rattle.std.proofs.Common.{cond, List, [], ◌∷◌, length, map, get_or, Contains, Option, Some}
 use Rattle.std.proofs.Common.{None, option_map, refl, sym, ◌∙◌, ap, subst, arith}
 use Rattle.std.specs.Option.{option_or}
-use Rattle.dap_profile.specs.Profile.{profile}
+use Rattle.dap_profile.specs.Profile.{profile, first_rows, later_rows}
 use Rattle.dap_profile.specs.ProfileRows.{ProfileRow}
 use Rattle.dap_message.specs.Faults.{fault, Fits, has_kind, row_broken}
 use Rattle.dap_message.specs.FaultsByPath.{IsKept, BreaksFirst, IsLeastBroken, IsJudged}
@@ -122,7 +122,7 @@ number_at (q ∷ rs) n (suc i) r h lt is =
     omega arith
 
 profile_numbers : map (λ s. s.number) profile ≡ numbers_from 1 profile
-unfolding profile
+unfolding profile first_rows later_rows
 profile_numbers = refl
 
 pub are_numbered : AreNumbered profile

@@ -14,7 +14,7 @@ use Rattle.std.proofs.lemmas.Slice.Eq.{bytes_eq-Decides}
 use Rattle.std.specs.List.{list_all}
 use Rattle.std.specs.Option.{option_map_or}
 use Rattle.dap_profile.specs.PlaceSteps.{PlaceStep}
-use Rattle.dap_profile.specs.Profile.{profile}
+use Rattle.dap_profile.specs.Profile.{profile, first_rows, later_rows}
 use Rattle.dap_profile.specs.ProfileRows.{ProfileRow}
 use Rattle.dap_profile.specs.declared.profile.Kind.{Kind}
 use Rattle.dap_profile.specs.declared.profile.Kind.TheVariants.{Request, Response, Event}
@@ -22,6 +22,7 @@ use Rattle.dap_profile.specs.declared.profile.Want.{Want}
 use Rattle.dap_profile.specs.declared.profile.Want.TheVariants.{Bool as WantBool, Whole, Text}
 use Rattle.dap_profile.specs.declared.profile.Want.TheVariants.{Object, List as WantList, OwnSeq}
 use Rattle.dap_profile.specs.declared.profile.Want.TheVariants.{OtherSeq, Frame, Reference}
+use Rattle.dap_profile.specs.declared.profile.Want.TheVariants.{Thread, Breakpoint}
 use Rattle.dap_message.specs.Marks.{sort_of, marked, edit, mark_row, mark_rows}
 use Rattle.dap_message.specs.Rows.{is_asked, is_of_kind, is_text, type_name, name_key}
 use Rattle.dap_message.specs.Rows.{may_have_body}
@@ -150,7 +151,7 @@ all_apart [] = true
 all_apart (r ∷ rs) = list_all (apart r) rs && all_apart rs
 
 profile_apart : all_apart profile ≡ true
-unfolding profile
+unfolding profile first_rows later_rows
 profile_apart = refl
 
 -- the sort that a side's message has where a client's has this one
@@ -172,6 +173,8 @@ sort_from Adapter OwnSeq s h = (ClientSeq, refl, cc)
 sort_from Adapter OtherSeq s h = (AdapterSeq, refl, cc)
 sort_from Adapter Frame s h = (FrameSort, refl, cc)
 sort_from Adapter Reference s h = (ReferenceSort, refl, cc)
+sort_from Adapter Thread s h = (ThreadSort, refl, cc)
+sort_from Adapter Breakpoint s h = (BreakpointSort, refl, cc)
 sort_from Adapter WantBool s h = cc
 sort_from Adapter Whole s h = cc
 sort_from Adapter Text s h = cc

@@ -21,13 +21,14 @@ use Rattle.std.specs.Cmp.Lexicographic.{slice_cmp}
 use Rattle.std.specs.List.{list_all}
 use Rattle.std.specs.Ordering.{match_ordering}
 use Rattle.dap_profile.specs.PlaceSteps.{PlaceStep}
-use Rattle.dap_profile.specs.Profile.{profile}
+use Rattle.dap_profile.specs.Profile.{profile, first_rows, later_rows}
 use Rattle.dap_profile.specs.ProfileRows.{ProfileRow}
 use Rattle.dap_profile.specs.declared.profile.Kind.TheVariants.{Request, Response, Event}
 use Rattle.dap_profile.specs.declared.profile.Want.{Want}
 use Rattle.dap_profile.specs.declared.profile.Want.TheVariants.{Bool as WantBool, Whole, Text}
 use Rattle.dap_profile.specs.declared.profile.Want.TheVariants.{Object, List as WantList, OwnSeq}
 use Rattle.dap_profile.specs.declared.profile.Want.TheVariants.{OtherSeq, Frame, Reference}
+use Rattle.dap_profile.specs.declared.profile.Want.TheVariants.{Thread, Breakpoint}
 use Rattle.dap_message.specs.Capabilities.{is_given, default_to, false_members, false_at}
 use Rattle.dap_message.specs.Capabilities.{capabilities, tells_capabilities, with_capabilities}
 use Rattle.dap_message.specs.Capabilities.{filled}
@@ -75,6 +76,8 @@ numbers_alike OwnSeq b y z h g = rw h refl
 numbers_alike OtherSeq b y z h g = rw h refl
 numbers_alike Frame b y z h g = rw h refl
 numbers_alike Reference b y z h g = rw h refl
+numbers_alike Thread b y z h g = rw h refl
+numbers_alike Breakpoint b y z h g = rw h refl
 
 abbrev Alike : Doc → Doc → Type 0
 Alike d e = (w : Want) (b : Bool) → Well w b (Some d) → Well w b (Some e)
@@ -90,6 +93,8 @@ list_alike OwnSeq b ds es = refl
 list_alike OtherSeq b ds es = refl
 list_alike Frame b ds es = refl
 list_alike Reference b ds es = refl
+list_alike Thread b ds es = refl
+list_alike Breakpoint b ds es = refl
 
 object_alike : (w : Want) (b : Bool) (ms os : Members)
     → cause_against w b (Some (object ms)) ≡ cause_against w b (Some (object os))
@@ -102,6 +107,8 @@ object_alike OwnSeq b ms os = refl
 object_alike OtherSeq b ms os = refl
 object_alike Frame b ms os = refl
 object_alike Reference b ms os = refl
+object_alike Thread b ms os = refl
+object_alike Breakpoint b ms os = refl
 
 well_zeroed : (w : Want) (b : Bool) (o : Option Doc) → Well w b (option_map without_ids o)
     → Well w b (option_map without_ids (option_map skeleton o))
@@ -308,7 +315,7 @@ has_body ks d ms is given =
 
 has_all-capabilities : (d : Doc) → Fits d → Tells d
     → has_all capabilities (with_capabilities d) ≡ true
-unfolding profile
+unfolding profile first_rows later_rows
 has_all-capabilities d fits tells =
     let p = fault_parts (is_object d) (has_kind d) (row_broken d) UnknownType NotObject fits in
     let free = free_at 49 profile row_50 d (rows_free d p.2) refl in

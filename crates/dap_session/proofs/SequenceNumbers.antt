@@ -7,7 +7,7 @@ use Rattle.dap_tree.specs.declared.sort.Sort.{Sort}
 use Rattle.dap_tree.specs.declared.sort.Sort.TheVariants.{ClientSeq, AdapterSeq}
 use Rattle.std.proofs.Common.{◌≡◌, ℕ, ℤ, true, List, [], ◌∷◌, Option, Some, None, option_map, codes}
 use Rattle.std.proofs.Common.{refl, sym, ◌∙◌, ap}
-use Rattle.dap_profile.specs.Profile.{profile}
+use Rattle.dap_profile.specs.Profile.{profile, first_rows, later_rows}
 use Rattle.dap_profile.specs.ProfileRows.{ProfileRow}
 use Rattle.dap_profile.specs.declared.profile.Kind.{Kind}
 use Rattle.dap_profile.specs.declared.profile.Kind.TheVariants.{Response}
@@ -48,7 +48,7 @@ later (r ∷ rs) = rs
 
 seq_made : (side : Side) (d : Doc) (n : ℤ) → is_id_number n ≡ true
     → made profile side d (name (codes "seq") ∷ []) (whole n) ≡ id (seq_sort side) n
-unfolding profile
+unfolding profile first_rows later_rows
 seq_made Client d n h =
     made_first row_1 (later profile) Client d (name (codes "seq") ∷ []) ClientSeq n (rw h refl)
 seq_made Adapter d n h =
@@ -57,7 +57,7 @@ seq_made Adapter d n h =
 request_seq_made : (side : Side) (d : Doc) (n : ℤ) → is_of_kind Response d ≡ true
     → is_id_number n ≡ true
     → made profile side d (name (codes "request_seq") ∷ []) (whole n) ≡ id (seq_sort (other side)) n
-unfolding profile
+unfolding profile first_rows later_rows
 request_seq_made Client d n is h =
     let p = name (codes "request_seq") ∷ [] in
     let fourth =
@@ -114,7 +114,7 @@ kind_typed side k d = kind_rows profile side k (filled side d) ∙ kind_filled s
 
 seq_typed : (side : Side) (d : Doc) → is_object d ≡ true → first_fault profile d ≡ None
     → id_sort (get (codes "seq") (mark side (filled side d))) ≡ Some (seq_sort side)
-unfolding profile
+unfolding profile first_rows later_rows
 seq_typed side d ob rows =
     let found =
     row_free 1 None None (codes "seq") OwnSeq d ob refl (free_at 0 profile row_1 d rows refl) in
@@ -126,7 +126,7 @@ seq_typed side d ob rows =
 request_seq_typed : (side : Side) (d : Doc) → is_object d ≡ true → first_fault profile d ≡ None
     → is_of_kind Response d ≡ true
     → id_sort (get (codes "request_seq") (mark side (filled side d))) ≡ Some (seq_sort (other side))
-unfolding profile
+unfolding profile first_rows later_rows
 request_seq_typed side d ob rows is =
     let found =
     row_free 4 (Some Response) None (codes "request_seq") OtherSeq d ob is
