@@ -29,9 +29,11 @@ use Rattle.dap_message.specs.Places.{is_object, fits_place}
 use Rattle.dap_message.specs.Rows.{row_fault, first_fault, of_row, is_asked, is_of_kind, name_key}
 use Rattle.dap_message.specs.Rows.{type_name, is_text, has_type, cause_against, broken_at}
 use Rattle.dap_message.specs.Rows.{first_cause, is_null, is_id_number}
+use Rattle.dap_message.specs.Faults.{broken_by_rows}
 use Rattle.dap_message.specs.Faults.{fault, row_broken, has_kind}
 use Rattle.dap_message.specs.Capabilities.{filled, with_capabilities, default_to, is_given}
 use Rattle.dap_message.specs.Capabilities.{false_at, capabilities, tells_capabilities}
+use Rattle.dap_message.specs.Marks.{mark_by_rows}
 use Rattle.dap_message.specs.Marks.{made, made_by, marked, is_id_of, mark_rows, top, sort_of, mark}
 use Rattle.dap_message.specs.Envelope.{has_envelope, is_named, text_value, boolean_value, id_number}
 use Rattle.dap_message.specs.Envelope.{seq_of}
@@ -540,7 +542,7 @@ fault_parts true false o x y h = cc
 fault_parts false b o x y h = cc
 
 pub rows_free : (d : Doc) → row_broken d ≡ None → first_fault profile d ≡ None
-unfolding row_broken
+unfolding broken_by_rows
 rows_free d h = h
 
 enveloped : (side : Side) (d : Doc) → is_object d ≡ true → has_kind d ≡ true
@@ -577,7 +579,7 @@ enveloped side d ob known h =
 
 pub enveloped-message : (side : Side) (d : Doc) → fault d ≡ None
     → has_envelope (mark side (filled side d)) ≡ true
-unfolding mark
+unfolding mark_by_rows
 enveloped-message side d h =
     let p = fault_parts (is_object d) (has_kind d) (row_broken d) MessageFault.UnknownType
     MessageFault.NotObject h in

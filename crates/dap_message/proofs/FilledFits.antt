@@ -11,7 +11,8 @@ use Rattle.dap_profile.specs.Profile.{profile, first_rows, later_rows}
 use Rattle.dap_profile.specs.ProfileRows.{ProfileRow}
 use Rattle.dap_message.specs.Places.{is_object}
 use Rattle.dap_message.specs.Rows.{first_fault, row_fault, is_text}
-use Rattle.dap_message.specs.Faults.{fault, row_broken, has_kind}
+use Rattle.dap_message.specs.Faults.{broken_by_rows}
+use Rattle.dap_message.specs.Faults.{fault, row_broken, has_kind, Fits, FitsRows}
 use Rattle.dap_message.specs.declared.fault.MessageFault.TheVariants.{NotObject, UnknownType}
 use Rattle.dap_message.specs.Capabilities.{filled, with_capabilities, default_to, false_at}
 use Rattle.dap_message.specs.Capabilities.{false_members, capabilities, tells_capabilities}
@@ -113,8 +114,17 @@ rows_kept d e a t ob oe body h =
     (first_kept d e a t ob oe body p.0) (calm_rows later_rows d e a t calm_later p.1)
 
 pub rows_broken : (d : Doc) → first_fault profile d ≡ None → row_broken d ≡ None
-unfolding row_broken
+unfolding broken_by_rows
 rows_broken d h = h
+
+-- a document that fits the profile fits the first one
+pub first_fits : (d : Doc) → Fits d → FitsRows first_rows d
+unfolding broken_by_rows
+first_fits d h =
+    let p = fault_parts (is_object d) (has_kind d) (first_fault profile d) UnknownType NotObject h in
+    let q = fault_free (first_fault first_rows d) (first_fault later_rows d)
+    (sym (profile_split d) ∙ p.2) in
+    rw (p.0, p.1) q.0
 
 pub faultless : (d : Doc) → is_object d ≡ true → has_kind d ≡ true → row_broken d ≡ None
     → fault d ≡ None

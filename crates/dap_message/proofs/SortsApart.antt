@@ -9,9 +9,11 @@ use Rattle.dap_tree.specs.declared.sort.Sort.TheVariants.{Thread as ThreadSort}
 use Rattle.dap_tree.specs.declared.sort.Sort.TheVariants.{Breakpoint as BreakpointSort}
 use Rattle.dap_tree.proofs.Booleans.{and_left, and_right, and_both}
 use Rattle.std.proofs.Common.{◌≡◌, ℕ, Bool, true, false, cond, not, ◌&&◌, ◌||◌, List, [], ◌∷◌}
+use Rattle.std.proofs.Common.{◌++◌}
 use Rattle.std.proofs.Common.{Option, Some, None, codes, refl, sym, ◌∙◌, ap, ap₂, bytes_eq}
 use Rattle.std.proofs.lemmas.Slice.Eq.{bytes_eq-Decides}
 use Rattle.std.specs.List.{list_all}
+use Rattle.std.proofs.lemmas.List.Folds.{list_all-append}
 use Rattle.std.specs.Option.{option_map_or}
 use Rattle.dap_profile.specs.PlaceSteps.{PlaceStep}
 use Rattle.dap_profile.specs.Profile.{profile, first_rows, later_rows}
@@ -247,5 +249,26 @@ agree_pending (r ∷ rs) side d h =
     refl (is_asked r.kind r.name d) refl
     (agree_pending rs side d (and_right (list_all (apart r) rs) (all_apart rs) h))
 
-pub agree_profile : (side : Side) (d : Doc) → Agree (pending profile side d)
-agree_profile side d = agree_pending profile side d profile_apart
+-- places of these rows that want different sorts never meet in one message
+abbrev pub AllAgree : List ProfileRow → Type 0
+AllAgree rows = (side : Side) (d : Doc) → Agree (pending rows side d)
+
+pub profile_agree : AllAgree profile
+profile_agree side d = agree_pending profile side d profile_apart
+
+front_apart : (xs ys : List ProfileRow) → all_apart (xs ++ ys) ≡ true → all_apart xs ≡ true
+front_apart [] ys h = refl
+front_apart (r ∷ xs) ys h =
+    let here = and_left (list_all (apart r) (xs ++ ys)) (all_apart (xs ++ ys)) h in
+    let behind = and_right (list_all (apart r) (xs ++ ys)) (all_apart (xs ++ ys)) h in
+    and_both (list_all (apart r) xs) (all_apart xs)
+    (and_left (list_all (apart r) xs) (list_all (apart r) ys)
+    (sym (list_all-append (apart r) xs ys) ∙ here))
+    (front_apart xs ys behind)
+
+first_apart : all_apart first_rows ≡ true
+unfolding profile
+first_apart = front_apart first_rows later_rows profile_apart
+
+pub first_agree : AllAgree first_rows
+first_agree side d = agree_pending first_rows side d first_apart

@@ -101,6 +101,10 @@ abbrev pub mark_rows : List ProfileRow → Side → Doc → Doc
 mark_rows [] side d = d
 mark_rows (r ∷ rs) side d = mark_rows rs side (mark_row r side d)
 
+-- The same, for rows that a proof does not go through.
+unfoldable pub mark_by_rows : List ProfileRow → Side → Doc → Doc
+mark_by_rows rows side d = mark_rows rows side d
+
 -- The document with the ids that the profile tells.
-unfoldable pub mark : Side → Doc → Doc
-mark side d = mark_rows profile side d
+abbrev pub mark : Side → Doc → Doc
+mark side d = mark_by_rows profile side d

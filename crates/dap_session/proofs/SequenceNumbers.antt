@@ -14,6 +14,7 @@ use Rattle.dap_profile.specs.declared.profile.Kind.TheVariants.{Response}
 use Rattle.dap_profile.specs.declared.profile.Want.TheVariants.{OwnSeq, OtherSeq}
 use Rattle.dap_message.specs.Capabilities.{filled}
 use Rattle.dap_message.specs.Faults.{row_broken, has_kind}
+use Rattle.dap_message.specs.Marks.{mark_by_rows}
 use Rattle.dap_message.specs.Marks.{made, made_by, mark, mark_row, mark_rows, top}
 use Rattle.dap_message.specs.Message.{IsTyped}
 use Rattle.dap_message.specs.Places.{is_object}
@@ -94,7 +95,7 @@ sort-top (Some (id s z)) = refl
 
 sort_seen : (side : Side) (k : List ℕ) (d : Doc) (n : ℤ) (s : Sort) → get k d ≡ Some (whole n)
     → made profile side d (name k ∷ []) (whole n) ≡ id s n → id_sort (get k (mark side d)) ≡ Some s
-unfolding mark
+unfolding mark_by_rows
 sort_seen side k d n s there is =
     seen-mark id_sort sort-top profile side k d
     ∙ ap (λ o. id_sort (option_map (made profile side d (name k ∷ [])) o)) there
@@ -109,7 +110,7 @@ kind_rows (r ∷ rs) side k d =
 
 kind_typed : (side : Side) (k : Kind) (d : Doc)
     → is_of_kind k (mark side (filled side d)) ≡ is_of_kind k d
-unfolding mark
+unfolding mark_by_rows
 kind_typed side k d = kind_rows profile side k (filled side d) ∙ kind_filled side k d
 
 seq_typed : (side : Side) (d : Doc) → is_object d ≡ true → first_fault profile d ≡ None
