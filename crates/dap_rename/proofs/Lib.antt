@@ -8,3 +8,4 @@ pub mod ListGrowth
 pub mod TableContents
 pub mod CarriesTest
 pub mod PairFaults
+pub mod PairIndexing
