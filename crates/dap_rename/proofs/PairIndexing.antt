@@ -1,7 +1,7 @@
 -- Pairs found by their sort and a number: what is seen pair by pair, and what the index then finds.
-use Rattle.std.proofs.Common.{◌≡◌, ℕ, suc, ◌+◌, ◌<◌, ◌≤◌, ℤ, Bool, true, false, cond, ◌&&◌, List, []}
-use Rattle.std.proofs.Common.{◌∷◌, ◌++◌, length, take, get_or, Option, Some, None, MatchOption, is_some}
-use Rattle.std.proofs.Common.{not, refl, sym, ◌∙◌, ap, subst, arith, true≢false}
+use Rattle.std.proofs.Common.{◌≡◌, ℕ, suc, ◌+◌, ◌<◌, ◌≤◌, ℤ, Bool, true, false, cond, ◌&&◌}
+use Rattle.std.proofs.Common.{List, [], ◌∷◌, ◌++◌, length, take, get_or, Option, Some, None, MatchOption}
+use Rattle.std.proofs.Common.{is_some, not, refl, sym, ◌∙◌, ap, subst, arith, true≢false}
 use Rattle.std.proofs.lemmas.Bool.{and_parts, and_from}
 use Rattle.std.proofs.lemmas.Bool.Decides.{Decides-int_eq, same_from_decides}
 use Rattle.std.proofs.lemmas.List.{take_more, length-take-le, take_all}
@@ -107,7 +107,8 @@ image_push (q ∷ ps) p s x h =
 
 pub gives_push : (ps : List Pair) (p : Pair) (s : Sort) (y : ℤ)
     → gives (ps ++ p ∷ []) s y ≡ cond (same_sort p.sort s && int_eq p.to y) true (gives ps s y)
-gives_push [] p s y = by_bool (same_sort p.sort s && int_eq p.to y) (λ a. rw a refl) (λ a. rw a refl)
+gives_push [] p s y =
+    by_bool (same_sort p.sort s && int_eq p.to y) (λ a. rw a refl) (λ a. rw a refl)
 gives_push (q ∷ ps) p s y =
     by_bool (same_sort q.sort s && int_eq q.to y)
     (λ a. by_bool (same_sort p.sort s && int_eq p.to y) (λ b. rw (a, b) refl) (λ b. rw (a, b) refl))

@@ -59,8 +59,8 @@ fn carries_tree(renaming: &Renaming, from: &Tree, to: &Tree) -> bool
 
 #[cycle(carries_tree)]
 fn carries_items(renaming: &Renaming, from: &Vec<Tree>, to: &Vec<Tree>) -> bool
-    ensures { let pairs = pairs_of renaming.now in
-        result ≡ carries_items pairs (items_view from.now.items) (items_view to.now.items) }
+    ensures { let pairs = pairs_of renaming.now in result
+        ≡ carries_items pairs (items_view from.now.items) (items_view to.now.items) }
 {
     let mut rest = to.as_slice();
     for item in from {
@@ -81,8 +81,8 @@ fn carries_members(
     from: &BTreeMap<String, Tree>,
     to: &BTreeMap<String, Tree>,
 ) -> bool
-    ensures { let pairs = pairs_of renaming.now in
-        result ≡ carries_members pairs (members_view from.now.entries) (members_view to.now.entries) }
+    ensures { let pairs = pairs_of renaming.now in result
+        ≡ carries_members pairs (members_view from.now.entries) (members_view to.now.entries) }
 {
     let mut rest = to.iter();
     for (name, member) in from.iter() {

@@ -1,6 +1,6 @@
 //! Pairs found by their sort and number, in the time of a look-up.
-ghost use Rattle.std.specs.Prelude.{◌≡◌, suc, List, [], ◌∷◌, ◌++◌, length, MatchOption, MatchResult};
-ghost use Rattle.std.specs.Prelude.{IfOk};
+ghost use Rattle.std.specs.Prelude.{◌≡◌, suc, List, [], ◌∷◌, ◌++◌, length, MatchOption};
+ghost use Rattle.std.specs.Prelude.{MatchResult, IfOk};
 ghost use Rattle.dap_rename.specs.Messages.{IsProperId};
 ghost use Rattle.dap_rename.specs.PairIndex.{key};
 ghost use Rattle.dap_rename.specs.Pairs.{entries, is_proper_pair, MayFollow, PairFails, FailsFirst};
