@@ -9,3 +9,4 @@ pub mod TableContents
 pub mod CarriesTest
 pub mod PairFaults
 pub mod MixedSameness
+pub mod PairIndexing

@@ -5,6 +5,7 @@ pub mod Names
 pub mod Pairs
 pub mod Renaming
 pub mod Carrying
+pub mod PairIndex
 pub mod Laws
 pub use Rattle.dap_names.specs.IndexNames
 pub use Rattle.dap_names.specs.Numbering

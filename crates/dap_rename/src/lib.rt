@@ -9,6 +9,7 @@ mod carries;
 pub mod laws;
 mod names;
 mod pair;
+mod pair_index;
 mod renaming;
 mod tables;
 
