@@ -6,7 +6,7 @@ from one_direction import records
 
 MARKERS = {"client": b">", "adapter": b"<"}
 OTHER = {"client": "adapter", "adapter": "client"}
-FRAME, REFERENCE = "frame", "reference"
+FRAME, REFERENCE, THREAD, BREAKPOINT = "frame", "reference", "thread", "breakpoint"
 
 # Where ids stand, by the kind of a message and its command or event: the names of the members on the way, and the sort.
 REQUESTS = {
@@ -34,6 +34,32 @@ EVENTS = {
     "invalidated": [("body.stackFrameId", FRAME)],
     "progressStart": [("body.requestId", "other")],
 }
+# The ids that the first rows of the profile leave as they are written: of threads and of breakpoints.
+LATER_REQUESTS = {
+    **{
+        name: [("arguments.threadId", THREAD)]
+        for name in (
+            "stackTrace", "continue", "next", "stepIn", "stepOut", "pause", "stepBack", "reverseContinue", "goto", "exceptionInfo",
+        )
+    },
+    "terminateThreads": [("arguments.threadIds[]", THREAD)],
+}
+LATER_RESPONSES = {
+    "threads": [("body.threads[].id", THREAD)],
+    **{
+        name: [("body.breakpoints[].id", BREAKPOINT)]
+        for name in (
+            "setBreakpoints", "setFunctionBreakpoints", "setDataBreakpoints", "setInstructionBreakpoints", "setExceptionBreakpoints",
+        )
+    },
+}
+LATER_EVENTS = {
+    "stopped": [("body.threadId", THREAD), ("body.hitBreakpointIds[]", BREAKPOINT)],
+    "continued": [("body.threadId", THREAD)],
+    "thread": [("body.threadId", THREAD)],
+    "invalidated": [("body.threadId", THREAD)],
+    "breakpoint": [("body.breakpoint.id", BREAKPOINT)],
+}
 CAPABILITIES = """
     supportSuspendDebuggee supportTerminateDebuggee supportsBreakpointLocationsRequest supportsCancelRequest
     supportsClipboardContext supportsCompletionsRequest supportsConditionalBreakpoints supportsConfigurationDoneRequest
@@ -47,15 +73,15 @@ CAPABILITIES = """
 """.split()
 
 
-def places(message):
-    """Where this message has ids."""
+def places(message, first_rows):
+    """Where this message has ids: of all rows of the profile, or of the first rows alone."""
     kind = message["type"]
-    if kind == "request":
-        return [("seq", "own"), *REQUESTS.get(message["command"], [])]
-    if kind == "event":
-        return [("seq", "own"), *EVENTS.get(message["event"], [])]
-    envelope = [("seq", "own"), ("request_seq", "other")]
-    return [*envelope, *RESPONSES.get(message["command"], [])] if message["success"] else envelope
+    envelope = [("seq", "own"), ("request_seq", "other")] if kind == "response" else [("seq", "own")]
+    if kind == "response" and not message["success"]:
+        return envelope
+    name = message["event" if kind == "event" else "command"]
+    first, later = {"request": (REQUESTS, LATER_REQUESTS), "response": (RESPONSES, LATER_RESPONSES), "event": (EVENTS, LATER_EVENTS)}[kind]
+    return [*envelope, *first.get(name, []), *([] if first_rows else later.get(name, []))]
 
 
 def fill(side, message):
@@ -82,19 +108,19 @@ def rename(names, sorts, side, path, value):
     return table.setdefault(value, len(table) + 1)
 
 
-def normal_records(names, recording):
+def normal_records(names, recording, first_rows=False):
     """The records of the normal text of a recording that is accepted, one by one. `names` gets the names of its ids, by sort."""
     for side, _, content in records(recording):
         message = json.loads(content)
         fill(side, message)
-        message = rename(names, dict(places(message)), side, "", message)
+        message = rename(names, dict(places(message, first_rows)), side, "", message)
         content = json.dumps(message, separators=(",", ":"), ensure_ascii=False).encode()
         yield b"%sContent-Length: %d\r\n\r\n%s\n" % (MARKERS[side], len(content), content)
 
 
-def normalised(recording):
-    """The normal text of a recording that is accepted."""
-    return b"".join(normal_records({}, recording))
+def normalised(recording, first_rows=False):
+    """The normal text of a recording that is accepted; or what it was by the first rows of the profile alone."""
+    return b"".join(normal_records({}, recording, first_rows))
 
 
 if __name__ == "__main__":

@@ -4,6 +4,7 @@ pub mod JudgedRecords
 pub mod NormalRecordSteps
 pub mod NormalTexts
 pub mod NormalFormLaws
+pub mod OldGoldenFiles
 pub mod StreamAnswers
 pub mod StreamLoop
 pub mod StreamWriting

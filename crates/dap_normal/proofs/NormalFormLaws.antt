@@ -101,7 +101,7 @@ numbered (held ∷ records) (m ∷ ms) typed zero d small =
 numbered (held ∷ records) (m ∷ ms) typed (suc k) d small =
     numbered records ms typed.1 k d (omega (arith, small))
 
-rules_kept : (records : List Held) (ms n : List Sent) → AreMessages records ms
+pub rules_kept : (records : List Held) (ms n : List Sent) → AreMessages records ms
     → AreSame in_whole ms n → KeepsRules ms → KeepsRules n
 unfolding AreSame
 rules_kept records ms n typed (r, is, carries) =
@@ -110,7 +110,7 @@ rules_kept records ms n typed (r, is, carries) =
 
 -- ---- the records of a text
 
-contents_of : List Sent → List Held
+pub contents_of : List Sent → List Held
 contents_of [] = []
 contents_of (m ∷ ms) = (m.side, text_of m.doc) ∷ contents_of ms
 
@@ -134,7 +134,7 @@ typed_again (held ∷ records) (m ∷ ms) (k ∷ n) (is, typed) same small =
     )
 
 module _ (limits : Limits) (sound : AreSound limits) where
-  recording_of : (n : List Sent)
+  pub recording_of : (n : List Sent)
       → AllByRecursion (λ m. length (text_of m.doc) ≤ limits.frame.content) n
       → IsRecording limits.frame (text n) (contents_of n)
   unfolding contents_of

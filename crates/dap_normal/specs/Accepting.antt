@@ -6,7 +6,9 @@ use Rattle.std.specs.List.{flat_map, AllByRecursion}
 use Rattle.dap_tree.specs.Json.{text_of}
 use Rattle.dap_tree.specs.declared.side.Side.{Side}
 use Rattle.dap_tree.specs.declared.sort.Sort.{Sort}
-use Rattle.dap_message.specs.Message.{Sent, IsTypedContent, HasRefusal}
+use Rattle.dap_profile.specs.Profile.{profile}
+use Rattle.dap_profile.specs.ProfileRows.{ProfileRow}
+use Rattle.dap_message.specs.Message.{Sent, IsTypedContentByRows, HasRefusal}
 use Rattle.dap_recording.specs.Recording.{IsRecording, record_text, records}
 use Rattle.dap_rename.specs.Messages.{HasFewIds, HasTooManyIds, IsNormal, in_whole}
 use Rattle.dap_session.specs.Rules.{KeepsRules, first_broken}
@@ -20,9 +22,14 @@ use Rattle.dap_input.specs.Refusals.{HasOneOutcome, RefusalStays}
 abbrev pub Held : Type 0
 Held = Side × List ℕ
 
--- The content that the record holds is that of this message of its side.
+-- By these rows the content that the record holds is that of this message of its side.
+abbrev pub IsMessageByRows : List ProfileRow → Held → Sent → Type 0
+IsMessageByRows rows held message = (message.side ≡ held.0)
+    × IsTypedContentByRows rows held.0 held.1 message.doc
+
+-- So it is by the profile.
 abbrev pub IsMessage : Held → Sent → Type 0
-IsMessage held message = (message.side ≡ held.0) × IsTypedContent held.0 held.1 message.doc
+IsMessage = IsMessageByRows profile
 
 -- What the record holds is no message, for this reason.
 abbrev pub HoldsNoMessage : Held → Objection → Type 0
@@ -30,12 +37,15 @@ HoldsNoMessage held (no_message why) = HasRefusal held.1 why
 HoldsNoMessage held why = ⊥
 
 -- The records hold these messages, in order.
+abbrev pub AreMessagesByRows : List ProfileRow → List Held → List Sent → Type 0
+AreMessagesByRows rows [] [] = Unit {0}
+AreMessagesByRows rows [] (message ∷ messages) = ⊥
+AreMessagesByRows rows (held ∷ records) [] = ⊥
+AreMessagesByRows rows (held ∷ records) (message ∷ messages) = IsMessageByRows rows held message
+    × AreMessagesByRows rows records messages
+
 abbrev pub AreMessages : List Held → List Sent → Type 0
-AreMessages [] [] = Unit {0}
-AreMessages [] (message ∷ messages) = ⊥
-AreMessages (held ∷ records) [] = ⊥
-AreMessages (held ∷ records) (message ∷ messages) = IsMessage held message
-    × AreMessages records messages
+AreMessages = AreMessagesByRows profile
 
 -- The text of the messages (own): for each the record of its canonical content.
 abbrev pub text : List Sent → List ℕ
@@ -62,16 +72,22 @@ pub record HasGrown (limits : Limits) (messages : List Sent) : Type 0 where
   pub is_normal : IsNormal in_whole messages normal
   pub too_long : Fits limits normal → ⊥
 
--- The bytes are a recording of these messages within the limits. The messages keep the rules of a
--- session and have few ids, and their normal form keeps within the limits.
-pub record IsAccepted (limits : Limits) (bytes : List ℕ) (messages : List Sent) : Type 0 where
+-- The bytes are a recording of these messages, which are typed by these rows, within the limits.
+-- The messages keep the rules of a session and have few ids, and their normal form keeps within the
+-- limits.
+pub record IsAcceptedByRows (rows : List ProfileRow) (limits : Limits) (bytes : List ℕ)
+    (messages : List Sent) : Type 0 where
   pub short : length bytes ≤ limits.input
   pub records : List Held
   pub recording : IsRecording limits.frame bytes records
-  pub typed : AreMessages records messages
+  pub typed : AreMessagesByRows rows records messages
   pub rules : KeepsRules messages
   pub few : HasFewIds in_whole (id_limit limits) messages
   pub fits : NormalFits limits messages
+
+-- So it is by the profile.
+abbrev pub IsAccepted : Limits → List ℕ → List Sent → Type 0
+IsAccepted = IsAcceptedByRows profile
 
 -- The message that a record holds is accepted behind these.
 pub record IsNext (limits : Limits) (before : List Sent) (held : Held) (message : Sent) : Type 0

@@ -6,4 +6,5 @@ pub mod NameTables
 pub mod NormalSteps
 pub mod Normalised
 pub mod Normalising
+pub mod OldGoldenFiles
 pub mod Streaming

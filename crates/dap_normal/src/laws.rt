@@ -5,6 +5,7 @@ ghost use Rattle.dap_normal.specs.Accepting.{RecordingRefusalStays};
 ghost use Rattle.dap_normal.specs.Normalising.{HasOneNormalForm, NormalIsAccepted};
 ghost use Rattle.dap_normal.specs.Normalising.{AcceptedIsNormalised, OneNormalText};
 ghost use Rattle.dap_normal.specs.Normalising.{NormalStandsStill, EqualTextsTell};
+ghost use Rattle.dap_normal.specs.OldGoldenFiles.{OldGoldenFiles};
 
 /// A recording is accepted as one list of messages, or has one refusal, and not both. A
 /// refusal stays when more bytes come, unless the input only ended too early. `check` and
@@ -30,6 +31,12 @@ pub fn normal_form_stands()
 /// of the one, in order, into those of the other.
 pub fn equal_texts_tell()
     ensures { EqualTextsTell }
+{}
+
+/// A golden file that was written before thread ids and breakpoint ids were renamed is normalised to
+/// the normal text of its recording, if the recording is accepted then and now.
+pub fn old_golden_files()
+    ensures { OldGoldenFiles }
 {}
 
 /// What `normalise`, `check` and `compare` have read at a record: at most 65,536 bytes past it, or

@@ -1,4 +1,4 @@
--- How the four lists grow.
+-- How the lists grow.
 use Rattle.std.proofs.Common.{◌≡◌, ℕ, ◌+◌, ◌<◌, ◌≤◌, ℤ, false, List, [], ◌∷◌, ◌++◌, length, take}
 use Rattle.std.proofs.Common.{drop, get_or, refl, sym, ◌∙◌, ap, arith, length-append}
 use Rattle.std.proofs.Common.{take-append-drop}
@@ -8,6 +8,7 @@ use Rattle.std.specs.List.{list_any}
 use Rattle.std.specs.Ordering.{int_eq}
 use Rattle.dap_tree.specs.declared.sort.Sort.{Sort}
 use Rattle.dap_tree.specs.declared.sort.Sort.TheVariants.{ClientSeq, AdapterSeq, Frame, Reference}
+use Rattle.dap_tree.specs.declared.sort.Sort.TheVariants.{Thread, Breakpoint}
 use Rattle.dap_names.specs.Numbering.{add}
 use Rattle.dap_names.proofs.Additions.{by_bool}
 use Rattle.dap_rename.specs.declared.tables.Tables.{Tables}
@@ -40,10 +41,12 @@ begins-add t u x h =
 
 pub all_begin-added : (l m : Lists) (s : Sort) (x : ℤ) → AllBegin l m → AllBegin l (added m s x)
 unfolding AllBegin
-all_begin-added l m ClientSeq x h = (begins-add _ _ x h.0, h.1, h.2, h.3)
-all_begin-added l m AdapterSeq x h = (h.0, begins-add _ _ x h.1, h.2, h.3)
-all_begin-added l m Frame x h = (h.0, h.1, begins-add _ _ x h.2, h.3)
-all_begin-added l m Reference x h = (h.0, h.1, h.2, begins-add _ _ x h.3)
+all_begin-added l m ClientSeq x h = (begins-add _ _ x h.0, h.1, h.2, h.3, h.4, h.5)
+all_begin-added l m AdapterSeq x h = (h.0, begins-add _ _ x h.1, h.2, h.3, h.4, h.5)
+all_begin-added l m Frame x h = (h.0, h.1, begins-add _ _ x h.2, h.3, h.4, h.5)
+all_begin-added l m Reference x h = (h.0, h.1, h.2, begins-add _ _ x h.3, h.4, h.5)
+all_begin-added l m Thread x h = (h.0, h.1, h.2, h.3, begins-add _ _ x h.4, h.5)
+all_begin-added l m Breakpoint x h = (h.0, h.1, h.2, h.3, h.4, begins-add _ _ x h.5)
 
 pub all_begin-added_all : (l m : Lists) (is : List (Sort × ℤ)) → AllBegin l m
     → AllBegin l (added_all m is)
@@ -54,7 +57,14 @@ all_begin-added_all l m (i ∷ is) h =
 pub all_begin : (l : Lists) (is : List (Sort × ℤ)) → AllBegin l (added_all l is)
 unfolding AllBegin
 all_begin l is =
-    all_begin-added_all l l is (begins_refl _, begins_refl _, begins_refl _, begins_refl _)
+    all_begin-added_all l l is (
+      begins_refl _,
+      begins_refl _,
+      begins_refl _,
+      begins_refl _,
+      begins_refl _,
+      begins_refl _,
+    )
 
 pub grown_step : (l m n : Lists) (is : List (Sort × ℤ)) (k : ℕ) (d : Sort × ℤ) → k < length is
     → m ≡ added_all l (take k is) → n ≡ added m (get_or is k d).0 (get_or is k d).1
@@ -72,10 +82,10 @@ pub cut_back : (old new cut : List ℤ) (k : ℕ) → Begins old new → k ≡ l
     → cut ≡ old
 cut_back old new cut k h e f = f ∙ rw e h.1
 
-pub lists_equal : (a b c d x y z w : List ℤ) → a ≡ x → b ≡ y → c ≡ z → d ≡ w →
-    ◌≡◌ {A = Lists} (record { client_seq = a; adapter_seq = b; frame = c; reference = d })
-    (record { client_seq = x; adapter_seq = y; frame = z; reference = w })
-lists_equal a b c d x y z w p q r s = rw (p, q, r, s) refl
+pub lists_equal : (l m : Lists) → l.client_seq ≡ m.client_seq → l.adapter_seq ≡ m.adapter_seq
+    → l.frame ≡ m.frame → l.reference ≡ m.reference → l.thread ≡ m.thread
+    → l.breakpoint ≡ m.breakpoint → l ≡ m
+lists_equal l m a b c d e f = cc
 
 -- ---- limits
 
@@ -87,6 +97,8 @@ fit_tables numbers limit h t ClientSeq = h t.client_seq
 fit_tables numbers limit h t AdapterSeq = h t.adapter_seq
 fit_tables numbers limit h t Frame = h t.frame
 fit_tables numbers limit h t Reference = h t.reference
+fit_tables numbers limit h t Thread = h t.thread
+fit_tables numbers limit h t Breakpoint = h t.breakpoint
 
 pub added_all-append : (l : Lists) (a b : List (Sort × ℤ))
     → added_all l (a ++ b) ≡ added_all (added_all l a) b
@@ -98,6 +110,8 @@ list_of-added l ClientSeq x = refl
 list_of-added l AdapterSeq x = refl
 list_of-added l Frame x = refl
 list_of-added l Reference x = refl
+list_of-added l Thread x = refl
+list_of-added l Breakpoint x = refl
 
 pub longer : (l m : Lists) (s : Sort) → AllBegin l m → length (list_of l s) ≤ length (list_of m s)
 unfolding AllBegin
@@ -105,6 +119,8 @@ longer l m ClientSeq h = h.0.0
 longer l m AdapterSeq h = h.1.0
 longer l m Frame h = h.2.0
 longer l m Reference h = h.3.0
+longer l m Thread h = h.4.0
+longer l m Breakpoint h = h.5.0
 
 pub add-new : (t : List ℤ) (x : ℤ) → has t x ≡ false → length (add t x) ≡ length t + 1
 add-new t x h = rw h (length-append t (x ∷ []))

@@ -12,6 +12,7 @@ use Rattle.dap_tree.specs.Ids.{ids, skeleton, numbers_of, with_ids}
 use Rattle.dap_tree.specs.declared.side.Side.{Side}
 use Rattle.dap_tree.specs.declared.sort.Sort.{Sort}
 use Rattle.dap_tree.specs.declared.sort.Sort.TheVariants.{ClientSeq, AdapterSeq, Frame, Reference}
+use Rattle.dap_tree.specs.declared.sort.Sort.TheVariants.{Thread, Breakpoint}
 use Rattle.dap_tree.proofs.Booleans.{and_left, and_right, and_both}
 use Rattle.dap_tree.proofs.IdNumbers.{count_alike, count_ids, with_own, with_others}
 use Rattle.dap_message.specs.Message.{Sent}
@@ -30,6 +31,8 @@ sort_told ClientSeq ClientSeq h = refl
 sort_told AdapterSeq AdapterSeq h = refl
 sort_told Frame Frame h = refl
 sort_told Reference Reference h = refl
+sort_told Thread Thread h = refl
+sort_told Breakpoint Breakpoint h = refl
 sort_told a b h = absurd (omega arith)
 
 pub class_decides : (c d : Class) → Decides (same_class c d) (c ≡ d)
@@ -51,6 +54,8 @@ class_sort stops ClientSeq = refl
 class_sort stops AdapterSeq = refl
 class_sort stops Frame = refl
 class_sort stops Reference = refl
+class_sort stops Thread = refl
+class_sort stops Breakpoint = refl
 
 -- ---- the order of occurrences
 

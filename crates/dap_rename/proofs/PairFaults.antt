@@ -10,6 +10,7 @@ use Rattle.std.specs.List.{AllByRecursion}
 use Rattle.std.specs.Ordering.{int_eq}
 use Rattle.dap_tree.specs.declared.sort.Sort.{Sort}
 use Rattle.dap_tree.specs.declared.sort.Sort.TheVariants.{ClientSeq, AdapterSeq, Frame, Reference}
+use Rattle.dap_tree.specs.declared.sort.Sort.TheVariants.{Thread, Breakpoint}
 use Rattle.dap_tree.proofs.Booleans.{or_left, or_right}
 use Rattle.dap_message.specs.Message.{Sent}
 use Rattle.dap_message.specs.Numbers.{is_proper_number}
@@ -106,21 +107,24 @@ none_found ps k d (Some f) h r m s = absurd (true≢false s)
 
 -- ---- equal places
 
-pub joined : (n o p q r : List Pair) (f g : Sort → List ℤ) → n ≡ [] →
-    entries o ≡ entries n ++ pairs_of_class (ClientSeq, 0) (f ClientSeq) (g ClientSeq)
-    → entries p ≡ entries o ++ pairs_of_class (AdapterSeq, 0) (f AdapterSeq) (g AdapterSeq) →
-    entries q ≡ entries p ++ pairs_of_class (Frame, 0) (f Frame) (g Frame)
-    → entries r ≡ entries q ++ pairs_of_class (Reference, 0) (f Reference) (g Reference)
-    → entries r ≡ equal_names f g
-joined n o p q r f g z e1 e2 e3 e4 =
-    let A = pairs_of_class {K = Class} (ClientSeq, 0) (f ClientSeq) (g ClientSeq) in
-    let B = pairs_of_class {K = Class} (AdapterSeq, 0) (f AdapterSeq) (g AdapterSeq) in
-    let C = pairs_of_class {K = Class} (Frame, 0) (f Frame) (g Frame) in
-    let D = pairs_of_class {K = Class} (Reference, 0) (f Reference) (g Reference) in
-    e4 ∙ ap (λ t. t ++ D) (e3
-    ∙ ap (λ t. t ++ C) (e2 ∙ ap (λ t. t ++ B) (e1 ∙ ap (λ t. entries t ++ A) z)))
-    ∙ append_assoc (A ++ B) C D ∙ append_assoc A B (C ++ D)
-    ∙ ap (λ t. A ++ (B ++ (C ++ t))) (sym (append-nil D))
+-- the pairs after those of one more sort
+abbrev pub Joined : (f g : Sort → List ℤ) → Sort → List Pair → List Pair → Type 0
+Joined f g s old new = entries new ≡ entries old ++ pairs_of_class (s, 0) (f s) (g s)
+
+joined_behind : (f g : Sort → List ℤ) (s : Sort) (old new : List Pair)
+    (rest : List (Class × ℤ × ℤ)) → Joined f g s old new
+    → entries new ++ rest ≡ entries old ++ (pairs_of_class (s, 0) (f s) (g s) ++ rest)
+joined_behind f g s old new rest e =
+    ap (λ t. t ++ rest) e ∙ append_assoc (entries old) (pairs_of_class (s, 0) (f s) (g s)) rest
+
+pub joined : (n o p q r t u : List Pair) (f g : Sort → List ℤ) → n ≡ [] → Joined f g ClientSeq n o
+    → Joined f g AdapterSeq o p → Joined f g Frame p q → Joined f g Reference q r
+    → Joined f g Thread r t → Joined f g Breakpoint t u → entries u ≡ equal_names f g
+joined n o p q r t u f g z e1 e2 e3 e4 e5 e6 =
+    sym (append-nil (entries u)) ∙ joined_behind f g Breakpoint t u _ e6
+    ∙ joined_behind f g Thread r t _ e5 ∙ joined_behind f g Reference q r _ e4
+    ∙ joined_behind f g Frame p q _ e3 ∙ joined_behind f g AdapterSeq o p _ e2
+    ∙ joined_behind f g ClientSeq n o _ e1 ∙ ap (λ ps. entries ps ++ equal_names f g) z
 
 pub pairs-push : {K : Type 0} (c : K) (t u : List ℤ) (x y : ℤ) → length t ≡ length u
     → pairs_of_class c (t ++ x ∷ []) (u ++ y ∷ []) ≡ pairs_of_class c t u ++ (c, x, y) ∷ []
@@ -167,8 +171,12 @@ module _ {T : Type 0} (numbers_of : T → List ℤ) (limit : T → ℕ) where
         a AdapterSeq,
         a Frame,
         a Reference,
+        a Thread,
+        a Breakpoint,
         b ClientSeq,
         b AdapterSeq,
         b Frame,
         b Reference,
+        b Thread,
+        b Breakpoint,
       ) refl

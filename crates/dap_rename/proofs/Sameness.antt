@@ -1,7 +1,7 @@
 -- What it is to be the same: one skeleton and one list of names. From it the laws of fresh lists
 -- and of the normal form.
 use Rattle.std.proofs.Common.{◌≡◌, ℕ, suc, ℤ, pos, true, false, cond, List, [], ◌∷◌, ◌++◌, map}
-use Rattle.std.proofs.Common.{length, inl, inr, refl, sym, ◌∙◌, ap, subst, arith, true≢false}
+use Rattle.std.proofs.Common.{◌<◌, length, inl, inr, refl, sym, ◌∙◌, ap, subst, arith, true≢false}
 use Rattle.std.proofs.lemmas.List.{length-map, map-append}
 use Rattle.std.proofs.lemmas.Bool.Decides.{Decides-int_eq}
 use Rattle.std.specs.List.{list_any, AllByRecursion}
@@ -9,6 +9,7 @@ use Rattle.std.specs.Ordering.{int_eq}
 use Rattle.dap_tree.specs.Ids.{ids}
 use Rattle.dap_tree.specs.declared.sort.Sort.{Sort}
 use Rattle.dap_tree.specs.declared.sort.Sort.TheVariants.{ClientSeq, AdapterSeq, Frame, Reference}
+use Rattle.dap_tree.specs.declared.sort.Sort.TheVariants.{Thread, Breakpoint}
 use Rattle.dap_message.specs.Message.{Sent}
 use Rattle.dap_message.specs.Numbers.{is_proper_number}
 use Rattle.dap_names.specs.Numbering.{table, name, named, IsFresh}
@@ -222,6 +223,8 @@ pub proper_suc : (s : Sort) (k : ℕ) → is_proper_number s (pos (suc k)) ≡ t
 proper_suc ClientSeq k = refl
 proper_suc AdapterSeq k = refl
 proper_suc Frame k = refl
+proper_suc Thread k = refl
+proper_suc Breakpoint k = refl
 proper_suc Reference k =
     by_bool (int_eq (pos (suc k)) (pos 0)) (λ a. let e : pos (suc k)
     ≡ pos 0 = (Decides-int_eq (pos (suc k)) (pos 0)).0 a in absurd cc) (λ a. rw a refl)
@@ -252,16 +255,23 @@ named_is_normal stop ms n p h e =
 pub other_class : (c d : Class) → (sort_number c.0 ≡ sort_number d.0 → ⊥) → c ≡ d → ⊥
 other_class c d n e = n (ap (λ (k : Class). sort_number k.0) e)
 
+-- a class of a sort of lower number is none of these
+apart_from : (c : Class) (cs : List Class)
+    → AllByRecursion (λ (d : Class). sort_number c.0 < sort_number d.0) cs
+    → AllByRecursion (λ d. c ≡ d → ⊥) cs
+apart_from c [] h = tt
+apart_from c (d ∷ cs) h =
+    (other_class c d (λ e. let less = h.0 in omega (arith, e, less)), apart_from c cs h.1)
+
 pub whole_distinct : Distinct whole_classes
 whole_distinct = (
-  (
-    other_class _ _ (λ e. omega (arith, e)),
-    (other_class _ _ (λ e. omega (arith, e)), (other_class _ _ (λ e. omega (arith, e)), tt)),
-  ),
-  (
-    (other_class _ _ (λ e. omega (arith, e)), (other_class _ _ (λ e. omega (arith, e)), tt)),
-    ((other_class _ _ (λ e. omega (arith, e)), tt), (tt, tt)),
-  ),
+  apart_from _ _ (omega arith, omega arith, omega arith, omega arith, omega arith, tt),
+  apart_from _ _ (omega arith, omega arith, omega arith, omega arith, tt),
+  apart_from _ _ (omega arith, omega arith, omega arith, tt),
+  apart_from _ _ (omega arith, omega arith, tt),
+  apart_from _ _ (omega arith, tt),
+  tt,
+  tt,
 )
 
 pub whole_class : (s : Sort) → IsIn (class_after 0 s) whole_classes
@@ -269,6 +279,8 @@ whole_class ClientSeq = inl refl
 whole_class AdapterSeq = inr (inl refl)
 whole_class Frame = inr (inr (inl refl))
 whole_class Reference = inr (inr (inr (inl refl)))
+whole_class Thread = inr (inr (inr (inr (inl refl))))
+whole_class Breakpoint = inr (inr (inr (inr (inr (inl refl)))))
 
 pub whole_ids : (is : List (Sort × ℤ))
     → AllByRecursion (λ o. IsIn o.0 whole_classes) (map (occurrence 0) is)

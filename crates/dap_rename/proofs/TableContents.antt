@@ -1,4 +1,4 @@
--- What the four tables hold and give are the numbers of the classes and their names.
+-- What the tables hold and give are the numbers of the classes and their names.
 use Rattle.std.proofs.Common.{◌≡◌, ℕ, zero, suc, ◌≤◌, ℤ, pos, true, false, eqb, List, [], ◌∷◌, ◌++◌}
 use Rattle.std.proofs.Common.{length, map, zip, refl, sym, ◌∙◌, ap, arith, append_assoc, append-nil}
 use Rattle.std.specs.List.{position_or_len}
@@ -7,6 +7,7 @@ use Rattle.std.proofs.lemmas.Bool.{and_right, ne_eqb}
 use Rattle.dap_tree.specs.Ids.{ids, sorts_of, skeleton}
 use Rattle.dap_tree.specs.declared.sort.Sort.{Sort}
 use Rattle.dap_tree.specs.declared.sort.Sort.TheVariants.{ClientSeq, AdapterSeq, Frame, Reference}
+use Rattle.dap_tree.specs.declared.sort.Sort.TheVariants.{Thread, Breakpoint}
 use Rattle.dap_tree.proofs.Booleans.{and_both}
 use Rattle.dap_message.specs.Message.{Sent}
 use Rattle.dap_message.specs.Numbers.{is_proper_number, are_proper}
@@ -41,6 +42,10 @@ stand-added k l os Frame x Frame h =
     ap (λ t. add t x) (h Frame) ∙ sym (table-own (class_after k Frame) os x)
 stand-added k l os Reference x Reference h =
     ap (λ t. add t x) (h Reference) ∙ sym (table-own (class_after k Reference) os x)
+stand-added k l os Thread x Thread h =
+    ap (λ t. add t x) (h Thread) ∙ sym (table-own (class_after k Thread) os x)
+stand-added k l os Breakpoint x Breakpoint h =
+    ap (λ t. add t x) (h Breakpoint) ∙ sym (table-own (class_after k Breakpoint) os x)
 stand-added k l os s x r h = rw table-push (h r)
 
 pub name_is : (k : ℕ) (l : Lists) (os : List (Class × ℤ)) (i : Sort × ℤ) → StandAfter k l os
@@ -97,6 +102,10 @@ no_class s Frame k =
     and_right (eqb (sort_number s) 2) (eqb (suc k) 0) (ne_eqb (suc k) 0 (λ e. omega (arith, e)))
 no_class s Reference k =
     and_right (eqb (sort_number s) 3) (eqb (suc k) 0) (ne_eqb (suc k) 0 (λ e. omega (arith, e)))
+no_class s Thread k =
+    and_right (eqb (sort_number s) 4) (eqb (suc k) 0) (ne_eqb (suc k) 0 (λ e. omega (arith, e)))
+no_class s Breakpoint k =
+    and_right (eqb (sort_number s) 5) (eqb (suc k) 0) (ne_eqb (suc k) 0 (λ e. omega (arith, e)))
 
 -- there is no id of a later class
 pub none_of : (s : Sort) (k : ℕ) (is : List (Sort × ℤ)) (os : List (Class × ℤ))
@@ -114,6 +123,8 @@ first_class ClientSeq = refl
 first_class AdapterSeq = refl
 first_class Frame = refl
 first_class Reference = refl
+first_class Thread = refl
+first_class Breakpoint = refl
 
 -- ---- names, one message more
 
@@ -124,12 +135,16 @@ module _ {T : Type 0} (numbers_of : T → List ℤ) (limit : T → ℕ) where
   list_at t AdapterSeq = refl
   list_at t Frame = refl
   list_at t Reference = refl
+  list_at t Thread = refl
+  list_at t Breakpoint = refl
 
   pub limit_at : (t : Tables T) (s : Sort) → limit_of (limits limit t) s ≡ limit (table_of t s)
   limit_at t ClientSeq = refl
   limit_at t AdapterSeq = refl
   limit_at t Frame = refl
   limit_at t Reference = refl
+  limit_at t Thread = refl
+  limit_at t Breakpoint = refl
 
   -- what the tables of names that stand for the messages have
   abbrev pub Stand : Tables T → List Sent → Type 0

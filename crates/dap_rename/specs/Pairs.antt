@@ -5,6 +5,7 @@ use Rattle.std.specs.List.{list_any}
 use Rattle.std.specs.Ordering.{int_eq}
 use Rattle.dap_tree.specs.declared.sort.Sort.{Sort}
 use Rattle.dap_tree.specs.declared.sort.Sort.TheVariants.{ClientSeq, AdapterSeq, Frame, Reference}
+use Rattle.dap_tree.specs.declared.sort.Sort.TheVariants.{Thread, Breakpoint}
 use Rattle.dap_message.specs.Numbers.{is_proper_number}
 use Rattle.dap_rename.specs.Messages.{Class, IsProperId, sort_number}
 use Rattle.dap_rename.specs.Renamings.{IsRenaming, pairs_of_class}
@@ -73,4 +74,6 @@ equal_names f g =
     pairs_of_class (ClientSeq, 0) (f ClientSeq) (g ClientSeq)
     ++ (pairs_of_class (AdapterSeq, 0) (f AdapterSeq) (g AdapterSeq)
     ++ (pairs_of_class (Frame, 0) (f Frame) (g Frame)
-    ++ (pairs_of_class (Reference, 0) (f Reference) (g Reference) ++ [])))
+    ++ (pairs_of_class (Reference, 0) (f Reference) (g Reference)
+    ++ (pairs_of_class (Thread, 0) (f Thread) (g Thread)
+    ++ (pairs_of_class (Breakpoint, 0) (f Breakpoint) (g Breakpoint) ++ [])))))

@@ -64,6 +64,8 @@ impl<T: NameTable> Names<T> {
             Sort::AdapterSeq => self.tables.adapter_seq.len(),
             Sort::Frame => self.tables.frame.len(),
             Sort::Reference => self.tables.reference.len(),
+            Sort::Thread => self.tables.thread.len(),
+            Sort::Breakpoint => self.tables.breakpoint.len(),
         }
     }
 }

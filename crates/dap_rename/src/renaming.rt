@@ -93,6 +93,13 @@ impl Renaming {
         )?;
         add_pairs(&mut pairs, Sort::Frame, &from.frame, &to.frame)?;
         add_pairs(&mut pairs, Sort::Reference, &from.reference, &to.reference)?;
+        add_pairs(&mut pairs, Sort::Thread, &from.thread, &to.thread)?;
+        add_pairs(
+            &mut pairs,
+            Sort::Breakpoint,
+            &from.breakpoint,
+            &to.breakpoint,
+        )?;
         Ok(Renaming { pairs, index: None })
     }
 

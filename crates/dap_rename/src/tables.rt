@@ -15,6 +15,8 @@ pub struct Tables<T> {
     pub adapter_seq: T,
     pub frame: T,
     pub reference: T,
+    pub thread: T,
+    pub breakpoint: T,
 }
 
 // How many names each table has.
@@ -24,6 +26,8 @@ struct Lengths {
     adapter_seq: usize,
     frame: usize,
     reference: usize,
+    thread: usize,
+    breakpoint: usize,
 }
 
 impl<T: NameTable> Tables<T> {
@@ -89,6 +93,8 @@ impl<T: NameTable> Tables<T> {
             Sort::AdapterSeq => self.adapter_seq.name(id.1),
             Sort::Frame => self.frame.name(id.1),
             Sort::Reference => self.reference.name(id.1),
+            Sort::Thread => self.thread.name(id.1),
+            Sort::Breakpoint => self.breakpoint.name(id.1),
         }
     }
 
@@ -97,12 +103,16 @@ impl<T: NameTable> Tables<T> {
         ensures adapter_seq { result.adapter_seq ≡ length (T.numbers self.now.adapter_seq) }
         ensures frame { result.frame ≡ length (T.numbers self.now.frame) }
         ensures reference { result.reference ≡ length (T.numbers self.now.reference) }
+        ensures thread { result.thread ≡ length (T.numbers self.now.thread) }
+        ensures breakpoint { result.breakpoint ≡ length (T.numbers self.now.breakpoint) }
     {
         Lengths {
             client_seq: self.client_seq.len(),
             adapter_seq: self.adapter_seq.len(),
             frame: self.frame.len(),
             reference: self.reference.len(),
+            thread: self.thread.len(),
+            breakpoint: self.breakpoint.len(),
         }
     }
 
@@ -111,6 +121,8 @@ impl<T: NameTable> Tables<T> {
         requires adapter_seq { lengths.adapter_seq ≤ length (T.numbers self.old.adapter_seq) }
         requires frame { lengths.frame ≤ length (T.numbers self.old.frame) }
         requires reference { lengths.reference ≤ length (T.numbers self.old.reference) }
+        requires thread { lengths.thread ≤ length (T.numbers self.old.thread) }
+        requires breakpoint { lengths.breakpoint ≤ length (T.numbers self.old.breakpoint) }
         ensures client_seq { T.numbers self.new.client_seq
             ≡ take lengths.client_seq (T.numbers self.old.client_seq) }
         ensures adapter_seq { T.numbers self.new.adapter_seq
@@ -118,11 +130,17 @@ impl<T: NameTable> Tables<T> {
         ensures frame { T.numbers self.new.frame ≡ take lengths.frame (T.numbers self.old.frame) }
         ensures reference { T.numbers self.new.reference
             ≡ take lengths.reference (T.numbers self.old.reference) }
+        ensures thread { T.numbers self.new.thread
+            ≡ take lengths.thread (T.numbers self.old.thread) }
+        ensures breakpoint { T.numbers self.new.breakpoint
+            ≡ take lengths.breakpoint (T.numbers self.old.breakpoint) }
         ensures same_limits { limits T.limit self.new ≡ limits T.limit self.old }
     {
         self.client_seq.cut(lengths.client_seq);
         self.adapter_seq.cut(lengths.adapter_seq);
         self.frame.cut(lengths.frame);
         self.reference.cut(lengths.reference);
+        self.thread.cut(lengths.thread);
+        self.breakpoint.cut(lengths.breakpoint);
     }
 }

@@ -23,17 +23,29 @@ unfolding AllBegin
 cut-requires-clause-reference g c =
     omega (arith, c.name_all.ensures.begins.3.0, c.lengths-lengths.ensures.reference)
 
+pub cut-requires-clause-thread : goal.cut-requires-clause-thread
+unfolding AllBegin
+cut-requires-clause-thread g c =
+    omega (arith, c.name_all.ensures.begins.4.0, c.lengths-lengths.ensures.thread)
+
+pub cut-requires-clause-breakpoint : goal.cut-requires-clause-breakpoint
+unfolding AllBegin
+cut-requires-clause-breakpoint g c =
+    omega (arith, c.name_all.ensures.begins.5.0, c.lengths-lengths.ensures.breakpoint)
+
 pub returns-in-Err-clause-refused : goal.returns-in-Err-clause-refused
 unfolding AllBegin
 returns-in-Err-clause-refused g c =
     let b = c.name_all.ensures.begins in
     let m = c.lengths-lengths.ensures in
     let k = c.cut.ensures in
-    lists_equal _ _ _ _ _ _ _ _
+    lists_equal _ _
     (cut_back _ _ _ _ b.0 m.client_seq k.client_seq)
     (cut_back _ _ _ _ b.1 m.adapter_seq k.adapter_seq)
     (cut_back _ _ _ _ b.2 m.frame k.frame)
     (cut_back _ _ _ _ b.3 m.reference k.reference)
+    (cut_back _ _ _ _ b.4 m.thread k.thread)
+    (cut_back _ _ _ _ b.5 m.breakpoint k.breakpoint)
 
 pub returns-in-Ok-clause-fits : goal.returns-in-Ok-clause-fits
 returns-in-Ok-clause-fits g c =
