@@ -18,14 +18,13 @@ use Rattle.std.proofs.lemmas.Slice.Eq.{bytes_eq-Decides}
 use Rattle.std.specs.Cmp.Lexicographic.{slice_cmp}
 use Rattle.std.specs.Ordering.{match_ordering}
 use Rattle.dap_profile.specs.PlaceSteps.{PlaceStep, named, each}
-use Rattle.dap_profile.specs.Profile.{profile}
 use Rattle.dap_profile.specs.ProfileRows.{ProfileRow}
 use Rattle.dap_message.specs.Rows.{is_asked, is_text, is_true}
 use Rattle.dap_message.specs.Capabilities.{filled, with_capabilities, default_to, default_member}
 use Rattle.dap_message.specs.Capabilities.{is_given, false_members, false_at, capabilities}
 use Rattle.dap_message.specs.Capabilities.{tells_capabilities}
 use Rattle.dap_message.specs.Marks.{mark_by_rows}
-use Rattle.dap_message.specs.Marks.{marked, is_id_of, mark_rows, mark_row, edit, sort_of, mark}
+use Rattle.dap_message.specs.Marks.{marked, is_id_of, mark_rows, mark_row, edit, sort_of}
 use Rattle.dap_message.proofs.NameOrder.{itself, equal_at}
 use Rattle.dap_message.proofs.Edits.{by_bool}
 use Rattle.dap_message.proofs.Envelopes.{get-filled, given_other, apart}

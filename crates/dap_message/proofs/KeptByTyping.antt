@@ -23,7 +23,7 @@ use Rattle.dap_profile.specs.Profile.{profile}
 use Rattle.dap_profile.specs.ProfileRows.{ProfileRow}
 use Rattle.dap_message.specs.Rows.{is_asked, is_id_number}
 use Rattle.dap_message.specs.Marks.{mark_by_rows}
-use Rattle.dap_message.specs.Marks.{is_id_of, marked, edit, mark_rows, mark_row, sort_of, mark}
+use Rattle.dap_message.specs.Marks.{is_id_of, marked, edit, mark_rows, mark_row, sort_of}
 use Rattle.dap_message.specs.Capabilities.{default_to, false_at, capabilities, with_capabilities}
 use Rattle.dap_message.specs.Capabilities.{filled, tells_capabilities}
 use Rattle.dap_message.specs.Numbers.{is_proper, are_proper, is_proper_number}

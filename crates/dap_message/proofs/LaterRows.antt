@@ -2,11 +2,11 @@
 -- rows, also with other numbers at its ids.
 use Rattle.dap_tree.specs.Doc.{Doc, null, boolean, whole, text, list, object, id, Items, no_items}
 use Rattle.dap_tree.specs.Doc.{item, Members, no_members, member, change_member, change_child}
-use Rattle.dap_tree.specs.Doc.{map_items, change_items, is_plain, is_ordered, all_utf8}
+use Rattle.dap_tree.specs.Doc.{map_items, change_items, is_plain}
 use Rattle.dap_tree.specs.Ids.{ids, items_ids, members_ids, skeleton, items_skeleton}
 use Rattle.dap_tree.specs.Ids.{members_skeleton, without_ids, items_without_ids}
 use Rattle.dap_tree.specs.Ids.{members_without_ids}
-use Rattle.dap_tree.specs.Json.{text_of, IsRead}
+use Rattle.dap_tree.specs.Json.{text_of}
 use Rattle.dap_tree.specs.declared.side.Side.{Side}
 use Rattle.dap_tree.specs.declared.side.Side.TheVariants.{Client, Adapter}
 use Rattle.dap_tree.specs.declared.sort.Sort.{Sort}
@@ -27,7 +27,7 @@ use Rattle.dap_profile.specs.Profile.{profile, first_rows, later_rows}
 use Rattle.dap_profile.specs.ProfileRows.{ProfileRow}
 use Rattle.dap_profile.specs.declared.profile.Kind.{Kind}
 use Rattle.dap_message.specs.Capabilities.{filled}
-use Rattle.dap_message.specs.Faults.{Fits, FitsRows, fault}
+use Rattle.dap_message.specs.Faults.{Fits, FitsRows}
 use Rattle.dap_message.specs.LaterIds.{is_later_sort, first_ids, later_ids, with_later_ids}
 use Rattle.dap_message.specs.LaterIds.{HasLaterIds}
 use Rattle.dap_message.specs.Marks.{is_id_of, marked, edit, mark_row, mark_rows, mark_by_rows}

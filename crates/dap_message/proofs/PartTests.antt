@@ -12,13 +12,12 @@ use Rattle.std.specs.List.{list_all}
 use Rattle.std.specs.Option.{option_map_or}
 use Rattle.std.specs.Ordering.{match_ordering}
 use Rattle.dap_profile.specs.PlaceSteps.{PlaceStep, named, each}
-use Rattle.dap_profile.specs.Profile.{profile}
 use Rattle.dap_profile.specs.ProfileRows.{ProfileRow}
 use Rattle.dap_message.specs.Capabilities.{is_given, default_member, default_to, false_members}
 use Rattle.dap_message.specs.Capabilities.{false_at, capabilities, with_capabilities}
 use Rattle.dap_message.specs.Capabilities.{tells_capabilities}
 use Rattle.dap_message.specs.Marks.{mark_by_rows}
-use Rattle.dap_message.specs.Marks.{is_id_of, marked, edit, mark_row, mark_rows, mark, sort_of}
+use Rattle.dap_message.specs.Marks.{is_id_of, marked, edit, mark_row, mark_rows, sort_of}
 use Rattle.dap_message.specs.Message.{message_by_rows}
 use Rattle.dap_message.specs.Rows.{is_asked}
 use Rattle.dap_message.proofs.Edits.{by_bool}

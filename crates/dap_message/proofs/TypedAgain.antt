@@ -34,7 +34,7 @@ use Rattle.dap_message.specs.Capabilities.{capabilities, tells_capabilities, wit
 use Rattle.dap_message.specs.Capabilities.{filled}
 use Rattle.dap_message.specs.Faults.{fault, Fits, has_kind, row_broken}
 use Rattle.dap_message.specs.Marks.{mark_by_rows}
-use Rattle.dap_message.specs.Marks.{is_id_of, mark}
+use Rattle.dap_message.specs.Marks.{is_id_of}
 use Rattle.dap_message.specs.Message.{message_of, message_by_rows, IsTyped}
 use Rattle.dap_message.specs.Numbers.{has_id_numbers}
 use Rattle.dap_message.specs.Places.{parts_at, is_object}
