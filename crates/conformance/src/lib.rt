@@ -45,6 +45,8 @@ mod handed_refused_growths;
 #[cfg(test)]
 mod handed_tables;
 #[cfg(test)]
+mod later_ids;
+#[cfg(test)]
 mod name_tables;
 #[cfg(test)]
 mod normalise_refused_growths;

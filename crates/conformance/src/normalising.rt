@@ -3,6 +3,7 @@ use crate::checking::{nested, nested_behind};
 use crate::devices::whole;
 use crate::engines::{Engine, are_sound, normal_text};
 use crate::examples::{LIMITS, up_to, with_contents, with_ids};
+use crate::later_ids::{HIT, LISTED, NORMAL_HIT, NORMAL_LISTED};
 use crate::recordings::{
     CONFIGURATION_DONE, CONFIGURATION_DONE_RESPONSE, CONFIGURED, FILLED_RESPONSE, INITIALIZE,
     INITIALIZE_RESPONSE, INITIALIZED, Line, NORMAL_CONFIGURED, OUTPUT, STACK_TRACE, STOPPED,
@@ -20,7 +21,7 @@ const FRAMES: Line = (
 );
 
 /// Recordings and their normal forms.
-pub const NORMAL_FORMS: [(&[Line], &[Line]); 15] = [
+pub const NORMAL_FORMS: [(&[Line], &[Line]); 17] = [
     // The example of docs/NORMAL-FORM.md.
     (
         &[
@@ -259,6 +260,9 @@ pub const NORMAL_FORMS: [(&[Line], &[Line]); 15] = [
             ),
         ],
     ),
+    // Ids of threads, and of breakpoints.
+    (&LISTED, &NORMAL_LISTED),
+    (&HIT, &NORMAL_HIT),
     // No record.
     (&[], &[]),
     // Output before all else.
@@ -301,7 +305,7 @@ pub const NORMAL_FORMS: [(&[Line], &[Line]); 15] = [
 ];
 
 /// Recordings that are refused, the lines of the normal text that is written of each, and why.
-pub const REFUSED_CONTENTS: [(&[Line], &[Line], Refused); 9] = [
+pub const REFUSED_CONTENTS: [(&[Line], &[Line], Refused); 10] = [
     // A number with a fraction.
     (
         &[
@@ -341,6 +345,19 @@ pub const REFUSED_CONTENTS: [(&[Line], &[Line], Refused); 9] = [
         &[INITIALIZE, FILLED_RESPONSE],
         Refused::Message(3, MessageFault::Missing(13)),
     ),
+    // A stack is asked for, and of no thread.
+    (
+        &[
+            INITIALIZE,
+            INITIALIZE_RESPONSE,
+            (
+                ">",
+                "{\"arguments\":{},\"command\":\"stackTrace\",\"seq\":2,\"type\":\"request\"}",
+            ),
+        ],
+        &[INITIALIZE, FILLED_RESPONSE],
+        Refused::Message(3, MessageFault::Missing(141)),
+    ),
     // A second response.
     (
         &[INITIALIZE, INITIALIZE_RESPONSE, INITIALIZE_RESPONSE],
@@ -378,7 +395,7 @@ fn has_normal_text(alloc: Global, bytes: &[u8], text: &[u8]) -> bool {
 }
 
 /// Asks that bytes are normalised to this text.
-fn normalises(rt: &impl Abort, alloc: Global, bytes: &[u8], text: &[u8]) {
+pub fn normalises(rt: &impl Abort, alloc: Global, bytes: &[u8], text: &[u8]) {
     asks_memory(rt, alloc, Engine::Normalise, (bytes, LIMITS), Ok(()), text);
     assert!(rt; has_normal_text(alloc, bytes, text));
 }

@@ -18,8 +18,8 @@ use std::alloc::Global;
 /// ids count from 1.
 ///
 /// Each sort of ids counts by first appearance over the whole recording: the sequence numbers of
-/// each side, frame ids, and variables references, of which a 0 stays. Capabilities that an
-/// `initialize` response leaves out are false in it.
+/// each side, frame ids, variables references, of which a 0 stays, thread ids and breakpoint ids.
+/// Capabilities that an `initialize` response leaves out are false in it.
 ///
 /// # Errors
 ///
