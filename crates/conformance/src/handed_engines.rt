@@ -6,7 +6,8 @@ ghost use Rattle.dapnorm.specs.NameTables.{AreReady};
 use crate::name_tables::{indexed, plain};
 use dapnorm::{
     Checked, CompareRefused, Job, Limits, NameTable, Refused, Sink, Source, Tables, Verdict,
-    check_with, compare_with, normalise_with, run_compare_with, run_stream_with,
+    check_with, compare_with, normalise_with, run_compare_with, run_diff_with,
+    run_stream_with,
 };
 use std::alloc::Global;
 use std::hash::RandomState;
@@ -253,6 +254,60 @@ pub fn compare_status_with<A: Source, B: Source, W: Sink, E: Sink>(
             let of_a = indexed(alloc, limits, hasher);
             let of_b = indexed(alloc, limits, hasher);
             compare_stream_by(alloc, a, b, writer, errors, limits, of_a, of_b)
+        }
+    }
+}
+
+fn diff_stream_by<A: Source, B: Source, W: Sink, E: Sink, T: NameTable + Drop>(
+    alloc: Global,
+    a: &mut A,
+    b: &mut B,
+    writer: &mut W,
+    errors: &mut E,
+    limits: Limits,
+    tables_a: Tables<T>,
+    tables_b: Tables<T>,
+) -> u8
+    requires limits { AreSound limits }
+    requires tables_a { AreReady T.numbers T.limit limits tables_a }
+    requires tables_b { AreReady T.numbers T.limit limits tables_b }
+    requires given_a { A.given a.old < 2 ^ 62 }
+    requires given_b { B.given b.old < 2 ^ 62 }
+    requires failures_a { A.failures a.old < 2 ^ 62 }
+    requires failures_b { B.failures b.old < 2 ^ 62 }
+    requires write_failures { W.failures writer.old < 2 ^ 62 }
+    requires error_failures { E.failures errors.old < 2 ^ 62 }
+{
+    run_diff_with(alloc, a, b, writer, errors, limits, tables_a, tables_b)
+}
+
+/// The status of the program for two inputs whose difference is told.
+pub fn diff_status_with<A: Source, B: Source, W: Sink, E: Sink>(
+    handed: Handed,
+    alloc: Global,
+    a: &mut A,
+    b: &mut B,
+    writer: &mut W,
+    errors: &mut E,
+    limits: Limits,
+) -> u8
+    requires limits { AreSound limits }
+    requires given_a { A.given a.old < 2 ^ 62 }
+    requires given_b { B.given b.old < 2 ^ 62 }
+    requires failures_a { A.failures a.old < 2 ^ 62 }
+    requires failures_b { B.failures b.old < 2 ^ 62 }
+    requires write_failures { W.failures writer.old < 2 ^ 62 }
+    requires error_failures { E.failures errors.old < 2 ^ 62 }
+{
+    match handed {
+        Handed::Plain => {
+            let (of_a, of_b) = (plain(alloc, limits), plain(alloc, limits));
+            diff_stream_by(alloc, a, b, writer, errors, limits, of_a, of_b)
+        }
+        Handed::Indexed(hasher) => {
+            let of_a = indexed(alloc, limits, hasher);
+            let of_b = indexed(alloc, limits, hasher);
+            diff_stream_by(alloc, a, b, writer, errors, limits, of_a, of_b)
         }
     }
 }

@@ -1,9 +1,12 @@
 //! The engines with tables of names that they are handed: any table gives the answers that the
 //! engine's own gives.
-use crate::engines::{Engine, answer, are_sound, checked, compare_status, status, verdict};
+use crate::engines::{
+    Engine, answer, are_sound, checked, compare_status, diff_status, status, verdict,
+};
 use crate::examples::{LIMITS, LOOSE, up_to, with_contents, with_ids};
 use crate::handed_engines::{
-    Handed, checked_with, compare_status_with, normalised_with, status_with, verdict_with,
+    Handed, checked_with, compare_status_with, diff_status_with, normalised_with, status_with,
+    verdict_with,
 };
 use crate::recordings::{CONFIGURED, recording};
 use crate::runs::is_one;
@@ -157,11 +160,40 @@ fn both_printed(rt: &impl Abort, alloc: Global, names: Names, both: (&[u8], &[u8
     printed_of(rt, alloc, Some(status), (output.bytes(), errors.bytes()))
 }
 
+/// What the program prints of how two recordings differ.
+fn difference_printed(
+    rt: &impl Abort,
+    alloc: Global,
+    names: Names,
+    both: (&[u8], &[u8]),
+) -> Printed {
+    let (mut a, mut b) = (MemorySource::new(both.0), MemorySource::new(both.1));
+    let mut output = MemorySink::new(alloc, 4096).expect(rt, "no memory");
+    let mut errors = MemorySink::new(alloc, 4096).expect(rt, "no memory");
+    let status = match names {
+        None => diff_status(alloc, &mut a, &mut b, &mut output, &mut errors, LIMITS),
+        Some(handed) => {
+            diff_status_with(
+                handed,
+                alloc,
+                &mut a,
+                &mut b,
+                &mut output,
+                &mut errors,
+                LIMITS,
+            )
+        }
+    };
+    printed_of(rt, alloc, Some(status), (output.bytes(), errors.bytes()))
+}
+
 /// Asks that `compare`, and the program, answer with handed tables what they answer with their own.
 fn comparisons_agree(rt: &impl Abort, alloc: Global, both: (&[u8], &[u8]), handed: Handed) {
     assert!(rt; verdicts_agree(alloc, both, handed));
     let own = both_printed(rt, alloc, None, both);
     assert!(rt; both_printed(rt, alloc, Some(handed), both) == own);
+    let difference = difference_printed(rt, alloc, None, both);
+    assert!(rt; difference_printed(rt, alloc, Some(handed), both) == difference);
 }
 
 #[test]

@@ -1,6 +1,7 @@
 //! Tells how two recordings differ.
 ghost use Rattle.std.specs.Prelude.{◌+◌, ◌<◌, ◌≤◌, ◌^◌, IfOk};
 ghost use Rattle.dap_input.specs.Limits.{AreSound};
+ghost use Rattle.dap_normal.specs.NameTables.{AreReady};
 ghost use Rattle.dap_diff.specs.Diffs.{TellsDifference};
 ghost use Rattle.dap_diff.specs.Texts.{IsLeftText, TellsTexts};
 
@@ -11,6 +12,7 @@ use dap_compare::{CompareRefused, Verdict, compare_texts_with};
 use dap_device::Source;
 use dap_input::Limits;
 use dap_normal::index_tables;
+use dap_rename::{NameTable, Tables};
 use std::alloc::{AllocError, Global};
 
 /// The lines of the records that were left of A and of B.
@@ -63,6 +65,44 @@ pub fn diff<A: Source, B: Source>(
     ensures taken_a { A.given reader_a.new ≤ A.given reader_a.old + limits.input + 1 }
     ensures taken_b { B.given reader_b.new ≤ B.given reader_b.old + limits.input + 1 }
 {
+    diff_with(
+        alloc,
+        reader_a,
+        reader_b,
+        limits,
+        index_tables(alloc, limits),
+        index_tables(alloc, limits),
+    )
+}
+
+/// Does what [`diff`] does, with these tables for the names of the ids of A and of B. They have to
+/// be empty, each with the limit `limits.ids`.
+///
+/// # Errors
+///
+/// Those of [`diff`].
+pub fn diff_with<A: Source, B: Source, T: NameTable + Drop>(
+    alloc: Global,
+    reader_a: &mut A,
+    reader_b: &mut B,
+    limits: Limits,
+    tables_a: Tables<T>,
+    tables_b: Tables<T>,
+) -> Result<Diff, CompareRefused>
+    requires limits { AreSound limits }
+    requires tables_a { AreReady T.numbers T.limit limits tables_a }
+    requires tables_b { AreReady T.numbers T.limit limits tables_b }
+    requires given_a { A.given reader_a.old < 2 ^ 62 }
+    requires given_b { B.given reader_b.old < 2 ^ 62 }
+    requires failures_a { A.failures reader_a.old < 2 ^ 62 }
+    requires failures_b { B.failures reader_b.old < 2 ^ 62 }
+
+    // What `diff` promises, whatever the tables are.
+    ensures answer { TellsDifference A.Source B.Source limits reader_a.old reader_a.new
+        reader_b.old reader_b.new result }
+    ensures taken_a { A.given reader_a.new ≤ A.given reader_a.old + limits.input + 1 }
+    ensures taken_b { B.given reader_b.new ≤ B.given reader_b.old + limits.input + 1 }
+{
     let mut text_a = Vec::new(alloc);
     let mut text_b = Vec::new(alloc);
     let verdict = compare_texts_with(
@@ -70,8 +110,8 @@ pub fn diff<A: Source, B: Source>(
         reader_a,
         reader_b,
         limits,
-        index_tables(alloc, limits),
-        index_tables(alloc, limits),
+        tables_a,
+        tables_b,
         &mut text_a,
         &mut text_b,
     )?;

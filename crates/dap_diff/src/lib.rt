@@ -7,4 +7,4 @@ mod lines;
 mod reading;
 
 pub use answer::Diff;
-pub use diffing::diff;
+pub use diffing::{diff, diff_with};

@@ -3,14 +3,17 @@ ghost use Rattle.std.specs.Prelude.{◌≡◌, ◌+◌, ◌<◌, ◌≤◌, ◌^
 ghost use Rattle.dapnorm.specs.DiffRun.{DiffIsTold, diff_status, diff_text, first_line, lines_in};
 ghost use Rattle.dap_device.specs.Written.{HasSentAll};
 ghost use Rattle.dap_input.specs.Limits.{AreSound};
+ghost use Rattle.dap_normal.specs.NameTables.{AreReady};
 
 use crate::compare_run::{differ_line, refusal_status, same_line};
 use crate::fault_line::{LINE, tell, tell_of_input};
 use crate::status::{DIFFERENT, DONE, FAULT};
 use arrayvec::ArrayString;
 use dap_device::{DeviceFault, Sink, Source, write_all};
-use dap_diff::{Diff, diff};
+use dap_diff::{Diff, diff_with};
 use dap_input::{Limits, Refused};
+use dap_normal::index_tables;
+use dap_rename::{NameTable, Tables};
 use std::alloc::Global;
 
 /// The first line, with its LF.
@@ -86,7 +89,47 @@ pub fn run_diff<A: Source, B: Source, W: Sink, E: Sink>(
     ensures taken_a { A.given reader_a.new ≤ A.given reader_a.old + limits.input + 1 }
     ensures taken_b { B.given reader_b.new ≤ B.given reader_b.old + limits.input + 1 }
 {
-    let answer = match diff(alloc, reader_a, reader_b, limits) {
+    run_diff_with(
+        alloc,
+        reader_a,
+        reader_b,
+        writer,
+        errors,
+        limits,
+        index_tables(alloc, limits),
+        index_tables(alloc, limits),
+    )
+}
+
+/// Does what [`run_diff`] does, with these tables for the names of the ids of A and of B. They have
+/// to be empty, each with the limit `limits.ids`.
+pub fn run_diff_with<A: Source, B: Source, W: Sink, E: Sink, T: NameTable + Drop>(
+    alloc: Global,
+    reader_a: &mut A,
+    reader_b: &mut B,
+    writer: &mut W,
+    errors: &mut E,
+    limits: Limits,
+    tables_a: Tables<T>,
+    tables_b: Tables<T>,
+) -> u8
+    requires limits { AreSound limits }
+    requires tables_a { AreReady T.numbers T.limit limits tables_a }
+    requires tables_b { AreReady T.numbers T.limit limits tables_b }
+    requires given_a { A.given reader_a.old < 2 ^ 62 }
+    requires given_b { B.given reader_b.old < 2 ^ 62 }
+    requires failures_a { A.failures reader_a.old < 2 ^ 62 }
+    requires failures_b { B.failures reader_b.old < 2 ^ 62 }
+    requires write_failures { W.failures writer.old < 2 ^ 62 }
+    requires error_failures { E.failures errors.old < 2 ^ 62 }
+
+    // What `run_diff` promises, whatever the tables are.
+    ensures told { DiffIsTold A.Source B.Source W.Sink E.Sink limits reader_a.old reader_a.new
+        reader_b.old reader_b.new writer.old writer.new errors.old errors.new result }
+    ensures taken_a { A.given reader_a.new ≤ A.given reader_a.old + limits.input + 1 }
+    ensures taken_b { B.given reader_b.new ≤ B.given reader_b.old + limits.input + 1 }
+{
+    let answer = match diff_with(alloc, reader_a, reader_b, limits, tables_a, tables_b) {
         Ok(answer) => answer,
         Err(refused) => {
             tell_of_input(errors, refused);

@@ -9,7 +9,7 @@ ghost use Rattle.dapnorm.specs.NameTables.{AreReady};
 use dap_frame::FrameLimits;
 use dapnorm::{
     IndexNames, Job, Limits, StdSink, StdSource, Tables, UsageFault, job, run_compare_with,
-    run_diff, run_mask, run_stream_with, run_usage,
+    run_diff_with, run_mask, run_stream_with, run_usage,
 };
 use std::alloc::Global;
 use std::fs::File;
@@ -110,7 +110,7 @@ fn compare_files(rt: &HostRuntime, a: &str, b: &str, hasher: RandomState) -> u8 
 }
 
 /// Tells how the recordings of two files differ.
-fn diff_files(rt: &HostRuntime, a: &str, b: &str) -> u8 {
+fn diff_files(rt: &HostRuntime, a: &str, b: &str, hasher: RandomState) -> u8 {
     let file_a = match open_input(rt, a, "A") {
         Ok(file) => file,
         Err(status) => return status,
@@ -123,13 +123,15 @@ fn diff_files(rt: &HostRuntime, a: &str, b: &str) -> u8 {
     let mut reader_b = StdSource::new(file_b);
     let mut writer = StdSink::new(rt.stdout());
     let mut errors = StdSink::new(rt.stderr());
-    run_diff(
+    run_diff_with(
         rt.alloc(),
         &mut reader_a,
         &mut reader_b,
         &mut writer,
         &mut errors,
         LIMITS,
+        tables(rt.alloc(), LIMITS, hasher),
+        tables(rt.alloc(), LIMITS, hasher),
     )
 }
 
@@ -192,7 +194,7 @@ fn run_words(rt: &HostRuntime, alloc: Global, words: &[String]) -> u8 {
     };
     match job {
         Job::Compare { a, b } => compare_files(rt, a, b, hasher),
-        Job::Diff { a, b } => diff_files(rt, a, b),
+        Job::Diff { a, b } => diff_files(rt, a, b, hasher),
         Job::Mask { rules } => mask_by_file(rt, rules),
         job => perform(rt, &job, hasher),
     }

@@ -1,7 +1,7 @@
 use Rattle.std.proofs.Common.{sym, subst}
 use Rattle.dap_diff.specs.Texts.{IsLeftText, TellsTexts}
 use Rattle.dap_diff.proofs.Texts.{is_left, tells_record}
-use Rattle.dap_diff.proofs.diffing.diff.Goals as goal
+use Rattle.dap_diff.proofs.diffing.diff_with.Goals as goal
 
 pub returns-in-Same-clause-answer : goal.returns-in-Same-clause-answer
 returns-in-Same-clause-answer g c =
