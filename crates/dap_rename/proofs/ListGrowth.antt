@@ -82,10 +82,26 @@ pub cut_back : (old new cut : List ℤ) (k : ℕ) → Begins old new → k ≡ l
     → cut ≡ old
 cut_back old new cut k h e f = f ∙ rw e h.1
 
-pub lists_equal : (l m : Lists) → l.client_seq ≡ m.client_seq → l.adapter_seq ≡ m.adapter_seq
-    → l.frame ≡ m.frame → l.reference ≡ m.reference → l.thread ≡ m.thread
-    → l.breakpoint ≡ m.breakpoint → l ≡ m
-lists_equal l m a b c d e f = cc
+pub lists_equal : (a b c d e f u v w x y z : List ℤ) → a ≡ u → b ≡ v → c ≡ w → d ≡ x → e ≡ y → f ≡ z
+    →
+    ◌≡◌ {A = Lists}
+    (record {
+      client_seq = a;
+      adapter_seq = b;
+      frame = c;
+      reference = d;
+      thread = e;
+      breakpoint = f;
+    })
+    (record {
+      client_seq = u;
+      adapter_seq = v;
+      frame = w;
+      reference = x;
+      thread = y;
+      breakpoint = z;
+    })
+lists_equal a b c d e f u v w x y z h i j k l m = rw (h, i, j, k, l, m) refl
 
 -- ---- limits
 

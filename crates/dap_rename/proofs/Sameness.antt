@@ -1,7 +1,7 @@
 -- What it is to be the same: one skeleton and one list of names. From it the laws of fresh lists
 -- and of the normal form.
 use Rattle.std.proofs.Common.{◌≡◌, ℕ, suc, ℤ, pos, true, false, cond, List, [], ◌∷◌, ◌++◌, map}
-use Rattle.std.proofs.Common.{◌<◌, length, inl, inr, refl, sym, ◌∙◌, ap, subst, arith, true≢false}
+use Rattle.std.proofs.Common.{rules, ◌<◌, length, inl, inr, refl, sym, ◌∙◌, ap, subst, arith, true≢false}
 use Rattle.std.proofs.lemmas.List.{length-map, map-append}
 use Rattle.std.proofs.lemmas.Bool.Decides.{Decides-int_eq}
 use Rattle.std.specs.List.{list_any, AllByRecursion}
@@ -255,7 +255,12 @@ named_is_normal stop ms n p h e =
 pub other_class : (c d : Class) → (sort_number c.0 ≡ sort_number d.0 → ⊥) → c ≡ d → ⊥
 other_class c d n e = n (ap (λ (k : Class). sort_number k.0) e)
 
--- a class of a sort of lower number is none of these
+-- The sorts come in the order of their numbers, and each class is apart from those behind it.
+abbrev Ascending : List Class → Type 0
+Ascending [] = Unit {0}
+Ascending (c ∷ cs) = AllByRecursion (λ (d : Class). sort_number c.0 < sort_number d.0) cs
+    × Ascending cs
+
 apart_from : (c : Class) (cs : List Class)
     → AllByRecursion (λ (d : Class). sort_number c.0 < sort_number d.0) cs
     → AllByRecursion (λ d. c ≡ d → ⊥) cs
@@ -263,16 +268,15 @@ apart_from c [] h = tt
 apart_from c (d ∷ cs) h =
     (other_class c d (λ e. let less = h.0 in omega (arith, e, less)), apart_from c cs h.1)
 
+ascending_apart : (cs : List Class) → Ascending cs → Distinct cs
+ascending_apart [] h = tt
+ascending_apart (c ∷ cs) h = (apart_from c cs h.0, ascending_apart cs h.1)
+
+whole_ascending : Ascending whole_classes
+whole_ascending = search (rules, arith)
+
 pub whole_distinct : Distinct whole_classes
-whole_distinct = (
-  apart_from _ _ (omega arith, omega arith, omega arith, omega arith, omega arith, tt),
-  apart_from _ _ (omega arith, omega arith, omega arith, omega arith, tt),
-  apart_from _ _ (omega arith, omega arith, omega arith, tt),
-  apart_from _ _ (omega arith, omega arith, tt),
-  apart_from _ _ (omega arith, tt),
-  tt,
-  tt,
-)
+whole_distinct = ascending_apart whole_classes whole_ascending
 
 pub whole_class : (s : Sort) → IsIn (class_after 0 s) whole_classes
 whole_class ClientSeq = inl refl

@@ -39,7 +39,7 @@ returns-in-Err-clause-refused g c =
     let b = c.name_all.ensures.begins in
     let m = c.lengths-lengths.ensures in
     let k = c.cut.ensures in
-    lists_equal _ _
+    lists_equal _ _ _ _ _ _ _ _ _ _ _ _
     (cut_back _ _ _ _ b.0 m.client_seq k.client_seq)
     (cut_back _ _ _ _ b.1 m.adapter_seq k.adapter_seq)
     (cut_back _ _ _ _ b.2 m.frame k.frame)
