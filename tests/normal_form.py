@@ -1,4 +1,5 @@
 """Takes recordings through `normalise`: those of real adapters, a golden file, and the example of the document."""
+import hashlib
 import itertools
 import json
 import os
@@ -54,6 +55,21 @@ def captures(report):
     report.check("no other two do", len(set(normal.values())) == len(normal) - len(PAIRS))
 
 
+def old_golden_files(report):
+    """What the program wrote when its profile had 139 rows is normalised to what it writes now. Of the captures the digests were kept."""
+    digests = dict(reversed(line.split()) for line in read("examples", "captures", "normal-by-139-rows.sha256").decode().splitlines())
+    accepted = {name for name in os.listdir(CAPTURES) if name.endswith(".rec")} - set(REFUSED_RECORDINGS)
+    report.check("each capture that was accepted has a digest", digests.keys() == accepted, repr(sorted(digests)))
+    changed = set()
+    for name, digest in sorted(digests.items()):
+        recording = read("examples", "captures", name)
+        old, new = normalised(recording, first_rows=True), normalised(recording)
+        report.check(f"{name}: the script writes what the program wrote", hashlib.sha256(old).hexdigest() == digest)
+        report.check(f"{name}: its old golden file is normalised to the new one", run(["normalise"], old) == (0, new, b""))
+        changed |= {name} if old != new else set()
+    report.check("some have other numbers now", len(changed) == 7, repr(sorted(changed)))
+
+
 def golden_file(report):
     golden = read("examples", "dlv-stopentry.golden")
     for name in ("dlv-l-stopentry.3.rec", "dlv-l-stopentry.5.rec"):
@@ -87,6 +103,7 @@ def main():
         return report.close()
     captures(report)
     golden_file(report)
+    old_golden_files(report)
     example(report)
     return report.close()
 

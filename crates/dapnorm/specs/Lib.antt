@@ -24,6 +24,7 @@ pub use Rattle.dap_normal.specs.HeldMessages
 pub use Rattle.dap_normal.specs.NameTables
 pub use Rattle.dap_normal.specs.Normalised
 pub use Rattle.dap_normal.specs.Normalising
+pub use Rattle.dap_normal.specs.OldGoldenFiles
 pub use Rattle.dap_normal.specs.Streaming
 pub use Rattle.dap_rows.specs.RowLines
 pub use Rattle.dap_show.specs.Showing
