@@ -339,7 +339,12 @@ const THREADS_MARKED: [Marked; 7] = [
             Adapter,
             "{\"body\":{\"threads\":[{\"id\":7,\"name\":\"m\"},{\"id\":4,\"name\":\"w\"}]},\"command\":\"threads\",\"request_seq\":2,\"seq\":2,\"success\":true,\"type\":\"response\"}",
         ),
-        &[(Sort::Thread, 7), (Sort::Thread, 4), (Sort::ClientSeq, 2), (Sort::AdapterSeq, 2)],
+        &[
+            (Sort::Thread, 7),
+            (Sort::Thread, 4),
+            (Sort::ClientSeq, 2),
+            (Sort::AdapterSeq, 2),
+        ],
     ),
     (
         (
@@ -360,7 +365,12 @@ const THREADS_MARKED: [Marked; 7] = [
             Client,
             "{\"arguments\":{\"threadIds\":[3,0,-1]},\"command\":\"terminateThreads\",\"seq\":3,\"type\":\"request\"}",
         ),
-        &[(Sort::Thread, 3), (Sort::Thread, 0), (Sort::Thread, -1), (Sort::ClientSeq, 3)],
+        &[
+            (Sort::Thread, 3),
+            (Sort::Thread, 0),
+            (Sort::Thread, -1),
+            (Sort::ClientSeq, 3),
+        ],
     ),
     (
         (
@@ -449,21 +459,34 @@ const BREAKPOINTS_MARKED: [Marked; 6] = [
             Adapter,
             "{\"body\":{\"hitBreakpointIds\":[9,12],\"reason\":\"breakpoint\",\"threadId\":7},\"event\":\"stopped\",\"seq\":3,\"type\":\"event\"}",
         ),
-        &[(Sort::Breakpoint, 9), (Sort::Breakpoint, 12), (Sort::Thread, 7), (Sort::AdapterSeq, 3)],
+        &[
+            (Sort::Breakpoint, 9),
+            (Sort::Breakpoint, 12),
+            (Sort::Thread, 7),
+            (Sort::AdapterSeq, 3),
+        ],
     ),
     (
         (
             Adapter,
             "{\"body\":{\"breakpoints\":[{\"id\":0,\"verified\":true},{\"verified\":false}]},\"command\":\"setBreakpoints\",\"request_seq\":2,\"seq\":3,\"success\":true,\"type\":\"response\"}",
         ),
-        &[(Sort::Breakpoint, 0), (Sort::ClientSeq, 2), (Sort::AdapterSeq, 3)],
+        &[
+            (Sort::Breakpoint, 0),
+            (Sort::ClientSeq, 2),
+            (Sort::AdapterSeq, 3),
+        ],
     ),
     (
         (
             Adapter,
             "{\"body\":{\"breakpoints\":[{\"id\":5}]},\"command\":\"setExceptionBreakpoints\",\"request_seq\":2,\"seq\":3,\"success\":true,\"type\":\"response\"}",
         ),
-        &[(Sort::Breakpoint, 5), (Sort::ClientSeq, 2), (Sort::AdapterSeq, 3)],
+        &[
+            (Sort::Breakpoint, 5),
+            (Sort::ClientSeq, 2),
+            (Sort::AdapterSeq, 3),
+        ],
     ),
     (
         (
