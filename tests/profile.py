@@ -10,7 +10,7 @@ DOCUMENT = os.path.join(TOP, "docs", "PROFILE.md")
 BEGIN = "<!-- rows: begin -->"
 END = "<!-- rows: end -->"
 
-ROW = re.compile(r"^\s*(\d+) (every|request|response|event)(?:\(\"(\w+)\"\))? (Member|Inner|Element|Part)\(([^)]*)\) (\w+) (needed|optional);$")
+ROW = re.compile(r"^\s*(\d+) (every|request|response|event)(?:\(\"(\w+)\"\))? (Member|Inner|Element|Part|Deep)\(([^)]*)\) (\w+) (needed|optional);$")
 COUNT = re.compile(r"^pub static PROFILE: \[Row; (\d+)\]", re.MULTILINE)
 
 WANTS = {
@@ -23,6 +23,8 @@ WANTS = {
     "OtherSeq": "a sequence number of the other side",
     "Frame": "a frame id",
     "Reference": "a variables reference",
+    "Thread": "a thread id",
+    "Breakpoint": "a breakpoint id",
 }
 
 # Rows that ask less than the protocol's schema and its text do.

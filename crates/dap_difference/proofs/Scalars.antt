@@ -6,6 +6,7 @@ use Rattle.std.proofs.lemmas.Slice.Eq.{bytes_eq-Decides}
 use Rattle.std.specs.Ordering.{int_eq}
 use Rattle.dap_tree.specs.declared.sort.Sort.{Sort}
 use Rattle.dap_tree.specs.declared.sort.Sort.TheVariants.{ClientSeq, AdapterSeq, Frame, Reference}
+use Rattle.dap_tree.specs.declared.sort.Sort.TheVariants.{Thread, Breakpoint}
 use Rattle.dap_tree.specs.Doc.{Doc, null, boolean, whole, text, list, object, id}
 use Rattle.dap_tree.proofs.Booleans.{and_left, and_right, and_both}
 use Rattle.dap_difference.specs.Differences.{have_parts, form}
@@ -21,6 +22,8 @@ sort_is ClientSeq ClientSeq h = refl
 sort_is AdapterSeq AdapterSeq h = refl
 sort_is Frame Frame h = refl
 sort_is Reference Reference h = refl
+sort_is Thread Thread h = refl
+sort_is Breakpoint Breakpoint h = refl
 sort_is s t h = absurd cc
 
 pub same_is : (d e : Doc) → same_scalar d e ≡ true → d ≡ e
@@ -42,6 +45,8 @@ sort_itself ClientSeq = refl
 sort_itself AdapterSeq = refl
 sort_itself Frame = refl
 sort_itself Reference = refl
+sort_itself Thread = refl
+sort_itself Breakpoint = refl
 
 itself : (d : Doc) → have_parts (Some d) (Some d) ≡ false → same_scalar d d ≡ true
 itself null h = refl

@@ -5,6 +5,7 @@ use Rattle.std.specs.Cmp.Lexicographic.{slice_cmp}
 use Rattle.std.specs.Ordering.{nat_cmp, match_ordering, int_eq}
 use Rattle.dap_tree.specs.declared.sort.Sort.{Sort}
 use Rattle.dap_tree.specs.declared.sort.Sort.TheVariants.{ClientSeq, AdapterSeq, Frame, Reference}
+use Rattle.dap_tree.specs.declared.sort.Sort.TheVariants.{Thread, Breakpoint}
 use Rattle.dap_tree.specs.Doc.{Doc, null, boolean, whole, text, list, object, id, Items, no_items}
 use Rattle.dap_tree.specs.Doc.{item, Members, no_members, member}
 use Rattle.dap_tree.specs.Path.{Step, name, place}
@@ -20,6 +21,8 @@ same_sort ClientSeq ClientSeq = true
 same_sort AdapterSeq AdapterSeq = true
 same_sort Frame Frame = true
 same_sort Reference Reference = true
+same_sort Thread Thread = true
+same_sort Breakpoint Breakpoint = true
 same_sort _ _ = false
 
 -- The two are the same, and have no parts.

@@ -11,6 +11,7 @@ use Rattle.dap_message.specs.Rows.{is_asked}
 use Rattle.dap_profile.specs.declared.profile.Kind.{Kind}
 use Rattle.dap_profile.specs.declared.profile.Want.{Want}
 use Rattle.dap_profile.specs.declared.profile.Want.TheVariants.{OwnSeq, OtherSeq, Frame, Reference}
+use Rattle.dap_profile.specs.declared.profile.Want.TheVariants.{Thread, Breakpoint}
 use Rattle.dap_mask.specs.Rules.{Rule, same_place, same_kind, share_name}
 use Rattle.dap_mask.specs.Masked.{left}
 
@@ -20,6 +21,8 @@ wants_id OwnSeq = true
 wants_id OtherSeq = true
 wants_id Frame = true
 wants_id Reference = true
+wants_id Thread = true
+wants_id Breakpoint = true
 wants_id _ = false
 
 -- Some message may be one of the rule and of the row.

@@ -45,7 +45,12 @@ fn wants_id(want: Want) -> bool
     ensures { result ≡ wants_id want }
 {
     match want {
-        Want::OwnSeq | Want::OtherSeq | Want::Frame | Want::Reference => true,
+        Want::OwnSeq
+        | Want::OtherSeq
+        | Want::Frame
+        | Want::Reference
+        | Want::Thread
+        | Want::Breakpoint => true,
         Want::Bool | Want::Whole | Want::Text | Want::Object | Want::List => false,
     }
 }
@@ -80,6 +85,12 @@ fn is_at(place: &[Step], row_place: Place) -> bool
                     RowStep::Each,
                     RowStep::Member(c),
                 ],
+            )
+        }
+        Place::Deep(a, b, c) => {
+            is_same(
+                place,
+                &[RowStep::Member(a), RowStep::Member(b), RowStep::Member(c)],
             )
         }
     }

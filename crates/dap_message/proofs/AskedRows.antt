@@ -17,7 +17,9 @@ use Rattle.dap_message.specs.AskedRows.{asked_rows, kind_typed, kind_told, name_
 use Rattle.dap_message.specs.AskedRows.{first_by, mark_by, marks_by}
 use Rattle.dap_message.specs.Capabilities.{tells_capabilities, filled}
 use Rattle.dap_message.specs.Envelope.{text_value}
+use Rattle.dap_message.specs.Faults.{broken_by_rows}
 use Rattle.dap_message.specs.Faults.{fault, row_broken, has_kind}
+use Rattle.dap_message.specs.Marks.{mark_by_rows}
 use Rattle.dap_message.specs.Marks.{sort_of, marked, edit, mark_row, mark_rows, mark}
 use Rattle.dap_message.specs.Message.{Refuses}
 use Rattle.dap_message.specs.Places.{is_object}
@@ -48,7 +50,7 @@ first-asked (r ∷ rs) d =
     go false rest = refl
 
 pub broken-asked : (d : Doc) → row_broken d ≡ first_by (asked_rows d) d
-unfolding row_broken asked_rows
+unfolding broken_by_rows asked_rows
 broken-asked d = first-asked profile d
 
 marks-asked : (rs : List ProfileRow) (side : Side) (d e : Doc) → AskedAlike d e
@@ -77,7 +79,7 @@ marks-asked (r ∷ rs) side d e h =
     go false rest = refl
 
 pub mark-asked : (side : Side) (d : Doc) → mark side d ≡ marks_by (asked_rows d) side d
-unfolding mark asked_rows
+unfolding mark_by_rows asked_rows
 mark-asked side d = marks-asked profile side d d (λ k n. refl)
 
 -- ---- the kind and the name tell the rows

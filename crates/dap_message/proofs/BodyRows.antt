@@ -8,7 +8,7 @@ use Rattle.std.proofs.Common.{sym, ◌∙◌, ap, ap₂, bytes_eq, true≢false}
 use Rattle.std.specs.Option.{option_map_or, option_or}
 use Rattle.std.proofs.lemmas.Slice.Eq.{bytes_eq-Decides}
 use Rattle.dap_profile.specs.PlaceSteps.{PlaceStep, named, each}
-use Rattle.dap_profile.specs.Profile.{profile}
+use Rattle.dap_profile.specs.Profile.{first_rows, later_rows}
 use Rattle.dap_profile.specs.ProfileRows.{ProfileRow}
 use Rattle.dap_profile.specs.declared.profile.Kind.{Kind}
 use Rattle.dap_profile.specs.declared.profile.Kind.TheVariants.{Request, Response, Event}
@@ -328,21 +328,30 @@ body_was d t ob h =
     rw ob at o in
     one_cause (cause_against Object false (get (codes "body") d)) c
 
--- the profile: rows that the body does not touch, the body's row, and those of the capabilities
+-- the first profile: rows that the body does not touch, the body's row, and those of the
+-- capabilities
 abbrev pub before_body : List ProfileRow
-before_body = take 49 profile
+before_body = take 49 first_rows
 
 abbrev pub after_body : List ProfileRow
-after_body = take 54 (drop 50 profile)
+after_body = take 54 (drop 50 first_rows)
 
-pub profile_is : profile ≡ before_body ++ row_50 ∷ after_body ++ capability_rows 105 capabilities
-unfolding profile
-profile_is = refl
+abbrev pub body_rows : List ProfileRow
+body_rows = row_50 ∷ (after_body ++ capability_rows 105 capabilities)
+
+pub first_is : first_rows ≡ before_body ++ body_rows
+unfolding first_rows
+first_is = refl
 
 pub calm_before : all_calm before_body ≡ true
-unfolding profile
+unfolding first_rows
 calm_before = refl
 
 pub calm_after : all_calm after_body ≡ true
-unfolding profile
+unfolding first_rows
 calm_after = refl
+
+-- no later row is asked of a successful answer to `initialize`
+pub calm_later : all_calm later_rows ≡ true
+unfolding later_rows
+calm_later = refl

@@ -10,6 +10,7 @@ use Rattle.dap_tree.specs.declared.sort.Sort.TheVariants.{Reference}
 use Rattle.dap_tree.proofs.Outcomes.{read_once, one_outcome, some_outcome, read_is_plain}
 use Rattle.dap_tree.proofs.MemberOrder.{read_is_ordered}
 use Rattle.dap_tree.proofs.Utf8.{read_is_utf8}
+use Rattle.dap_profile.specs.Profile.{profile}
 use Rattle.dap_profile.specs.declared.profile.Kind.{Kind}
 use Rattle.dap_profile.specs.declared.profile.Kind.TheVariants.{Request, Response, Event}
 use Rattle.dap_message.specs.Message.{IsTypedBack, IsRenumberedBack}
@@ -120,18 +121,18 @@ typed_proper side d m plain h c =
 
 pub typed_sound : (side : Side) (d m : Doc) → is_plain d ≡ true → IsTyped side d m
     → is_sound m ≡ true
-typed_sound side d m plain h = ap is_sound h.1 ∙ sound-message side d plain
+typed_sound side d m plain h = ap is_sound h.1 ∙ sound-message profile side d plain
 
 pub typed_enveloped : (side : Side) (d m : Doc) → IsTyped side d m → has_envelope m ≡ true
 typed_enveloped side d m h = ap has_envelope h.1 ∙ enveloped-message side d h.0
 
 pub typed_ordered : (side : Side) (d m : Doc) → is_ordered d ≡ true → IsTyped side d m
     → is_ordered m ≡ true
-typed_ordered side d m ordered h = ap is_ordered h.1 ∙ ordered-message side d ordered
+typed_ordered side d m ordered h = ap is_ordered h.1 ∙ ordered-message profile side d ordered
 
 pub typed_utf8 : (side : Side) (d m : Doc) → all_utf8 d ≡ true → IsTyped side d m
     → all_utf8 m ≡ true
-typed_utf8 side d m utf8 h = ap all_utf8 h.1 ∙ utf8-message side d utf8
+typed_utf8 side d m utf8 h = ap all_utf8 h.1 ∙ utf8-message profile side d utf8
 
 pub content_well_formed : (side : Side) (bytes : List ℕ) (m : Doc) → IsTypedContent side bytes m
     → IsWellFormed m
@@ -157,8 +158,8 @@ pub content_renumbered : (side : Side) (bytes : List ℕ) (m n : Doc) → IsType
 content_renumbered side bytes m n (d, reads, h) same fit =
     let plain = read_is_plain bytes d reads in (
       without_ids n,
-      text_again side d n plain (read_is_ordered bytes d reads) (read_is_utf8 bytes d reads) (same
-          ∙ ap skeleton h.1) fit,
+      text_again profile side d n plain (read_is_ordered bytes d reads)
+          (read_is_utf8 bytes d reads) (same ∙ ap skeleton h.1) fit,
       document_renumbered side d m n plain h same fit,
     )
 
@@ -175,8 +176,8 @@ content_again side bytes m n h same small =
 pub own_again : (side : Side) (d m : Doc) → is_plain d ≡ true → IsTyped side d m
     → IsTyped side (without_ids m) m
 own_again side d m plain h =
-    let numbers : without_ids m ≡ filled side d = ap without_ids h.1 ∙ numbers-again side d
-    plain in (
+    let numbers : without_ids m ≡ filled side d =
+    ap without_ids h.1 ∙ numbers-again profile side d plain in (
       ap fault numbers ∙ fault-filled side d h.0,
       h.1 ∙ ap (mark side) (sym (filled-again side d))
           ∙ ap (message_of side) (sym numbers),
@@ -237,7 +238,8 @@ skeleton_tells m n h = (
 pub typed_back : (side : Side) (m : Doc) (bytes : List ℕ) → IsRead bytes (without_ids m)
     → IsTypedBack side m bytes
 typed_back side m bytes reads d plain h =
-    let numbers : without_ids m ≡ filled side d = ap without_ids h.1 ∙ numbers-again side d plain in
+    let numbers : without_ids m ≡ filled side d =
+    ap without_ids h.1 ∙ numbers-again profile side d plain in
     (without_ids m, reads, own_again side d m plain h)
 
 pub renumbered_back : (side : Side) (n : Doc) (bytes : List ℕ) → IsRead bytes (without_ids n)

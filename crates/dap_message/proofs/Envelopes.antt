@@ -18,7 +18,7 @@ use Rattle.std.proofs.lemmas.Slice.Eq.{bytes_eq-Decides}
 use Rattle.std.specs.Cmp.Lexicographic.{slice_cmp}
 use Rattle.std.specs.Ordering.{match_ordering}
 use Rattle.dap_profile.specs.PlaceSteps.{named}
-use Rattle.dap_profile.specs.Profile.{profile}
+use Rattle.dap_profile.specs.Profile.{profile, first_rows, later_rows}
 use Rattle.dap_profile.specs.ProfileRows.{ProfileRow}
 use Rattle.dap_profile.specs.declared.profile.Kind.{Kind}
 use Rattle.dap_profile.specs.declared.profile.Kind.TheVariants.{Request, Response, Event}
@@ -29,9 +29,11 @@ use Rattle.dap_message.specs.Places.{is_object, fits_place}
 use Rattle.dap_message.specs.Rows.{row_fault, first_fault, of_row, is_asked, is_of_kind, name_key}
 use Rattle.dap_message.specs.Rows.{type_name, is_text, has_type, cause_against, broken_at}
 use Rattle.dap_message.specs.Rows.{first_cause, is_null, is_id_number}
+use Rattle.dap_message.specs.Faults.{broken_by_rows}
 use Rattle.dap_message.specs.Faults.{fault, row_broken, has_kind}
 use Rattle.dap_message.specs.Capabilities.{filled, with_capabilities, default_to, is_given}
 use Rattle.dap_message.specs.Capabilities.{false_at, capabilities, tells_capabilities}
+use Rattle.dap_message.specs.Marks.{mark_by_rows}
 use Rattle.dap_message.specs.Marks.{made, made_by, marked, is_id_of, mark_rows, top, sort_of, mark}
 use Rattle.dap_message.specs.Envelope.{has_envelope, is_named, text_value, boolean_value, id_number}
 use Rattle.dap_message.specs.Envelope.{seq_of}
@@ -444,7 +446,7 @@ row_6 = record {
 
 seq_there : (side : Side) (d : Doc) → is_object d ≡ true → first_fault profile d ≡ None
     → is_some (seq_of (mark_rows profile side (filled side d))) ≡ true
-unfolding profile
+unfolding profile first_rows later_rows
 seq_there side d ob h =
     let s = row_free 1 None None (codes "seq") OwnSeq d ob refl (free_at 0 profile row_1 d h refl)
     in
@@ -486,7 +488,7 @@ words_there side d n kd k ob is away free =
 success_there : (side : Side) (d : Doc) → is_object d ≡ true → is_of_kind Response d ≡ true
     → first_fault profile d ≡ None
     → is_some (boolean_value (get (codes "success") (After side d))) ≡ true
-unfolding profile
+unfolding profile first_rows later_rows
 success_there side d ob is h =
     let s = row_free 5 (Some Response) None (codes "success") WantBool d ob is
     (free_at 4 profile row_5 d h refl) in
@@ -497,7 +499,7 @@ success_there side d ob is h =
 request_seq_there : (side : Side) (d : Doc) → is_object d ≡ true → is_of_kind Response d ≡ true
     → first_fault profile d ≡ None
     → is_some (id_number (get (codes "request_seq") (After side d))) ≡ true
-unfolding profile
+unfolding profile first_rows later_rows
 request_seq_there side d ob is h =
     let s = row_free 4 (Some Response) None (codes "request_seq") OtherSeq d ob is
     (free_at 3 profile row_4 d h refl) in
@@ -540,12 +542,12 @@ fault_parts true false o x y h = cc
 fault_parts false b o x y h = cc
 
 pub rows_free : (d : Doc) → row_broken d ≡ None → first_fault profile d ≡ None
-unfolding row_broken
+unfolding broken_by_rows
 rows_free d h = h
 
 enveloped : (side : Side) (d : Doc) → is_object d ≡ true → has_kind d ≡ true
     → first_fault profile d ≡ None → has_envelope (After side d) ≡ true
-unfolding profile
+unfolding profile first_rows later_rows
 enveloped side d ob known h =
     let e = After side d in
     let a = is_named Request e in
@@ -577,7 +579,7 @@ enveloped side d ob known h =
 
 pub enveloped-message : (side : Side) (d : Doc) → fault d ≡ None
     → has_envelope (mark side (filled side d)) ≡ true
-unfolding mark
+unfolding mark_by_rows
 enveloped-message side d h =
     let p = fault_parts (is_object d) (has_kind d) (row_broken d) MessageFault.UnknownType
     MessageFault.NotObject h in

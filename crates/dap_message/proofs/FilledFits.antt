@@ -4,13 +4,15 @@ use Rattle.dap_tree.specs.Doc.{change_child}
 use Rattle.dap_tree.specs.declared.side.Side.{Side}
 use Rattle.dap_tree.specs.declared.side.Side.TheVariants.{Client, Adapter}
 use Rattle.dap_tree.proofs.Paths.{get-change}
-use Rattle.std.proofs.Common.{◌≡◌, ℕ, Bool, true, false, cond, ◌||◌, List, ◌∷◌, ◌++◌, Some, None}
+use Rattle.std.proofs.Common.{◌≡◌, ℕ, Bool, true, false, cond, ◌||◌, List, Some, None}
 use Rattle.std.proofs.Common.{option_map, codes, refl, sym, ◌∙◌, ap}
 use Rattle.std.specs.Option.{option_or}
-use Rattle.dap_profile.specs.Profile.{profile}
+use Rattle.dap_profile.specs.Profile.{profile, first_rows, later_rows}
+use Rattle.dap_profile.specs.ProfileRows.{ProfileRow}
 use Rattle.dap_message.specs.Places.{is_object}
 use Rattle.dap_message.specs.Rows.{first_fault, row_fault, is_text}
-use Rattle.dap_message.specs.Faults.{fault, row_broken, has_kind}
+use Rattle.dap_message.specs.Faults.{broken_by_rows}
+use Rattle.dap_message.specs.Faults.{fault, row_broken, has_kind, Fits, FitsRows}
 use Rattle.dap_message.specs.declared.fault.MessageFault.TheVariants.{NotObject, UnknownType}
 use Rattle.dap_message.specs.Capabilities.{filled, with_capabilities, default_to, false_at}
 use Rattle.dap_message.specs.Capabilities.{false_members, capabilities, tells_capabilities}
@@ -19,7 +21,7 @@ use Rattle.dap_message.proofs.Envelopes.{get-filled, fault_free, fault_parts, ro
 use Rattle.dap_message.proofs.BodyRows.{AlikeOutside, Tells, calm_rows, both_free, first-append}
 use Rattle.dap_message.proofs.BodyRows.{capability_rows, capabilities_free, body_free, body_was}
 use Rattle.dap_message.proofs.BodyRows.{body_case, get-default, row_50, before_body, after_body}
-use Rattle.dap_message.proofs.BodyRows.{profile_is, calm_before, calm_after}
+use Rattle.dap_message.proofs.BodyRows.{body_rows, first_is, calm_before, calm_after, calm_later}
 
 object-change : (k : List ℕ) (f : Doc → Doc) (d : Doc)
     → is_object (change_child k f d) ≡ is_object d
@@ -57,23 +59,27 @@ body-filled d ob =
     get-change (codes "body") (false_at capabilities)
     (default_to (codes "body") (object no_members) d)
 
-split : (d : Doc) → first_fault profile d
+split : (d : Doc) → first_fault first_rows d
     ≡ option_or (first_fault before_body d)
     (option_or (row_fault row_50 d)
     (option_or (first_fault after_body d) (first_fault (capability_rows 105 capabilities) d)))
-unfolding profile
 split d =
-    ap (λ rs. first_fault rs d) profile_is
-    ∙ first-append before_body (row_50 ∷ after_body ++ capability_rows 105 capabilities) d
+    ap (λ rs. first_fault rs d) first_is
+    ∙ first-append before_body body_rows d
     ∙ ap (λ o. option_or (first_fault before_body d) (option_or (row_fault row_50 d) o))
     (first-append after_body (capability_rows 105 capabilities) d)
 
-rows_kept : (d e : Doc) → AlikeOutside d e → Tells d → is_object d ≡ true → is_object e ≡ true
+-- the rows are not broken by capabilities that are filled in
+abbrev pub AreKept : List ProfileRow → Type 0
+AreKept rows =
+    (d e : Doc) → AlikeOutside d e → Tells d → is_object d ≡ true → is_object e ≡ true
     → get (codes "body") e
     ≡ option_map (false_at capabilities)
     (get (codes "body") (default_to (codes "body") (object no_members) d))
-    → first_fault profile d ≡ None → first_fault profile e ≡ None
-rows_kept d e a t ob oe body h =
+    → first_fault rows d ≡ None → first_fault rows e ≡ None
+
+pub first_kept : AreKept first_rows
+first_kept d e a t ob oe body h =
     let p = fault_free (first_fault before_body d)
     (option_or (row_fault row_50 d)
     (option_or (first_fault after_body d) (first_fault (capability_rows 105 capabilities) d)))
@@ -94,9 +100,31 @@ rows_kept d e a t ob oe body h =
     (calm_rows after_body d e a t calm_after r.0)
     (capabilities_free 105 capabilities d e b.0 t is b.2 r.1)))
 
+profile_split : (d : Doc)
+    → first_fault profile d ≡ option_or (first_fault first_rows d) (first_fault later_rows d)
+unfolding profile
+profile_split d = first-append first_rows later_rows d
+
+pub rows_kept : AreKept profile
+rows_kept d e a t ob oe body h =
+    let p = fault_free (first_fault first_rows d) (first_fault later_rows d)
+    (sym (profile_split d) ∙ h) in
+    profile_split e
+    ∙ both_free (first_fault first_rows e) (first_fault later_rows e)
+    (first_kept d e a t ob oe body p.0) (calm_rows later_rows d e a t calm_later p.1)
+
 pub rows_broken : (d : Doc) → first_fault profile d ≡ None → row_broken d ≡ None
-unfolding row_broken
+unfolding broken_by_rows
 rows_broken d h = h
+
+-- a document that fits the profile fits the first one
+pub first_fits : (d : Doc) → Fits d → FitsRows first_rows d
+unfolding broken_by_rows
+first_fits d h =
+    let p = fault_parts (is_object d) (has_kind d) (first_fault profile d) UnknownType NotObject h in
+    let q = fault_free (first_fault first_rows d) (first_fault later_rows d)
+    (sym (profile_split d) ∙ p.2) in
+    rw (p.0, p.1) q.0
 
 pub faultless : (d : Doc) → is_object d ≡ true → has_kind d ≡ true → row_broken d ≡ None
     → fault d ≡ None

@@ -18,13 +18,13 @@ use Rattle.std.proofs.lemmas.Slice.Eq.{bytes_eq-Decides}
 use Rattle.std.specs.Cmp.Lexicographic.{slice_cmp}
 use Rattle.std.specs.Ordering.{match_ordering}
 use Rattle.dap_profile.specs.PlaceSteps.{PlaceStep, named, each}
-use Rattle.dap_profile.specs.Profile.{profile}
 use Rattle.dap_profile.specs.ProfileRows.{ProfileRow}
 use Rattle.dap_message.specs.Rows.{is_asked, is_text, is_true}
 use Rattle.dap_message.specs.Capabilities.{filled, with_capabilities, default_to, default_member}
 use Rattle.dap_message.specs.Capabilities.{is_given, false_members, false_at, capabilities}
 use Rattle.dap_message.specs.Capabilities.{tells_capabilities}
-use Rattle.dap_message.specs.Marks.{marked, is_id_of, mark_rows, mark_row, edit, sort_of, mark}
+use Rattle.dap_message.specs.Marks.{mark_by_rows}
+use Rattle.dap_message.specs.Marks.{marked, is_id_of, mark_rows, mark_row, edit, sort_of}
 use Rattle.dap_message.proofs.NameOrder.{itself, equal_at}
 use Rattle.dap_message.proofs.Edits.{by_bool}
 use Rattle.dap_message.proofs.Envelopes.{get-filled, given_other, apart}
@@ -118,11 +118,11 @@ plain_test =
     }
 
 -- a message's ids as numbers: its tree with the capabilities
-pub numbers-again : (side : Side) (d : Doc) → is_plain d ≡ true
-    → without_ids (mark side (filled side d)) ≡ filled side d
-unfolding mark
-numbers-again side d h =
-    without-mark profile side (filled side d)
+pub numbers-again : (rows : List ProfileRow) (side : Side) (d : Doc) → is_plain d ≡ true
+    → without_ids (mark_by_rows rows side (filled side d)) ≡ filled side d
+unfolding mark_by_rows
+numbers-again rows side d h =
+    without-mark rows side (filled side d)
     ∙ without_plain (filled side d)
     (passes-filled plain_test (tells_capabilities side d) d refl refl (plain_parts d h))
 

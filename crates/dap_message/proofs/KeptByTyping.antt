@@ -7,6 +7,7 @@ use Rattle.dap_tree.specs.Doc.{members_plain}
 use Rattle.dap_tree.specs.declared.side.Side.{Side}
 use Rattle.dap_tree.specs.declared.sort.Sort.{Sort}
 use Rattle.dap_tree.specs.declared.sort.Sort.TheVariants.{ClientSeq, AdapterSeq, Frame, Reference}
+use Rattle.dap_tree.specs.declared.sort.Sort.TheVariants.{Thread, Breakpoint}
 use Rattle.dap_tree.proofs.Booleans.{and_left, and_right, and_both}
 use Rattle.dap_tree.proofs.Depths.{fits_is}
 use Rattle.dap_tree.proofs.WithoutIds.{plain_parts}
@@ -21,11 +22,12 @@ use Rattle.dap_profile.specs.PlaceSteps.{PlaceStep, named, each}
 use Rattle.dap_profile.specs.Profile.{profile}
 use Rattle.dap_profile.specs.ProfileRows.{ProfileRow}
 use Rattle.dap_message.specs.Rows.{is_asked, is_id_number}
-use Rattle.dap_message.specs.Marks.{is_id_of, marked, edit, mark_rows, mark_row, sort_of, mark}
+use Rattle.dap_message.specs.Marks.{mark_by_rows}
+use Rattle.dap_message.specs.Marks.{is_id_of, marked, edit, mark_rows, mark_row, sort_of}
 use Rattle.dap_message.specs.Capabilities.{default_to, false_at, capabilities, with_capabilities}
 use Rattle.dap_message.specs.Capabilities.{filled, tells_capabilities}
 use Rattle.dap_message.specs.Numbers.{is_proper, are_proper, is_proper_number}
-use Rattle.dap_message.specs.Message.{message_of}
+use Rattle.dap_message.specs.Message.{message_of, message_by_rows}
 use Rattle.dap_message.proofs.Edits.{by_bool}
 use Rattle.dap_message.proofs.PartTests.{PartTest, DocTest, nameless, member_changed, items_changed}
 use Rattle.dap_message.proofs.PartTests.{member_defaulted, members_false, passes-message}
@@ -132,12 +134,12 @@ fits-if : (b : Bool) (d : Doc) → Fits 127 d → Fits 127 (cond b (with_capabil
 fits-if true d h = fits-capabilities d h
 fits-if false d h = h
 
-pub sound-message : (side : Side) (d : Doc) → is_plain d ≡ true
-    → is_sound (mark side (filled side d)) ≡ true
-unfolding mark
-sound-message side d h =
-    sym (fits_is 127 (mark_rows profile side (filled side d)))
-    ∙ fits-mark profile side 127 (filled side d)
+pub sound-message : (rows : List ProfileRow) (side : Side) (d : Doc) → is_plain d ≡ true
+    → is_sound (message_by_rows rows side d) ≡ true
+unfolding mark_by_rows
+sound-message rows side d h =
+    sym (fits_is 127 (mark_rows rows side (filled side d)))
+    ∙ fits-mark rows side 127 (filled side d)
     (fits-if (tells_capabilities side d) d (fits_is 127 d ∙ and_left (is_sound d) _ h))
 
 -- ---- no reference 0 among the ids
@@ -193,6 +195,8 @@ proper-id ClientSeq z h = refl
 proper-id AdapterSeq z h = refl
 proper-id Frame z h = refl
 proper-id Reference z h = and_right (is_id_number z) (not (int_eq z (pos 0))) h
+proper-id Thread z h = refl
+proper-id Breakpoint z h = refl
 
 abbrev proper_test : DocTest
 proper_test =
@@ -207,5 +211,5 @@ proper_test =
 pub proper-message : (side : Side) (d : Doc) → is_plain d ≡ true
     → is_proper (message_of side d) ≡ true
 proper-message side d h =
-    passes-message proper_test (λ s z is. one_proper s z (proper-id s z is)) side d refl refl
-    (proper-plain d (plain_parts d h))
+    passes-message proper_test (λ s z is. one_proper s z (proper-id s z is)) profile side d refl
+    refl (proper-plain d (plain_parts d h))

@@ -4,8 +4,9 @@ use Rattle.std.proofs.Common.{◌≡◌, ◌⊎◌, ⊎_elim, ℕ, zero, suc, �
 use Rattle.std.proofs.Common.{cond, List, [], ◌∷◌, length, map, get_or, Contains, Option, Some}
 use Rattle.std.proofs.Common.{None, option_map, refl, sym, ◌∙◌, ap, subst, arith}
 use Rattle.std.specs.Option.{option_or}
-use Rattle.dap_profile.specs.Profile.{profile}
+use Rattle.dap_profile.specs.Profile.{profile, first_rows, later_rows}
 use Rattle.dap_profile.specs.ProfileRows.{ProfileRow}
+use Rattle.dap_message.specs.Faults.{broken_by_rows}
 use Rattle.dap_message.specs.Faults.{fault, Fits, has_kind, row_broken}
 use Rattle.dap_message.specs.FaultsByPath.{IsKept, BreaksFirst, IsLeastBroken, IsJudged}
 use Rattle.dap_message.specs.FaultsByPath.{AreNumbered}
@@ -122,7 +123,7 @@ number_at (q ∷ rs) n (suc i) r h lt is =
     omega arith
 
 profile_numbers : map (λ s. s.number) profile ≡ numbers_from 1 profile
-unfolding profile
+unfolding profile first_rows later_rows
 profile_numbers = refl
 
 pub are_numbered : AreNumbered profile
@@ -263,7 +264,7 @@ judged_by false b o n Missing h = cc
 judged_by false b o n WrongType h = cc
 
 first_of_profile : (d : Doc) → row_broken d ≡ first_fault profile d
-unfolding row_broken
+unfolding broken_by_rows
 first_of_profile d = refl
 
 pub fault_by_path : (d : Doc) (n : ℕ) (c : Cause)

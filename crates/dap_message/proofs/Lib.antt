@@ -16,6 +16,7 @@ pub mod SortsApart
 pub mod AskedRows
 pub mod Shapes
 pub mod TypedAgain
+pub mod LaterRows
 pub mod MemberNames
 pub mod OneMarking
 pub mod Contents

@@ -10,7 +10,7 @@ use Rattle.std.proofs.Common.{refl, sym, ◌∙◌, ap, ap₂, subst}
 use Rattle.std.specs.List.{list_all, flat_map, cons_option}
 use Rattle.std.specs.Option.{is_some, option_or, option_map_or, unwrap_or}
 use Rattle.dap_profile.specs.PlaceSteps.{PlaceStep, named, each}
-use Rattle.dap_profile.specs.Profile.{profile}
+use Rattle.dap_profile.specs.Profile.{profile, first_rows, later_rows}
 use Rattle.dap_profile.specs.ProfileRows.{ProfileRow}
 use Rattle.dap_profile.specs.declared.profile.Kind.TheVariants.{Response}
 use Rattle.dap_profile.specs.declared.profile.Want.{Want}
@@ -501,7 +501,7 @@ all_listed p command name m asked =
 
 frames_listed : (m : Doc) → first_fault profile (without_ids m) ≡ None
     → are_frames (listed_frames m) ≡ true
-unfolding profile
+unfolding profile first_rows later_rows
 frames_listed m h =
     let command = codes "stackTrace" in
     let name = codes "stackFrames" in
@@ -524,7 +524,7 @@ frames_listed m h =
 
 scopes_listed : (m : Doc) → first_fault profile (without_ids m) ≡ None
     → are_scopes (listed_scopes m) ≡ true
-unfolding profile
+unfolding profile first_rows later_rows
 scopes_listed m h =
     let command = codes "scopes" in
     let name = codes "scopes" in
@@ -543,7 +543,7 @@ scopes_listed m h =
 
 variables_listed : (m : Doc) → first_fault profile (without_ids m) ≡ None
     → are_variables (listed_variables m) ≡ true
-unfolding profile
+unfolding profile first_rows later_rows
 variables_listed m h =
     let command = codes "variables" in
     let name = codes "variables" in

@@ -15,7 +15,9 @@ use Rattle.std.specs.List.{list_all}
 use Rattle.std.specs.Ordering.{match_ordering, ordering_reverse, is_lt}
 use Rattle.std.specs.Str.{is_utf8, IsAscii}
 use Rattle.dap_message.specs.Marks.{mark}
-use Rattle.dap_message.specs.Message.{message_of}
+use Rattle.dap_message.specs.Message.{message_by_rows}
+use Rattle.dap_profile.specs.Profile.{profile}
+use Rattle.dap_profile.specs.ProfileRows.{ProfileRow}
 use Rattle.dap_message.proofs.PartTests.{DocTest, passes-mark, passes-message}
 
 -- ---- order
@@ -117,11 +119,12 @@ order_test =
     }
 
 pub ordered-mark : (side : Side) (d : Doc) → is_ordered d ≡ true → is_ordered (mark side d) ≡ true
-ordered-mark side d h = passes-mark order_test (λ s z is. refl) side d h
+ordered-mark side d h = passes-mark order_test (λ s z is. refl) profile side d h
 
-pub ordered-message : (side : Side) (d : Doc) → is_ordered d ≡ true
-    → is_ordered (message_of side d) ≡ true
-ordered-message side d h = passes-message order_test (λ s z is. refl) side d refl refl h
+pub ordered-message : (rows : List ProfileRow) (side : Side) (d : Doc) → is_ordered d ≡ true
+    → is_ordered (message_by_rows rows side d) ≡ true
+ordered-message rows side d h =
+    passes-message order_test (λ s z is. refl) rows side d refl refl h
 
 -- ---- UTF-8
 
@@ -179,5 +182,6 @@ utf8_test =
       of_false = refl;
     }
 
-pub utf8-message : (side : Side) (d : Doc) → all_utf8 d ≡ true → all_utf8 (message_of side d) ≡ true
-utf8-message side d h = passes-message utf8_test (λ s z is. refl) side d refl refl h
+pub utf8-message : (rows : List ProfileRow) (side : Side) (d : Doc) → all_utf8 d ≡ true
+    → all_utf8 (message_by_rows rows side d) ≡ true
+utf8-message rows side d h = passes-message utf8_test (λ s z is. refl) rows side d refl refl h

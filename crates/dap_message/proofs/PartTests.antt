@@ -12,13 +12,13 @@ use Rattle.std.specs.List.{list_all}
 use Rattle.std.specs.Option.{option_map_or}
 use Rattle.std.specs.Ordering.{match_ordering}
 use Rattle.dap_profile.specs.PlaceSteps.{PlaceStep, named, each}
-use Rattle.dap_profile.specs.Profile.{profile}
 use Rattle.dap_profile.specs.ProfileRows.{ProfileRow}
 use Rattle.dap_message.specs.Capabilities.{is_given, default_member, default_to, false_members}
 use Rattle.dap_message.specs.Capabilities.{false_at, capabilities, with_capabilities}
 use Rattle.dap_message.specs.Capabilities.{tells_capabilities}
-use Rattle.dap_message.specs.Marks.{is_id_of, marked, edit, mark_row, mark_rows, mark, sort_of}
-use Rattle.dap_message.specs.Message.{message_of}
+use Rattle.dap_message.specs.Marks.{mark_by_rows}
+use Rattle.dap_message.specs.Marks.{is_id_of, marked, edit, mark_row, mark_rows, sort_of}
+use Rattle.dap_message.specs.Message.{message_by_rows}
 use Rattle.dap_message.specs.Rows.{is_asked}
 use Rattle.dap_message.proofs.Edits.{by_bool}
 
@@ -251,11 +251,14 @@ module _ (t : DocTest) (takes : TakesIds t) where
   passes-mark_rows (r ∷ rs) side d h =
       passes-mark_rows rs side (mark_row r side d) (passes-mark_row r side d h)
 
-  pub passes-mark : (side : Side) (d : Doc) → Passes t d → Passes t (mark side d)
-  unfolding mark
-  passes-mark side d h = passes-mark_rows profile side d h
+  pub passes-mark : (rows : List ProfileRow) (side : Side) (d : Doc) → Passes t d
+      → Passes t (mark_by_rows rows side d)
+  unfolding mark_by_rows
+  passes-mark rows side d h = passes-mark_rows rows side d h
 
-  pub passes-message : (side : Side) (d : Doc) → t.parts.may_come (codes "body") ≡ true
-      → list_all t.parts.may_come capabilities ≡ true → Passes t d → Passes t (message_of side d)
-  passes-message side d n ns h =
-      passes-mark side _ (passes-filled t (tells_capabilities side d) d n ns h)
+  pub passes-message : (rows : List ProfileRow) (side : Side) (d : Doc)
+      → t.parts.may_come (codes "body") ≡ true
+      → list_all t.parts.may_come capabilities ≡ true → Passes t d
+      → Passes t (message_by_rows rows side d)
+  passes-message rows side d n ns h =
+      passes-mark rows side _ (passes-filled t (tells_capabilities side d) d n ns h)

@@ -13,6 +13,7 @@ use Rattle.dap_profile.specs.declared.profile.Kind.{Kind}
 use Rattle.dap_profile.specs.declared.profile.Kind.TheVariants.{Request, Response, Event}
 use Rattle.dap_message.specs.Places.{fits_place}
 use Rattle.dap_message.specs.Rows.{is_asked, is_text, is_true, may_have_body, name_key, type_name}
+use Rattle.dap_message.specs.Marks.{mark_by_rows}
 use Rattle.dap_message.specs.Marks.{is_id_of, marked, top, edit, made, made_by, mark_rows, mark_row}
 use Rattle.dap_message.specs.Marks.{sort_of, IsMarked, mark}
 use Rattle.dap_message.proofs.Edits.{Alike, at-edit, by_bool}
@@ -243,5 +244,5 @@ unfolding IsMarked
 mark_rows_is_marked rs side d p = at-mark rs side d p
 
 pub mark_is_marked : (side : Side) (d : Doc) → IsMarked profile side d (mark side d)
-unfolding mark
+unfolding mark_by_rows
 mark_is_marked side d = mark_rows_is_marked profile side d

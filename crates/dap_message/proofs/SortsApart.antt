@@ -5,14 +5,18 @@ use Rattle.dap_tree.specs.declared.side.Side.TheVariants.{Client, Adapter}
 use Rattle.dap_tree.specs.declared.sort.Sort.{Sort}
 use Rattle.dap_tree.specs.declared.sort.Sort.TheVariants.{ClientSeq, AdapterSeq, Frame as FrameSort}
 use Rattle.dap_tree.specs.declared.sort.Sort.TheVariants.{Reference as ReferenceSort}
+use Rattle.dap_tree.specs.declared.sort.Sort.TheVariants.{Thread as ThreadSort}
+use Rattle.dap_tree.specs.declared.sort.Sort.TheVariants.{Breakpoint as BreakpointSort}
 use Rattle.dap_tree.proofs.Booleans.{and_left, and_right, and_both}
 use Rattle.std.proofs.Common.{◌≡◌, ℕ, Bool, true, false, cond, not, ◌&&◌, ◌||◌, List, [], ◌∷◌}
+use Rattle.std.proofs.Common.{◌++◌}
 use Rattle.std.proofs.Common.{Option, Some, None, codes, refl, sym, ◌∙◌, ap, ap₂, bytes_eq}
 use Rattle.std.proofs.lemmas.Slice.Eq.{bytes_eq-Decides}
 use Rattle.std.specs.List.{list_all}
+use Rattle.std.proofs.lemmas.List.Folds.{list_all-append}
 use Rattle.std.specs.Option.{option_map_or}
 use Rattle.dap_profile.specs.PlaceSteps.{PlaceStep}
-use Rattle.dap_profile.specs.Profile.{profile}
+use Rattle.dap_profile.specs.Profile.{profile, first_rows, later_rows}
 use Rattle.dap_profile.specs.ProfileRows.{ProfileRow}
 use Rattle.dap_profile.specs.declared.profile.Kind.{Kind}
 use Rattle.dap_profile.specs.declared.profile.Kind.TheVariants.{Request, Response, Event}
@@ -20,6 +24,7 @@ use Rattle.dap_profile.specs.declared.profile.Want.{Want}
 use Rattle.dap_profile.specs.declared.profile.Want.TheVariants.{Bool as WantBool, Whole, Text}
 use Rattle.dap_profile.specs.declared.profile.Want.TheVariants.{Object, List as WantList, OwnSeq}
 use Rattle.dap_profile.specs.declared.profile.Want.TheVariants.{OtherSeq, Frame, Reference}
+use Rattle.dap_profile.specs.declared.profile.Want.TheVariants.{Thread, Breakpoint}
 use Rattle.dap_message.specs.Marks.{sort_of, marked, edit, mark_row, mark_rows}
 use Rattle.dap_message.specs.Rows.{is_asked, is_of_kind, is_text, type_name, name_key}
 use Rattle.dap_message.specs.Rows.{may_have_body}
@@ -129,6 +134,8 @@ one_sort ClientSeq ClientSeq = true
 one_sort AdapterSeq AdapterSeq = true
 one_sort FrameSort FrameSort = true
 one_sort ReferenceSort ReferenceSort = true
+one_sort ThreadSort ThreadSort = true
+one_sort BreakpointSort BreakpointSort = true
 one_sort _ _ = false
 
 abbrev sorts_apart : Option Sort → Option Sort → Bool → Bool
@@ -146,7 +153,7 @@ all_apart [] = true
 all_apart (r ∷ rs) = list_all (apart r) rs && all_apart rs
 
 profile_apart : all_apart profile ≡ true
-unfolding profile
+unfolding profile first_rows later_rows
 profile_apart = refl
 
 -- the sort that a side's message has where a client's has this one
@@ -156,6 +163,8 @@ from_side Adapter ClientSeq = AdapterSeq
 from_side Adapter AdapterSeq = ClientSeq
 from_side Adapter FrameSort = FrameSort
 from_side Adapter ReferenceSort = ReferenceSort
+from_side Adapter ThreadSort = ThreadSort
+from_side Adapter BreakpointSort = BreakpointSort
 
 abbrev SortFrom : Side → Want → Sort → Type 0
 SortFrom side w s = (t : Sort) × (sort_of Client w ≡ Some t) × (s ≡ from_side side t)
@@ -166,6 +175,8 @@ sort_from Adapter OwnSeq s h = (ClientSeq, refl, cc)
 sort_from Adapter OtherSeq s h = (AdapterSeq, refl, cc)
 sort_from Adapter Frame s h = (FrameSort, refl, cc)
 sort_from Adapter Reference s h = (ReferenceSort, refl, cc)
+sort_from Adapter Thread s h = (ThreadSort, refl, cc)
+sort_from Adapter Breakpoint s h = (BreakpointSort, refl, cc)
 sort_from Adapter WantBool s h = cc
 sort_from Adapter Whole s h = cc
 sort_from Adapter Text s h = cc
@@ -177,6 +188,8 @@ sorts_equal ClientSeq ClientSeq h = refl
 sorts_equal AdapterSeq AdapterSeq h = refl
 sorts_equal FrameSort FrameSort h = refl
 sorts_equal ReferenceSort ReferenceSort h = refl
+sorts_equal ThreadSort ThreadSort h = refl
+sorts_equal BreakpointSort BreakpointSort h = refl
 sorts_equal _ _ h = cc
 
 or_false : (a b : Bool) → (a || not b) ≡ true → b ≡ true → a ≡ true
@@ -236,5 +249,26 @@ agree_pending (r ∷ rs) side d h =
     refl (is_asked r.kind r.name d) refl
     (agree_pending rs side d (and_right (list_all (apart r) rs) (all_apart rs) h))
 
-pub agree_profile : (side : Side) (d : Doc) → Agree (pending profile side d)
-agree_profile side d = agree_pending profile side d profile_apart
+-- places of these rows that want different sorts never meet in one message
+abbrev pub AllAgree : List ProfileRow → Type 0
+AllAgree rows = (side : Side) (d : Doc) → Agree (pending rows side d)
+
+pub profile_agree : AllAgree profile
+profile_agree side d = agree_pending profile side d profile_apart
+
+front_apart : (xs ys : List ProfileRow) → all_apart (xs ++ ys) ≡ true → all_apart xs ≡ true
+front_apart [] ys h = refl
+front_apart (r ∷ xs) ys h =
+    let here = and_left (list_all (apart r) (xs ++ ys)) (all_apart (xs ++ ys)) h in
+    let behind = and_right (list_all (apart r) (xs ++ ys)) (all_apart (xs ++ ys)) h in
+    and_both (list_all (apart r) xs) (all_apart xs)
+    (and_left (list_all (apart r) xs) (list_all (apart r) ys)
+    (sym (list_all-append (apart r) xs ys) ∙ here))
+    (front_apart xs ys behind)
+
+first_apart : all_apart first_rows ≡ true
+unfolding profile
+first_apart = front_apart first_rows later_rows profile_apart
+
+pub first_agree : AllAgree first_rows
+first_agree side d = agree_pending first_rows side d first_apart

@@ -21,19 +21,21 @@ use Rattle.std.specs.Cmp.Lexicographic.{slice_cmp}
 use Rattle.std.specs.List.{list_all}
 use Rattle.std.specs.Ordering.{match_ordering}
 use Rattle.dap_profile.specs.PlaceSteps.{PlaceStep}
-use Rattle.dap_profile.specs.Profile.{profile}
+use Rattle.dap_profile.specs.Profile.{profile, first_rows, later_rows}
 use Rattle.dap_profile.specs.ProfileRows.{ProfileRow}
 use Rattle.dap_profile.specs.declared.profile.Kind.TheVariants.{Request, Response, Event}
 use Rattle.dap_profile.specs.declared.profile.Want.{Want}
 use Rattle.dap_profile.specs.declared.profile.Want.TheVariants.{Bool as WantBool, Whole, Text}
 use Rattle.dap_profile.specs.declared.profile.Want.TheVariants.{Object, List as WantList, OwnSeq}
 use Rattle.dap_profile.specs.declared.profile.Want.TheVariants.{OtherSeq, Frame, Reference}
+use Rattle.dap_profile.specs.declared.profile.Want.TheVariants.{Thread, Breakpoint}
 use Rattle.dap_message.specs.Capabilities.{is_given, default_to, false_members, false_at}
 use Rattle.dap_message.specs.Capabilities.{capabilities, tells_capabilities, with_capabilities}
 use Rattle.dap_message.specs.Capabilities.{filled}
 use Rattle.dap_message.specs.Faults.{fault, Fits, has_kind, row_broken}
-use Rattle.dap_message.specs.Marks.{is_id_of, mark}
-use Rattle.dap_message.specs.Message.{message_of, IsTyped}
+use Rattle.dap_message.specs.Marks.{mark_by_rows}
+use Rattle.dap_message.specs.Marks.{is_id_of}
+use Rattle.dap_message.specs.Message.{message_of, message_by_rows, IsTyped}
 use Rattle.dap_message.specs.Numbers.{has_id_numbers}
 use Rattle.dap_message.specs.Places.{parts_at, is_object}
 use Rattle.dap_message.specs.Rows.{is_asked, is_id_number, cause_against, first_cause, broken_at}
@@ -42,7 +44,8 @@ use Rattle.dap_message.specs.declared.broken_rows.Cause.{Cause}
 use Rattle.dap_message.specs.declared.fault.MessageFault.TheVariants.{NotObject, UnknownType}
 use Rattle.dap_message.proofs.FilledOnce.{numbers-again, tells-again, AllGiven, false-given}
 use Rattle.dap_message.proofs.FilledOnce.{false-noop}
-use Rattle.dap_message.proofs.SortsApart.{AskedAlike, pending, mark_rows-edits, agree_profile}
+use Rattle.dap_message.proofs.SortsApart.{AskedAlike, pending, mark_rows-edits, AllAgree}
+use Rattle.dap_message.proofs.SortsApart.{profile_agree}
 use Rattle.dap_message.proofs.BodyRows.{both_free, Tells, row_50, body_case, body_was, get-default}
 use Rattle.dap_message.proofs.Edits.{by_bool}
 use Rattle.dap_message.proofs.Envelopes.{fault_free, fault_parts, rows_free, free_at}
@@ -75,6 +78,8 @@ numbers_alike OwnSeq b y z h g = rw h refl
 numbers_alike OtherSeq b y z h g = rw h refl
 numbers_alike Frame b y z h g = rw h refl
 numbers_alike Reference b y z h g = rw h refl
+numbers_alike Thread b y z h g = rw h refl
+numbers_alike Breakpoint b y z h g = rw h refl
 
 abbrev Alike : Doc → Doc → Type 0
 Alike d e = (w : Want) (b : Bool) → Well w b (Some d) → Well w b (Some e)
@@ -90,6 +95,8 @@ list_alike OwnSeq b ds es = refl
 list_alike OtherSeq b ds es = refl
 list_alike Frame b ds es = refl
 list_alike Reference b ds es = refl
+list_alike Thread b ds es = refl
+list_alike Breakpoint b ds es = refl
 
 object_alike : (w : Want) (b : Bool) (ms os : Members)
     → cause_against w b (Some (object ms)) ≡ cause_against w b (Some (object os))
@@ -102,6 +109,8 @@ object_alike OwnSeq b ms os = refl
 object_alike OtherSeq b ms os = refl
 object_alike Frame b ms os = refl
 object_alike Reference b ms os = refl
+object_alike Thread b ms os = refl
+object_alike Breakpoint b ms os = refl
 
 well_zeroed : (w : Want) (b : Bool) (o : Option Doc) → Well w b (option_map without_ids o)
     → Well w b (option_map without_ids (option_map skeleton o))
@@ -308,7 +317,7 @@ has_body ks d ms is given =
 
 has_all-capabilities : (d : Doc) → Fits d → Tells d
     → has_all capabilities (with_capabilities d) ≡ true
-unfolding profile
+unfolding profile first_rows later_rows
 has_all-capabilities d fits tells =
     let p = fault_parts (is_object d) (has_kind d) (row_broken d) UnknownType NotObject fits in
     let free = free_at 49 profile row_50 d (rows_free d p.2) refl in
@@ -387,14 +396,15 @@ has_all-again ks m n same h =
     ∙ sym (has_all-shape without_ids without_keeps ks m)
     ∙ h
 
--- capabilities that a message has are there with other numbers
-pub filled_again : (side : Side) (d n : Doc) → is_plain d ≡ true → Fits d
-    → skeleton n ≡ skeleton (message_of side d) → filled side (without_ids n) ≡ without_ids n
-filled_again Client d n plain fits same = refl
-filled_again Adapter d n plain fits same =
-    let m = message_of Adapter d in
+-- capabilities that a message has are there with other numbers, whatever rows told its ids
+pub filled_again : (rows : List ProfileRow) (side : Side) (d n : Doc) → is_plain d ≡ true → Fits d
+    → skeleton n ≡ skeleton (message_by_rows rows side d)
+    → filled side (without_ids n) ≡ without_ids n
+filled_again rows Client d n plain fits same = refl
+filled_again rows Adapter d n plain fits same =
+    let m = message_by_rows rows Adapter d in
     let alike = asked_without m n same in
-    let numbers_of_m : without_ids m ≡ filled Adapter d = numbers-again Adapter d plain in
+    let numbers_of_m : without_ids m ≡ filled Adapter d = numbers-again rows Adapter d plain in
     by_bool (tells_capabilities Adapter (without_ids n))
     (λ t.
     let told : tells_capabilities Adapter d ≡ true =
@@ -409,19 +419,31 @@ filled_again Adapter d n plain fits same =
 
 -- ---- the marks come again
 
-mark-again_with : (side : Side) (m n : Doc) → skeleton n ≡ skeleton m → IdNumbers (ids n)
-    → mark side (without_ids m) ≡ m → mark side (without_ids n) ≡ n
-unfolding mark
-mark-again_with side m n same fit h =
-    let es = pending profile side (without_ids m) in
+mark-again_with : (rows : List ProfileRow) → AllAgree rows → (side : Side) (m n : Doc)
+    → skeleton n ≡ skeleton m → IdNumbers (ids n)
+    → mark_by_rows rows side (without_ids m) ≡ m → mark_by_rows rows side (without_ids n) ≡ n
+unfolding mark_by_rows
+mark-again_with rows agree side m n same fit h =
+    let es = pending rows side (without_ids m) in
     let is : with_ids m (numbers_of (ids n)) ≡ n = with_others m n (sym same) in
     let first : edits es (without_ids m) ≡ m =
-    sym (mark_rows-edits profile side (without_ids m) (without_ids m) (λ k o. refl)) ∙ h in
+    sym (mark_rows-edits rows side (without_ids m) (without_ids m) (λ k o. refl)) ∙ h in
     let again =
-    edits-again es (agree_profile side (without_ids m)) m (numbers_of (ids n))
+    edits-again es (agree side (without_ids m)) m (numbers_of (ids n))
     (ap (λ e. list_all (λ i. is_id_of i.0 i.1) (ids e)) is ∙ fit) first in
-    mark_rows-edits profile side (without_ids m) (without_ids n) (asked_without m n same)
+    mark_rows-edits rows side (without_ids m) (without_ids n) (asked_without m n same)
     ∙ ap (λ e. edits es (without_ids e)) (sym is) ∙ again ∙ is
+
+-- a document with other numbers is the message of its numbers by the same rows
+pub message_again : (rows : List ProfileRow) → AllAgree rows → (side : Side) (d n : Doc)
+    → is_plain d ≡ true → Fits d → skeleton n ≡ skeleton (message_by_rows rows side d)
+    → has_id_numbers n ≡ true → n ≡ message_by_rows rows side (without_ids n)
+message_again rows agree side d n plain fits same fit =
+    let m = message_by_rows rows side d in
+    let marks : mark_by_rows rows side (without_ids m) ≡ m =
+    ap (mark_by_rows rows side) (numbers-again rows side d plain) in
+    sym (ap (mark_by_rows rows side) (filled_again rows side d n plain fits same)
+    ∙ mark-again_with rows agree side m n same fit marks)
 
 -- ---- the text
 
@@ -464,30 +486,34 @@ plain_again m n same fit sound =
 
 -- ---- typed again
 
+-- a document that differs from a message, whatever rows told its ids, at the numbers of its ids
+-- alone is plain with its ids as numbers, and fits the profile as the message's document does
+pub read_again : (rows : List ProfileRow) (side : Side) (d n : Doc) → is_plain d ≡ true → Fits d
+    → skeleton n ≡ skeleton (message_by_rows rows side d) → has_id_numbers n ≡ true
+    → (is_plain (without_ids n) ≡ true) × Fits (without_ids n)
+read_again rows side d n plain fits same fit =
+    let m = message_by_rows rows side d in (
+      plain_again m n same fit (sound-message rows side d plain),
+      fits_again m n same fit (ap fault (numbers-again rows side d plain)
+          ∙ fault-filled side d fits),
+    )
+
 pub typed_again : (side : Side) (d n : Doc) → is_plain d ≡ true → Fits d
     → skeleton n ≡ skeleton (message_of side d) → has_id_numbers n ≡ true
     → (is_plain (without_ids n) ≡ true) × IsTyped side (without_ids n) n
 typed_again side d n plain fits same fit =
-    let m = message_of side d in
-    let numbers_of_m : without_ids m ≡ filled side d = numbers-again side d plain in
-    let marks : mark side (without_ids m) ≡ m = ap (mark side) numbers_of_m in (
-      plain_again m n same fit (sound-message side d plain),
-      (
-        fits_again m n same fit (ap fault numbers_of_m ∙ fault-filled side d fits),
-        sym (ap (mark side) (filled_again side d n plain fits same)
-            ∙ mark-again_with side m n same fit marks),
-      ),
-    )
+    let again = read_again profile side d n plain fits same fit in
+    (again.0, (again.1, message_again profile profile_agree side d n plain fits same fit))
 
 -- its text is read as its document with the ids as numbers
-pub text_again : (side : Side) (d n : Doc) → is_plain d ≡ true → is_ordered d ≡ true
-    → all_utf8 d ≡ true → skeleton n ≡ skeleton (message_of side d) → has_id_numbers n ≡ true
-    → IsRead (text_of n) (without_ids n)
-text_again side d n plain ordered utf8 same fit =
-    let m = message_of side d in
+pub text_again : (rows : List ProfileRow) (side : Side) (d n : Doc) → is_plain d ≡ true
+    → is_ordered d ≡ true → all_utf8 d ≡ true → skeleton n ≡ skeleton (message_by_rows rows side d)
+    → has_id_numbers n ≡ true → IsRead (text_of n) (without_ids n)
+text_again rows side d n plain ordered utf8 same fit =
+    let m = message_by_rows rows side d in
     text_is_read n (ap is_sound (sym (with_others m n (sym same)))
-    ∙ sound_with m (numbers_of (ids n)) ∙ sound-message side d plain)
+    ∙ sound_with m (numbers_of (ids n)) ∙ sound-message rows side d plain)
     (ids_in_range-numbers n fit)
     (sym (ordered-skeleton n) ∙ ap is_ordered same ∙ ordered-skeleton m
-    ∙ ordered-message side d ordered)
-    (sym (utf8-skeleton n) ∙ ap all_utf8 same ∙ utf8-skeleton m ∙ utf8-message side d utf8)
+    ∙ ordered-message rows side d ordered)
+    (sym (utf8-skeleton n) ∙ ap all_utf8 same ∙ utf8-skeleton m ∙ utf8-message rows side d utf8)

@@ -1,7 +1,8 @@
 -- What is wrong with a message, and the messages with which nothing is.
 use Rattle.dap_tree.specs.Doc.{Doc}
-use Rattle.std.specs.Prelude.{◌≡◌, Bool, cond, ◌||◌, Option, Some, None}
+use Rattle.std.specs.Prelude.{◌≡◌, Bool, cond, ◌||◌, List, Option, Some, None}
 use Rattle.dap_profile.specs.Profile.{profile}
+use Rattle.dap_profile.specs.ProfileRows.{ProfileRow}
 use Rattle.dap_profile.specs.declared.profile.Kind.TheVariants.{Request, Response, Event}
 use Rattle.dap_message.specs.Places.{is_object}
 use Rattle.dap_message.specs.Rows.{is_of_kind, first_fault}
@@ -12,14 +13,32 @@ use Rattle.dap_message.specs.declared.fault.MessageFault.TheVariants.{NotObject,
 abbrev pub has_kind : Doc → Bool
 has_kind d = is_of_kind Request d || is_of_kind Response d || is_of_kind Event d
 
--- The fault of the least broken row of the profile.
-unfoldable pub row_broken : Doc → Option MessageFault
-row_broken d = first_fault profile d
+-- ---- by some rows
+
+-- The fault of the least broken of these rows.
+unfoldable pub broken_by_rows : List ProfileRow → Doc → Option MessageFault
+broken_by_rows rows d = first_fault rows d
 
 -- The first fault (own order): no object, an unknown type, the least broken row.
+abbrev pub fault_by_rows : List ProfileRow → Doc → Option MessageFault
+fault_by_rows rows d =
+    cond (is_object d) (cond (has_kind d) (broken_by_rows rows d) (Some UnknownType))
+    (Some NotObject)
+
+-- The document is that of a message which breaks none of these rows.
+abbrev pub FitsRows : List ProfileRow → Doc → Type 0
+FitsRows rows d = fault_by_rows rows d ≡ None
+
+-- ---- by the profile
+
+-- The fault of the least broken row of the profile.
+abbrev pub row_broken : Doc → Option MessageFault
+row_broken d = broken_by_rows profile d
+
+-- The first fault by the profile.
 abbrev pub fault : Doc → Option MessageFault
-fault d = cond (is_object d) (cond (has_kind d) (row_broken d) (Some UnknownType)) (Some NotObject)
+fault d = fault_by_rows profile d
 
 -- The document is that of a message which breaks no row.
 abbrev pub Fits : Doc → Type 0
-Fits d = fault d ≡ None
+Fits d = FitsRows profile d

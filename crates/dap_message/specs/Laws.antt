@@ -5,15 +5,16 @@ use Rattle.dap_tree.specs.Json.{text_of}
 use Rattle.dap_tree.specs.declared.side.Side.{Side}
 use Rattle.dap_tree.specs.declared.sort.Sort.TheVariants.{Reference}
 use Rattle.std.specs.Prelude.{◌≡◌, ◌⊎◌, ◌↔◌, ℕ, ℤ, pos, List, Contains, true, length, map, Some}
-use Rattle.dap_profile.specs.Profile.{profile}
+use Rattle.dap_profile.specs.Profile.{profile, first_rows}
 use Rattle.dap_profile.specs.ProfileRows.{ProfileRow}
 use Rattle.dap_message.specs.Capabilities.{filled}
 use Rattle.dap_message.specs.Envelope.{kind_of, name_of, success_of, has_envelope}
-use Rattle.dap_message.specs.Faults.{fault, Fits}
+use Rattle.dap_message.specs.Faults.{fault, Fits, FitsRows}
 use Rattle.dap_message.specs.FaultsByPath.{IsKept, IsLeastBroken, IsJudged, AreNumbered}
+use Rattle.dap_message.specs.LaterIds.{first_ids, with_later_ids, HasLaterIds}
 use Rattle.dap_message.specs.Marks.{IsMarked, mark}
 use Rattle.dap_message.specs.Message.{IsTyped, IsTypedAs, IsTypedContent, Refusal, HasRefusal}
-use Rattle.dap_message.specs.Message.{side_of}
+use Rattle.dap_message.specs.Message.{side_of, IsTypedByRows, IsTypedContentByRows}
 use Rattle.dap_message.specs.Numbers.{is_proper, has_id_numbers, has_small_ids, renumbered}
 use Rattle.dap_message.specs.Rows.{of_row}
 use Rattle.dap_message.specs.Views.{frame_of, frames_of, listed_frames, scope_of, scopes_of}
@@ -132,6 +133,36 @@ ContentTypedAgain = (side : Side) (bytes : List ℕ) (m n : Doc) → IsTypedCont
 abbrev pub OwnContentTypedAgain : Type 0
 OwnContentTypedAgain = (side : Side) (d m : Doc) → is_plain d ≡ true → IsTyped side d m
     → IsTyped side (without_ids m) m
+
+-- ---- the first rows and the later ones
+
+-- A document that fits the profile fits its first rows.
+abbrev pub FitsFirst : Type 0
+FitsFirst = (d : Doc) → Fits d → FitsRows first_rows d
+
+-- A message is that of the first rows with the ids that the later rows tell, and its other ids are
+-- those of the message of the first rows.
+abbrev pub MarkedInTwo : Type 0
+MarkedInTwo = (side : Side) (d first m : Doc) → is_plain d ≡ true
+    → IsTypedByRows first_rows side d first → IsTyped side d m
+    → (m ≡ with_later_ids side first) × (first_ids m ≡ ids first)
+
+-- A document that differs from a message of the first rows at the numbers of its ids alone, each
+-- one that an id of its sort may have, is typed by the profile, its ids as numbers: as itself with
+-- the ids that the later rows tell. But for the numbers of its other ids, that is the profile's
+-- message of the same document.
+abbrev pub FirstTypedAgain : Type 0
+FirstTypedAgain = (side : Side) (d first m n : Doc) → is_plain d ≡ true
+    → IsTypedByRows first_rows side d first → IsTyped side d m → skeleton n ≡ skeleton first
+    → has_id_numbers n ≡ true
+    → IsTyped side (without_ids n) (with_later_ids side n) × HasLaterIds side m n
+
+-- So it is with the text of such a document, where some content is that of both messages.
+abbrev pub FirstContentTypedAgain : Type 0
+FirstContentTypedAgain = (side : Side) (bytes : List ℕ) (first m n : Doc)
+    → IsTypedContentByRows first_rows side bytes first → IsTypedContent side bytes m
+    → skeleton n ≡ skeleton first → has_id_numbers n ≡ true
+    → IsTypedContent side (text_of n) (with_later_ids side n) × HasLaterIds side m n
 
 -- ---- what other numbers keep
 

@@ -4,6 +4,7 @@ pub mod Faults
 pub mod FaultsByPath
 pub mod Steps
 pub mod Marks
+pub mod LaterIds
 pub mod Capabilities
 pub mod Envelope
 pub mod AskedRows

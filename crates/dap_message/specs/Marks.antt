@@ -8,6 +8,8 @@ use Rattle.dap_tree.specs.declared.side.Side.TheVariants.{Client, Adapter}
 use Rattle.dap_tree.specs.declared.sort.Sort.{Sort}
 use Rattle.dap_tree.specs.declared.sort.Sort.TheVariants.{ClientSeq, AdapterSeq, Frame as FrameSort}
 use Rattle.dap_tree.specs.declared.sort.Sort.TheVariants.{Reference as ReferenceSort}
+use Rattle.dap_tree.specs.declared.sort.Sort.TheVariants.{Thread as ThreadSort}
+use Rattle.dap_tree.specs.declared.sort.Sort.TheVariants.{Breakpoint as BreakpointSort}
 use Rattle.std.specs.Prelude.{◌≡◌, ℤ, pos, Bool, cond, not, ◌&&◌, List, [], ◌∷◌, Option, Some, None}
 use Rattle.std.specs.Prelude.{option_map}
 use Rattle.std.specs.Option.{option_map_or}
@@ -17,6 +19,7 @@ use Rattle.dap_profile.specs.Profile.{profile}
 use Rattle.dap_profile.specs.ProfileRows.{ProfileRow}
 use Rattle.dap_profile.specs.declared.profile.Want.{Want}
 use Rattle.dap_profile.specs.declared.profile.Want.TheVariants.{OwnSeq, OtherSeq, Frame, Reference}
+use Rattle.dap_profile.specs.declared.profile.Want.TheVariants.{Thread, Breakpoint}
 use Rattle.dap_message.specs.Places.{fits_place}
 use Rattle.dap_message.specs.Rows.{is_asked, is_id_number}
 
@@ -29,6 +32,8 @@ sort_of Client OtherSeq = Some AdapterSeq
 sort_of Adapter OtherSeq = Some ClientSeq
 sort_of side Frame = Some FrameSort
 sort_of side Reference = Some ReferenceSort
+sort_of side Thread = Some ThreadSort
+sort_of side Breakpoint = Some BreakpointSort
 sort_of side _ = None
 
 -- A variables reference of 0 refers to nothing (DAP specification, Variable.variablesReference), so
@@ -96,6 +101,10 @@ abbrev pub mark_rows : List ProfileRow → Side → Doc → Doc
 mark_rows [] side d = d
 mark_rows (r ∷ rs) side d = mark_rows rs side (mark_row r side d)
 
+-- The same, for rows that a proof does not go through.
+unfoldable pub mark_by_rows : List ProfileRow → Side → Doc → Doc
+mark_by_rows rows side d = mark_rows rows side d
+
 -- The document with the ids that the profile tells.
-unfoldable pub mark : Side → Doc → Doc
-mark side d = mark_rows profile side d
+abbrev pub mark : Side → Doc → Doc
+mark side d = mark_by_rows profile side d

@@ -8,9 +8,10 @@ use Rattle.dap_tree.specs.declared.side.Side.{Side}
 use Rattle.dap_tree.specs.declared.sort.Sort.{Sort}
 use Rattle.std.specs.Prelude.{◌≡◌, ℕ, ℤ, List, Some, true}
 use Rattle.dap_profile.specs.Profile.{profile}
+use Rattle.dap_profile.specs.ProfileRows.{ProfileRow}
 use Rattle.dap_message.specs.Capabilities.{filled}
-use Rattle.dap_message.specs.Faults.{fault, Fits}
-use Rattle.dap_message.specs.Marks.{IsMarked, mark}
+use Rattle.dap_message.specs.Faults.{fault, Fits, FitsRows}
+use Rattle.dap_message.specs.Marks.{IsMarked, mark_by_rows}
 use Rattle.dap_message.specs.Numbers.{has_id_numbers}
 use Rattle.dap_message.specs.declared.fault.MessageFault.{MessageFault}
 use Rattle.dap_message.specs.declared.fault.MessageFault.TheVariants.{NotObject, UnknownType}
@@ -38,17 +39,35 @@ sent m = record { side = side_of m; doc = doc_of m }
 abbrev pub list_of_ids : IdList → List (Sort × ℤ)
 list_of_ids l = l.ids.items
 
+-- ---- by some rows
+
+-- The document of the message that d is on this side by these rows: d with its capabilities, and
+-- with its ids.
+abbrev pub message_by_rows : List ProfileRow → Side → Doc → Doc
+message_by_rows rows side d = mark_by_rows rows side (filled side d)
+
+-- The document d is typed on this side by these rows as the document m.
+abbrev pub IsTypedByRows : List ProfileRow → Side → Doc → Doc → Type 0
+IsTypedByRows rows side d m = FitsRows rows d × (m ≡ message_by_rows rows side d)
+
+-- The content is by these rows that of a message of this side with the document m.
+abbrev pub IsTypedContentByRows : List ProfileRow → Side → List ℕ → Doc → Type 0
+IsTypedContentByRows rows side bytes m =
+    (d : Doc) × IsRead bytes d × IsTypedByRows rows side d m
+
+-- ---- by the profile
+
 -- The document of the message that d is on this side: d with its capabilities, and with its ids.
 abbrev pub message_of : Side → Doc → Doc
-message_of side d = mark side (filled side d)
+message_of side d = message_by_rows profile side d
 
 -- The document d is typed on this side as the document m.
 abbrev pub IsTyped : Side → Doc → Doc → Type 0
-IsTyped side d m = Fits d × (m ≡ message_of side d)
+IsTyped side d m = IsTypedByRows profile side d m
 
 -- The content is that of a message of this side with the document m.
 abbrev pub IsTypedContent : Side → List ℕ → Doc → Type 0
-IsTypedContent side bytes m = (d : Doc) × IsRead bytes d × IsTyped side d m
+IsTypedContent side bytes m = IsTypedContentByRows profile side bytes m
 
 -- The content is that of the message m, if m is typed from some document.
 abbrev pub IsTypedBack : Side → Doc → List ℕ → Type 0

@@ -24,16 +24,17 @@ pub(crate) fn cause_of(row: &Row, tree: &Tree) -> Option<Cause>
 {
     match row.place {
         Place::Member(a) => judge_member(tree, a, row.want, row.needed),
-        Place::Inner(a, b) => match tree.child(a) {
-            Some(parent) => judge_member(parent, b, row.want, row.needed),
-            None => None,
-        },
+        Place::Inner(a, b) => judge_inner(tree, a, b, row.want, row.needed),
         Place::Element(a, b) => match list_at(tree, a, b) {
             Some(elements) => judge_elements(elements, row.want, row.needed),
             None => None,
         },
         Place::Part(a, b, c) => match list_at(tree, a, b) {
             Some(elements) => judge_parts(elements, c, row.want, row.needed),
+            None => None,
+        },
+        Place::Deep(a, b, c) => match tree.child(a) {
+            Some(parent) => judge_inner(parent, b, c, row.want, row.needed),
             None => None,
         },
     }
@@ -48,9 +49,15 @@ fn has_type(tree: &Tree, want: Want) -> bool
         (Want::Text, Tree::Text(_)) => true,
         (Want::Object, Tree::Object(_)) => true,
         (Want::List, Tree::List(_)) => true,
-        (Want::OwnSeq | Want::OtherSeq | Want::Frame | Want::Reference, Tree::Whole(number)) => {
-            i64::MIN as i128 <= *number && *number <= i64::MAX as i128
-        }
+        (
+            Want::OwnSeq
+            | Want::OtherSeq
+            | Want::Frame
+            | Want::Reference
+            | Want::Thread
+            | Want::Breakpoint,
+            Tree::Whole(number),
+        ) => i64::MIN as i128 <= *number && *number <= i64::MAX as i128,
         _ => false,
     }
 }
@@ -77,6 +84,18 @@ fn judge_member(parent: &Tree, name: &str, want: Want, needed: bool) -> Option<C
         judge(parent.child(name), want, needed)
     } else {
         None
+    }
+}
+
+/// Nothing is asked where the outer member is not there.
+fn judge_inner(tree: &Tree, outer: &str, inner: &str, want: Want, needed: bool) -> Option<Cause>
+    ensures { result
+        ≡ first_cause (map (cause_against want needed)
+        (parts_at (named outer.now ∷ named inner.now ∷ []) (view tree.now))) }
+{
+    match tree.child(outer) {
+        Some(parent) => judge_member(parent, inner, want, needed),
+        None => None,
     }
 }
 

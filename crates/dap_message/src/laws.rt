@@ -8,6 +8,8 @@ ghost use Rattle.dap_message.specs.Laws.{RenumberedTyped, RenumberedContentTyped
 ghost use Rattle.dap_message.specs.Laws.{SmallAreIdNumbers, Renumbers, MarkedByPath, OneMarked};
 ghost use Rattle.dap_message.specs.Laws.{FilledFits, ProfileNumbered, FitsByPath, FaultByPath};
 ghost use Rattle.dap_message.specs.Laws.{FilledOnce, ContentShown, ShownAlike, EachShown};
+ghost use Rattle.dap_message.specs.Laws.{FitsFirst, MarkedInTwo, FirstTypedAgain};
+ghost use Rattle.dap_message.specs.Laws.{FirstContentTypedAgain};
 
 /// A content is one message, or is refused for one reason.
 pub fn one_outcome()
@@ -43,6 +45,15 @@ pub fn typed_again()
     ensures document { TypedAgain }
     ensures content { ContentTypedAgain }
     ensures own_numbers { OwnContentTypedAgain }
+{}
+
+/// A message that was typed by the first rows alone, also with other numbers at its ids, is typed
+/// again by the whole profile, and gets the ids that the later rows tell.
+pub fn typed_by_later_rows()
+    ensures fits { FitsFirst }
+    ensures marked { MarkedInTwo }
+    ensures document { FirstTypedAgain }
+    ensures content { FirstContentTypedAgain }
 {}
 
 /// What a message with other numbers at its ids shares with it, and which ids it has.

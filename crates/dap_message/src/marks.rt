@@ -53,6 +53,8 @@ fn sort_of(side: Side, want: Want) -> Option<Sort>
         (Side::Adapter, Want::OwnSeq) | (Side::Client, Want::OtherSeq) => Some(Sort::AdapterSeq),
         (_, Want::Frame) => Some(Sort::Frame),
         (_, Want::Reference) => Some(Sort::Reference),
+        (_, Want::Thread) => Some(Sort::Thread),
+        (_, Want::Breakpoint) => Some(Sort::Breakpoint),
         _ => None,
     }
 }
@@ -70,6 +72,9 @@ fn mark_place(tree: &mut Tree, place: Place, sort: Sort)
                 &[Step::Name(a), Step::Name(b), Step::Each, Step::Name(c)],
                 sort,
             )
+        }
+        Place::Deep(a, b, c) => {
+            mark_path(tree, &[Step::Name(a), Step::Name(b), Step::Name(c)], sort)
         }
     }
 }

@@ -88,25 +88,43 @@ named-kept k n (r ∷ rs) h =
         absurd (true≢false (sym (and_right (option_map_or (same_kind j) k false) false h)))
     asked (Some j) (Some m) h = rw (and_left (option_map_or (same_kind j) k false) true h) refl
 
--- what a kind has: rows that are asked of each of its messages, and rows by name
-pub stretches : (j k : Kind) → j ≡ k → (n : Option (List ℕ)) (a b c e x y : List ProfileRow)
-    → filter (may_ask (Some k)) profile ≡ a ++ (b ++ (c ++ (e ++ [])))
-    → list_all (whole_kind (Some k)) a ≡ true → list_all (whole_kind (Some k)) b ≡ true
-    → list_all (with_name (Some k)) c ≡ true → list_all (with_name (Some k)) e ≡ true
-    → x ≡ rows_named n c → y ≡ rows_named n e
-    → a ++ (b ++ (x ++ (y ++ []))) ≡ rows_asked (Some j) n
-unfolding rows_asked rows_named
-stretches j k same n a b c e x y h ha hb hc he hx hy =
-    let f = asks (Some k) n in
+-- ---- part by part
+
+-- the rows of some parts of a kind, as they are asked by a name
+pub record AskedOf (k : Kind) (n : Option (List ℕ)) (rs xs : List ProfileRow) : Type 0 where
+  pub kept : filter (asks (Some k) n) rs ≡ xs
+
+pub no-parts : (k : Kind) (n : Option (List ℕ)) → AskedOf k n [] []
+no-parts k n = record { kept = refl }
+
+-- a part whose rows are asked of each message of the kind, then others
+pub whole-part : (k : Kind) (n : Option (List ℕ)) (a rest y : List ProfileRow)
+    → list_all (whole_kind (Some k)) a ≡ true → AskedOf k n rest y
+    → AskedOf k n (a ++ rest) (a ++ y)
+whole-part k n a rest y h later = record {
+  kept = filter-append (asks (Some k) n) a rest
+      ∙ ap₂ (λ x y. x ++ y) (whole-kept (Some k) n a h) later.kept;
+}
+
+-- a part whose rows are asked by name, then others
+pub named-part : (k : Kind) (n : Option (List ℕ)) (c x rest y : List ProfileRow)
+    → list_all (with_name (Some k)) c ≡ true → x ≡ rows_named n c → AskedOf k n rest y
+    → AskedOf k n (c ++ rest) (x ++ y)
+unfolding rows_named
+named-part k n c x rest y h is later = record {
+  kept = filter-append (asks (Some k) n) c rest
+      ∙ ap₂ (λ x y. x ++ y) (named-kept (Some k) n c h ∙ sym is) later.kept;
+}
+
+-- what a kind has, in parts of the table
+pub asked-of-kind : (j k : Kind) → j ≡ k → (n : Option (List ℕ)) (parts x : List ProfileRow)
+    → filter (may_ask (Some k)) profile ≡ parts → AskedOf k n parts x
+    → x ≡ rows_asked (Some j) n
+unfolding rows_asked
+asked-of-kind j k same n parts x h asked =
     sym
-    (ap (λ i. filter (asks (Some i) n) profile) same ∙ narrower (Some k) n profile ∙ ap (filter f) h
-    ∙ filter-append f a (b ++ (c ++ (e ++ [])))
-    ∙ ap₂ (λ x y. x ++ y) (whole-kept (Some k) n a ha)
-    (filter-append f b (c ++ (e ++ []))
-    ∙ ap₂ (λ x y. x ++ y) (whole-kept (Some k) n b hb)
-    (filter-append f c (e ++ [])
-    ∙ ap₂ (λ x y. x ++ y) (named-kept (Some k) n c hc ∙ sym hx)
-    (filter-append f e [] ∙ ap (λ x. x ++ []) (named-kept (Some k) n e he ∙ sym hy)))))
+    (ap (λ i. filter (asks (Some i) n) profile) same ∙ narrower (Some k) n profile
+    ∙ ap (filter (asks (Some k) n)) h ∙ asked.kept)
 
 -- ---- the rows of a name
 
@@ -138,10 +156,6 @@ first-run n r rs t h =
     subst (λ m. only_front (has_name m) rs
     ≡ true) e (and_left (only_front (has_name r.name) rs) (together rs) t) in
     rw h (ap (λ xs. r ∷ xs) (front-kept (has_name n) rs only))
-
-pub none-named : (n : Option (List ℕ)) → [] ≡ rows_named n []
-unfolding rows_named
-none-named n = refl
 
 pub first-run-at : (n : Option (List ℕ)) (rows : List Row) (i : ℕ) (row : Row) → i < length rows
     → together (map row_of (drop i rows)) ≡ true → has_name n (row_of (get_or rows i row)) ≡ true

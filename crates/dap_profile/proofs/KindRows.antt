@@ -1,17 +1,17 @@
--- The rows that are asked of the messages of a kind are stretches of the profile.
+-- The rows that are asked of the messages of a kind are parts of the profile.
 use Rattle.std.proofs.Common.{◌≡◌, ℕ, true, List, [], ◌++◌, Option, Some, refl, sym, ◌∙◌, ap, ap₂}
 use Rattle.std.proofs.Common.{take, drop, map}
 use Rattle.std.proofs.lemmas.List.{take-map, drop-map}
 use Rattle.std.specs.List.{filter}
-use Rattle.dap_profile.proofs.AskedRows.{stretches, none-named}
-use Rattle.dap_profile.specs.Profile.{profile}
+use Rattle.dap_profile.proofs.AskedRows.{asked-of-kind, whole-part, named-part, no-parts}
+use Rattle.dap_profile.specs.Profile.{profile, first_rows, later_rows}
 use Rattle.dap_profile.specs.ProfileRows.{ProfileRow, row_of}
 use Rattle.dap_profile.specs.Stretches.{may_ask, rows_asked, rows_named, one_name, together}
 use Rattle.dap_profile.specs.declared.profile.Kind.{Kind}
 use Rattle.dap_profile.specs.declared.profile.Kind.TheVariants.{Request, Response, Event}
 use Rattle.dap_profile.specs.declared.profile.Row.{Row}
 
--- ---- stretches of the table
+-- ---- parts of the table
 
 -- the rows behind some others, so many of them
 behind : (first count : ℕ) (rows : List Row) → map row_of rows ≡ profile
@@ -26,78 +26,149 @@ every rows h = sym (take-map row_of 1 rows) ∙ ap (take 1) h
 -- ---- the rows of a kind
 
 requests : filter (may_ask (Some Request)) profile
-    ≡ take 1 profile ++ (take 1 (drop 1 profile) ++ (take 42 (drop 7 profile) ++ ([] ++ [])))
-unfolding profile
+    ≡ take 1 profile
+    ++ (take 1 (drop 1 profile)
+    ++ (take 42 (drop 7 profile)
+    ++ (take 11 (drop 140 profile) ++ (take 11 (drop 155 profile) ++ []))))
+unfolding profile first_rows later_rows
 requests = refl
 
 events : filter (may_ask (Some Event)) profile
-    ≡ take 1 profile ++ (take 1 (drop 2 profile) ++ (take 17 (drop 87 profile) ++ ([] ++ [])))
-unfolding profile
+    ≡ take 1 profile
+    ++ (take 1 (drop 2 profile)
+    ++ (take 17 (drop 87 profile)
+    ++ (take 4 (drop 151 profile) ++ (take 5 (drop 167 profile) ++ []))))
+unfolding profile first_rows later_rows
 events = refl
 
 responses : filter (may_ask (Some Response)) profile
     ≡ take 1 profile
     ++ (take 4 (drop 3 profile)
-    ++ (take 38 (drop 49 profile) ++ (take 35 (drop 104 profile) ++ [])))
-unfolding profile
+    ++ (take 38 (drop 49 profile)
+    ++ (take 35 (drop 104 profile)
+    ++ (take 1 (drop 139 profile)
+    ++ (take 1 (drop 166 profile) ++ (take 16 (drop 172 profile) ++ []))))))
+unfolding profile first_rows later_rows
 responses = refl
 
-pub request-names : (rows : List Row) → map row_of rows ≡ profile
-    → together (map row_of (take 42 (drop 7 rows))) ≡ true
-unfolding profile
-request-names rows h = ap together (behind 7 42 rows h)
+-- the rows of each name stand together in these parts
+abbrev Grouped : ℕ → ℕ → Type 0
+Grouped first count =
+    (rows : List Row) → map row_of rows ≡ profile
+    → together (map row_of (take count (drop first rows))) ≡ true
 
-pub event-names : (rows : List Row) → map row_of rows ≡ profile
-    → together (map row_of (take 17 (drop 87 rows))) ≡ true
-unfolding profile
-event-names rows h = ap together (behind 87 17 rows h)
+pub first-requests : Grouped 7 42
+unfolding profile first_rows later_rows
+first-requests rows h = ap together (behind 7 42 rows h)
 
-pub response-names : (rows : List Row) → map row_of rows ≡ profile
-    → together (map row_of (take 38 (drop 49 rows))) ≡ true
-unfolding profile
-response-names rows h = ap together (behind 49 38 rows h)
+pub second-requests : Grouped 140 11
+unfolding profile first_rows later_rows
+second-requests rows h = ap together (behind 140 11 rows h)
 
-pub initialize-name : (rows : List Row) → map row_of rows ≡ profile
-    → one_name (map row_of (take 35 (drop 104 rows))) ≡ true
-unfolding profile
+pub third-requests : Grouped 155 11
+unfolding profile first_rows later_rows
+third-requests rows h = ap together (behind 155 11 rows h)
+
+pub first-events : Grouped 87 17
+unfolding profile first_rows later_rows
+first-events rows h = ap together (behind 87 17 rows h)
+
+pub second-events : Grouped 151 4
+unfolding profile first_rows later_rows
+second-events rows h = ap together (behind 151 4 rows h)
+
+pub third-events : Grouped 167 5
+unfolding profile first_rows later_rows
+third-events rows h = ap together (behind 167 5 rows h)
+
+pub first-responses : Grouped 49 38
+unfolding profile first_rows later_rows
+first-responses rows h = ap together (behind 49 38 rows h)
+
+pub last-responses : Grouped 172 16
+unfolding profile first_rows later_rows
+last-responses rows h = ap together (behind 172 16 rows h)
+
+-- the rows of these parts have one name
+abbrev OfOne : ℕ → ℕ → Type 0
+OfOne first count =
+    (rows : List Row) → map row_of rows ≡ profile
+    → one_name (map row_of (take count (drop first rows))) ≡ true
+
+pub initialize-name : OfOne 104 35
+unfolding profile first_rows later_rows
 initialize-name rows h = ap one_name (behind 104 35 rows h)
+
+pub threads-name : OfOne 139 1
+unfolding profile first_rows later_rows
+threads-name rows h = ap one_name (behind 139 1 rows h)
+
+pub breakpoints-name : OfOne 166 1
+unfolding profile first_rows later_rows
+breakpoints-name rows h = ap one_name (behind 166 1 rows h)
 
 -- ---- the rows of a kind and a name
 
+-- x is what a name has of a part of the table
+abbrev Named : Option (List ℕ) → List Row → ℕ → ℕ → List ProfileRow → Type 0
+Named n rows first count x = x ≡ rows_named n (map row_of (take count (drop first rows)))
+
+of-part : (n : Option (List ℕ)) (rows : List Row) (first count : ℕ) (x : List ProfileRow)
+    → map row_of rows ≡ profile → Named n rows first count x
+    → x ≡ rows_named n (take count (drop first profile))
+of-part n rows first count x h is = is ∙ ap (rows_named n) (behind first count rows h)
+
 pub of-requests : (k : Kind) → k ≡ Request → (n : Option (List ℕ)) (rows : List Row)
-    → (x : List ProfileRow) → map row_of rows ≡ profile
-    → x ≡ rows_named n (map row_of (take 42 (drop 7 rows)))
-    → map row_of (take 1 rows) ++ (map row_of (take 1 (drop 1 rows)) ++ (x ++ ([] ++ [])))
+    → (x y z : List ProfileRow) → map row_of rows ≡ profile
+    → Named n rows 7 42 x → Named n rows 140 11 y → Named n rows 155 11 z
+    → map row_of (take 1 rows)
+    ++ (map row_of (take 1 (drop 1 rows)) ++ (x ++ (y ++ (z ++ []))))
     ≡ rows_asked (Some k) n
-unfolding profile
-of-requests k is n rows x h named =
-    ap₂ (λ a b. a ++ (b ++ (x ++ []))) (every rows h) (behind 1 1 rows h)
-    ∙ stretches k Request is n (take 1 profile) (take 1 (drop 1 profile)) (take 42 (drop 7 profile))
-    [] x [] requests refl refl refl refl (named ∙ ap (rows_named n) (behind 7 42 rows h))
-    (none-named n)
+unfolding profile first_rows later_rows
+of-requests k is n rows x y z h hx hy hz =
+    ap₂ (λ a b. a ++ (b ++ (x ++ (y ++ (z ++ []))))) (every rows h) (behind 1 1 rows h)
+    ∙ asked-of-kind k Request is n _ _ requests
+    (whole-part Request n (take 1 profile) _ _ refl
+    (whole-part Request n (take 1 (drop 1 profile)) _ _ refl
+    (named-part Request n (take 42 (drop 7 profile)) x _ _ refl (of-part n rows 7 42 x h hx)
+    (named-part Request n (take 11 (drop 140 profile)) y _ _ refl (of-part n rows 140 11 y h hy)
+    (named-part Request n (take 11 (drop 155 profile)) z _ _ refl (of-part n rows 155 11 z h hz)
+    (no-parts Request n))))))
 
 pub of-events : (k : Kind) → k ≡ Event → (n : Option (List ℕ)) (rows : List Row)
-    → (x : List ProfileRow) → map row_of rows ≡ profile
-    → x ≡ rows_named n (map row_of (take 17 (drop 87 rows)))
-    → map row_of (take 1 rows) ++ (map row_of (take 1 (drop 2 rows)) ++ (x ++ ([] ++ [])))
+    → (x y z : List ProfileRow) → map row_of rows ≡ profile
+    → Named n rows 87 17 x → Named n rows 151 4 y → Named n rows 167 5 z
+    → map row_of (take 1 rows)
+    ++ (map row_of (take 1 (drop 2 rows)) ++ (x ++ (y ++ (z ++ []))))
     ≡ rows_asked (Some k) n
-unfolding profile
-of-events k is n rows x h named =
-    ap₂ (λ a b. a ++ (b ++ (x ++ []))) (every rows h) (behind 2 1 rows h)
-    ∙ stretches k Event is n (take 1 profile) (take 1 (drop 2 profile)) (take 17 (drop 87 profile))
-    [] x [] events refl refl refl refl (named ∙ ap (rows_named n) (behind 87 17 rows h))
-    (none-named n)
+unfolding profile first_rows later_rows
+of-events k is n rows x y z h hx hy hz =
+    ap₂ (λ a b. a ++ (b ++ (x ++ (y ++ (z ++ []))))) (every rows h) (behind 2 1 rows h)
+    ∙ asked-of-kind k Event is n _ _ events
+    (whole-part Event n (take 1 profile) _ _ refl
+    (whole-part Event n (take 1 (drop 2 profile)) _ _ refl
+    (named-part Event n (take 17 (drop 87 profile)) x _ _ refl (of-part n rows 87 17 x h hx)
+    (named-part Event n (take 4 (drop 151 profile)) y _ _ refl (of-part n rows 151 4 y h hy)
+    (named-part Event n (take 5 (drop 167 profile)) z _ _ refl (of-part n rows 167 5 z h hz)
+    (no-parts Event n))))))
 
 pub of-responses : (k : Kind) → k ≡ Response → (n : Option (List ℕ)) (rows : List Row)
-    → (x y : List ProfileRow) → map row_of rows ≡ profile
-    → x ≡ rows_named n (map row_of (take 38 (drop 49 rows)))
-    → y ≡ rows_named n (map row_of (take 35 (drop 104 rows)))
-    → map row_of (take 1 rows) ++ (map row_of (take 4 (drop 3 rows)) ++ (x ++ (y ++ [])))
+    → (x y z u v : List ProfileRow) → map row_of rows ≡ profile
+    → Named n rows 49 38 x → Named n rows 104 35 y → Named n rows 139 1 z → Named n rows 166 1 u
+    → Named n rows 172 16 v
+    → map row_of (take 1 rows)
+    ++ (map row_of (take 4 (drop 3 rows)) ++ (x ++ (y ++ (z ++ (u ++ (v ++ []))))))
     ≡ rows_asked (Some k) n
-unfolding profile
-of-responses k is n rows x y h named initialize =
-    ap₂ (λ a b. a ++ (b ++ (x ++ (y ++ [])))) (every rows h) (behind 3 4 rows h)
-    ∙ stretches k Response is n (take 1 profile) (take 4 (drop 3 profile))
-    (take 38 (drop 49 profile)) (take 35 (drop 104 profile)) x y responses refl refl refl refl
-    (named ∙ ap (rows_named n) (behind 49 38 rows h))
-    (initialize ∙ ap (rows_named n) (behind 104 35 rows h))
+unfolding profile first_rows later_rows
+of-responses k is n rows x y z u v h hx hy hz hu hv =
+    ap₂ (λ a b. a ++ (b ++ (x ++ (y ++ (z ++ (u ++ (v ++ []))))))) (every rows h)
+    (behind 3 4 rows h)
+    ∙ asked-of-kind k Response is n _ _ responses
+    (whole-part Response n (take 1 profile) _ _ refl
+    (whole-part Response n (take 4 (drop 3 profile)) _ _ refl
+    (named-part Response n (take 38 (drop 49 profile)) x _ _ refl (of-part n rows 49 38 x h hx)
+    (named-part Response n (take 35 (drop 104 profile)) y _ _ refl (of-part n rows 104 35 y h hy)
+    (named-part Response n (take 1 (drop 139 profile)) z _ _ refl (of-part n rows 139 1 z h hz)
+    (named-part Response n (take 1 (drop 166 profile)) u _ _ refl (of-part n rows 166 1 u h hu)
+    (named-part Response n (take 16 (drop 172 profile)) v _ _ refl (of-part n rows 172 16 v h hv)
+    (no-parts Response n))))))))

@@ -2,6 +2,7 @@
 use Rattle.std.specs.Prelude.{ℕ, List, [], ◌∷◌}
 use Rattle.dap_profile.specs.declared.profile.Place.{Place}
 use Rattle.dap_profile.specs.declared.profile.Place.TheVariants.{Member, Inner, Element, Part}
+use Rattle.dap_profile.specs.declared.profile.Place.TheVariants.{Deep}
 
 -- One step of a place: to the member of a name, or to each element of a list.
 pub data PlaceStep : Type 0 where
@@ -14,3 +15,4 @@ steps_of (Member a) = named a.now ∷ []
 steps_of (Inner a b) = named a.now ∷ named b.now ∷ []
 steps_of (Element a b) = named a.now ∷ named b.now ∷ each ∷ []
 steps_of (Part a b c) = named a.now ∷ named b.now ∷ each ∷ named c.now ∷ []
+steps_of (Deep a b c) = named a.now ∷ named b.now ∷ named c.now ∷ []

@@ -1,7 +1,8 @@
 -- The rows of the profile: number, messages, place, wanted type, and whether it is needed. The
 -- members and their types are those of the DAP specification's schema, narrowed to what this
 -- project reads; what is needed is own.
-use Rattle.std.specs.Prelude.{ℕ, Bool, List, [], ◌∷◌, Option, true, false, Some, None, codes}
+use Rattle.std.specs.Prelude.{ℕ, Bool, List, [], ◌∷◌, ◌++◌, Option, true, false, Some, None}
+use Rattle.std.specs.Prelude.{codes}
 use Rattle.dap_profile.specs.PlaceSteps.{PlaceStep, named, each}
 use Rattle.dap_profile.specs.ProfileRows.{ProfileRow}
 use Rattle.dap_profile.specs.declared.profile.Kind.{Kind}
@@ -10,6 +11,7 @@ use Rattle.dap_profile.specs.declared.profile.Want.{Want}
 use Rattle.dap_profile.specs.declared.profile.Want.TheVariants.{Bool as WantBool, Whole, Text}
 use Rattle.dap_profile.specs.declared.profile.Want.TheVariants.{Object, List as WantList, OwnSeq}
 use Rattle.dap_profile.specs.declared.profile.Want.TheVariants.{OtherSeq, Frame, Reference}
+use Rattle.dap_profile.specs.declared.profile.Want.TheVariants.{Thread, Breakpoint}
 
 abbrev pub row : ℕ → Option Kind → Option (List ℕ) → List PlaceStep → Want → Bool → ProfileRow
 row n k m p w b = record { number = n; kind = k; name = m; place = p; want = w; needed = b }
@@ -36,8 +38,13 @@ each_of a b = named a ∷ named b ∷ each ∷ []
 abbrev pub in_each : List ℕ → List ℕ → List ℕ → List PlaceStep
 in_each a b c = named a ∷ named b ∷ each ∷ named c ∷ []
 
-unfoldable pub profile : List ProfileRow
-profile =
+-- a.b.c
+abbrev pub deep : List ℕ → List ℕ → List ℕ → List PlaceStep
+deep a b c = named a ∷ named b ∷ named c ∷ []
+
+-- The rows of the first profile: sequence numbers, frame ids and variables references (own).
+unfoldable pub first_rows : List ProfileRow
+first_rows =
     row 1 None None (here (codes "seq")) OwnSeq needed
     ∷ row 2 (Some Request) None (here (codes "command")) Text needed
     ∷ row 3 (Some Event) None (here (codes "event")) Text needed
@@ -279,3 +286,102 @@ profile =
     ∷ row 139 (Some Response) (Some (codes "initialize"))
     (inside (codes "body") (codes "supportsWriteMemoryRequest")) WantBool optional
     ∷ []
+
+-- The rows that a later profile has behind them: thread ids and breakpoint ids (own).
+unfoldable pub later_rows : List ProfileRow
+later_rows =
+    row 140 (Some Response) (Some (codes "threads"))
+    (in_each (codes "body") (codes "threads") (codes "id")) Thread needed
+    ∷ row 141 (Some Request) (Some (codes "stackTrace"))
+    (inside (codes "arguments") (codes "threadId")) Thread needed
+    ∷ row 142 (Some Request) (Some (codes "continue")) (here (codes "arguments")) Object needed
+    ∷ row 143 (Some Request) (Some (codes "continue"))
+    (inside (codes "arguments") (codes "threadId")) Thread needed
+    ∷ row 144 (Some Request) (Some (codes "next")) (here (codes "arguments")) Object needed
+    ∷ row 145 (Some Request) (Some (codes "next")) (inside (codes "arguments") (codes "threadId"))
+    Thread needed
+    ∷ row 146 (Some Request) (Some (codes "stepIn")) (here (codes "arguments")) Object needed
+    ∷ row 147 (Some Request) (Some (codes "stepIn")) (inside (codes "arguments") (codes "threadId"))
+    Thread needed
+    ∷ row 148 (Some Request) (Some (codes "stepOut")) (here (codes "arguments")) Object needed
+    ∷ row 149 (Some Request) (Some (codes "stepOut"))
+    (inside (codes "arguments") (codes "threadId")) Thread needed
+    ∷ row 150 (Some Request) (Some (codes "pause")) (here (codes "arguments")) Object needed
+    ∷ row 151 (Some Request) (Some (codes "pause")) (inside (codes "arguments") (codes "threadId"))
+    Thread needed
+    ∷ row 152 (Some Event) (Some (codes "stopped")) (inside (codes "body") (codes "threadId"))
+    Thread optional
+    ∷ row 153 (Some Event) (Some (codes "continued")) (inside (codes "body") (codes "threadId"))
+    Thread optional
+    ∷ row 154 (Some Event) (Some (codes "thread")) (inside (codes "body") (codes "threadId")) Thread
+    optional
+    ∷ row 155 (Some Event) (Some (codes "invalidated")) (inside (codes "body") (codes "threadId"))
+    Thread optional
+    ∷ row 156 (Some Request) (Some (codes "stepBack")) (here (codes "arguments")) Object optional
+    ∷ row 157 (Some Request) (Some (codes "stepBack"))
+    (inside (codes "arguments") (codes "threadId")) Thread optional
+    ∷ row 158 (Some Request) (Some (codes "reverseContinue")) (here (codes "arguments")) Object
+    optional
+    ∷ row 159 (Some Request) (Some (codes "reverseContinue"))
+    (inside (codes "arguments") (codes "threadId")) Thread optional
+    ∷ row 160 (Some Request) (Some (codes "goto")) (here (codes "arguments")) Object optional
+    ∷ row 161 (Some Request) (Some (codes "goto")) (inside (codes "arguments") (codes "threadId"))
+    Thread optional
+    ∷ row 162 (Some Request) (Some (codes "exceptionInfo")) (here (codes "arguments")) Object
+    optional
+    ∷ row 163 (Some Request) (Some (codes "exceptionInfo"))
+    (inside (codes "arguments") (codes "threadId")) Thread optional
+    ∷ row 164 (Some Request) (Some (codes "terminateThreads")) (here (codes "arguments")) Object
+    optional
+    ∷ row 165 (Some Request) (Some (codes "terminateThreads"))
+    (inside (codes "arguments") (codes "threadIds")) WantList optional
+    ∷ row 166 (Some Request) (Some (codes "terminateThreads"))
+    (each_of (codes "arguments") (codes "threadIds")) Thread needed
+    ∷ row 167 (Some Response) (Some (codes "setBreakpoints"))
+    (in_each (codes "body") (codes "breakpoints") (codes "id")) Breakpoint optional
+    ∷ row 168 (Some Event) (Some (codes "stopped"))
+    (inside (codes "body") (codes "hitBreakpointIds")) WantList optional
+    ∷ row 169 (Some Event) (Some (codes "stopped"))
+    (each_of (codes "body") (codes "hitBreakpointIds")) Breakpoint needed
+    ∷ row 170 (Some Event) (Some (codes "breakpoint")) (here (codes "body")) Object optional
+    ∷ row 171 (Some Event) (Some (codes "breakpoint")) (inside (codes "body") (codes "breakpoint"))
+    Object optional
+    ∷ row 172 (Some Event) (Some (codes "breakpoint"))
+    (deep (codes "body") (codes "breakpoint") (codes "id")) Breakpoint optional
+    ∷ row 173 (Some Response) (Some (codes "setFunctionBreakpoints")) (here (codes "body")) Object
+    optional
+    ∷ row 174 (Some Response) (Some (codes "setFunctionBreakpoints"))
+    (inside (codes "body") (codes "breakpoints")) WantList optional
+    ∷ row 175 (Some Response) (Some (codes "setFunctionBreakpoints"))
+    (each_of (codes "body") (codes "breakpoints")) Object needed
+    ∷ row 176 (Some Response) (Some (codes "setFunctionBreakpoints"))
+    (in_each (codes "body") (codes "breakpoints") (codes "id")) Breakpoint optional
+    ∷ row 177 (Some Response) (Some (codes "setDataBreakpoints")) (here (codes "body")) Object
+    optional
+    ∷ row 178 (Some Response) (Some (codes "setDataBreakpoints"))
+    (inside (codes "body") (codes "breakpoints")) WantList optional
+    ∷ row 179 (Some Response) (Some (codes "setDataBreakpoints"))
+    (each_of (codes "body") (codes "breakpoints")) Object needed
+    ∷ row 180 (Some Response) (Some (codes "setDataBreakpoints"))
+    (in_each (codes "body") (codes "breakpoints") (codes "id")) Breakpoint optional
+    ∷ row 181 (Some Response) (Some (codes "setInstructionBreakpoints")) (here (codes "body"))
+    Object optional
+    ∷ row 182 (Some Response) (Some (codes "setInstructionBreakpoints"))
+    (inside (codes "body") (codes "breakpoints")) WantList optional
+    ∷ row 183 (Some Response) (Some (codes "setInstructionBreakpoints"))
+    (each_of (codes "body") (codes "breakpoints")) Object needed
+    ∷ row 184 (Some Response) (Some (codes "setInstructionBreakpoints"))
+    (in_each (codes "body") (codes "breakpoints") (codes "id")) Breakpoint optional
+    ∷ row 185 (Some Response) (Some (codes "setExceptionBreakpoints")) (here (codes "body")) Object
+    optional
+    ∷ row 186 (Some Response) (Some (codes "setExceptionBreakpoints"))
+    (inside (codes "body") (codes "breakpoints")) WantList optional
+    ∷ row 187 (Some Response) (Some (codes "setExceptionBreakpoints"))
+    (each_of (codes "body") (codes "breakpoints")) Object needed
+    ∷ row 188 (Some Response) (Some (codes "setExceptionBreakpoints"))
+    (in_each (codes "body") (codes "breakpoints") (codes "id")) Breakpoint optional
+    ∷ []
+
+-- The rows of the profile.
+unfoldable pub profile : List ProfileRow
+profile = first_rows ++ later_rows

@@ -7,27 +7,51 @@ ghost use Rattle.dap_profile.specs.ProfileRows.{row_of};
 use crate::profile::{Kind, Row, profile_rows};
 
 /// Rows of the profile in the order of their numbers, as stretches of it.
-pub type AskedRows = [&'static [Row]; 4];
+pub type AskedRows = [&'static [Row]; 7];
 
 /// The rows that are asked of a message of this kind and name.
 ///
 /// Of the table's rows the first is asked of every message, 2 of requests, 3 of events, 4 to 7 of
-/// responses; by name 8 to 49 of requests, 50 to 87 of responses, 88 to 104 of events, and the rest
-/// of responses to `initialize`.
+/// responses. The others are asked by name, and those of a kind stand in two or more parts of the
+/// table: of requests 8 to 49, 141 to 151 and 156 to 166; of events 88 to 104, 152 to 155 and 168
+/// to 172; of responses 50 to 87, 105 to 139 (to `initialize` alone), 140, 167 and 173 to 188.
 pub fn rows_of(kind: Kind, name: Option<&str>) -> AskedRows
     ensures { rows_in result ≡ rows_asked (Some kind) (option_map (λ s. s.now) name.entry) }
 {
     let rows = profile_rows();
     let every = &rows[..1];
     match kind {
-        Kind::Request => [every, &rows[1..2], rows_named(&rows[7..49], name), &[]],
-        Kind::Event => [every, &rows[2..3], rows_named(&rows[87..104], name), &[]],
+        Kind::Request => {
+            [
+                every,
+                &rows[1..2],
+                rows_named(&rows[7..49], name),
+                rows_named(&rows[140..151], name),
+                rows_named(&rows[155..166], name),
+                &[],
+                &[],
+            ]
+        }
+        Kind::Event => {
+            [
+                every,
+                &rows[2..3],
+                rows_named(&rows[87..104], name),
+                rows_named(&rows[151..155], name),
+                rows_named(&rows[167..172], name),
+                &[],
+                &[],
+            ]
+        }
         Kind::Response => {
             [
                 every,
                 &rows[3..7],
                 rows_named(&rows[49..87], name),
-                all_if_named(&rows[104..], name),
+                all_if_named(&rows[104..139], name),
+                all_if_named(&rows[139..140], name),
+                all_if_named(&rows[166..167], name),
+                rows_named(&rows[172..], name),
             ]
         }
     }

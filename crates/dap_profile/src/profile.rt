@@ -13,7 +13,7 @@ pub enum Kind {
 
 /// What a row wants at its place.
 ///
-/// The last four want a number of a tree from -2^63 to 2^63-1, which is an id there.
+/// The last six want a number of a tree from -2^63 to 2^63-1, which is an id there.
 #[derive(Clone, Copy, Debug, PartialEq, Eq, Drop)]
 pub enum Want {
     Bool,
@@ -30,6 +30,10 @@ pub enum Want {
     Frame,
     /// A variables reference. Where it is 0 it refers to nothing, and is no id.
     Reference,
+    /// The id of a thread, 0 too.
+    Thread,
+    /// The id of a breakpoint, 0 too.
+    Breakpoint,
 }
 
 /// Where in a message a row looks, by the names of the members on the way.
@@ -43,6 +47,8 @@ pub enum Place {
     Element(&'static str, &'static str),
     /// `a.b[].c`: a member of each element of a list.
     Part(&'static str, &'static str, &'static str),
+    /// `a.b.c`: a member of a member of a member.
+    Deep(&'static str, &'static str, &'static str),
 }
 
 /// A row of the profile.
@@ -121,7 +127,7 @@ macro_rules! profile_rows {
 /// The members and their types are those of the protocol's schema, narrowed to what this project
 /// reads; what is needed of them is this project's choice. A line is a row: number, messages,
 /// place, wanted type, and whether it is needed.
-pub static PROFILE: [Row; 139] = profile_rows! {
+pub static PROFILE: [Row; 188] = profile_rows! {
     1 every Member("seq") OwnSeq needed;
     2 request Member("command") Text needed;
     3 event Member("event") Text needed;
@@ -261,10 +267,59 @@ pub static PROFILE: [Row; 139] = profile_rows! {
     137 response("initialize") Inner("body", "supportsTerminateThreadsRequest") Bool optional;
     138 response("initialize") Inner("body", "supportsValueFormattingOptions") Bool optional;
     139 response("initialize") Inner("body", "supportsWriteMemoryRequest") Bool optional;
+    140 response("threads") Part("body", "threads", "id") Thread needed;
+    141 request("stackTrace") Inner("arguments", "threadId") Thread needed;
+    142 request("continue") Member("arguments") Object needed;
+    143 request("continue") Inner("arguments", "threadId") Thread needed;
+    144 request("next") Member("arguments") Object needed;
+    145 request("next") Inner("arguments", "threadId") Thread needed;
+    146 request("stepIn") Member("arguments") Object needed;
+    147 request("stepIn") Inner("arguments", "threadId") Thread needed;
+    148 request("stepOut") Member("arguments") Object needed;
+    149 request("stepOut") Inner("arguments", "threadId") Thread needed;
+    150 request("pause") Member("arguments") Object needed;
+    151 request("pause") Inner("arguments", "threadId") Thread needed;
+    152 event("stopped") Inner("body", "threadId") Thread optional;
+    153 event("continued") Inner("body", "threadId") Thread optional;
+    154 event("thread") Inner("body", "threadId") Thread optional;
+    155 event("invalidated") Inner("body", "threadId") Thread optional;
+    156 request("stepBack") Member("arguments") Object optional;
+    157 request("stepBack") Inner("arguments", "threadId") Thread optional;
+    158 request("reverseContinue") Member("arguments") Object optional;
+    159 request("reverseContinue") Inner("arguments", "threadId") Thread optional;
+    160 request("goto") Member("arguments") Object optional;
+    161 request("goto") Inner("arguments", "threadId") Thread optional;
+    162 request("exceptionInfo") Member("arguments") Object optional;
+    163 request("exceptionInfo") Inner("arguments", "threadId") Thread optional;
+    164 request("terminateThreads") Member("arguments") Object optional;
+    165 request("terminateThreads") Inner("arguments", "threadIds") List optional;
+    166 request("terminateThreads") Element("arguments", "threadIds") Thread needed;
+    167 response("setBreakpoints") Part("body", "breakpoints", "id") Breakpoint optional;
+    168 event("stopped") Inner("body", "hitBreakpointIds") List optional;
+    169 event("stopped") Element("body", "hitBreakpointIds") Breakpoint needed;
+    170 event("breakpoint") Member("body") Object optional;
+    171 event("breakpoint") Inner("body", "breakpoint") Object optional;
+    172 event("breakpoint") Deep("body", "breakpoint", "id") Breakpoint optional;
+    173 response("setFunctionBreakpoints") Member("body") Object optional;
+    174 response("setFunctionBreakpoints") Inner("body", "breakpoints") List optional;
+    175 response("setFunctionBreakpoints") Element("body", "breakpoints") Object needed;
+    176 response("setFunctionBreakpoints") Part("body", "breakpoints", "id") Breakpoint optional;
+    177 response("setDataBreakpoints") Member("body") Object optional;
+    178 response("setDataBreakpoints") Inner("body", "breakpoints") List optional;
+    179 response("setDataBreakpoints") Element("body", "breakpoints") Object needed;
+    180 response("setDataBreakpoints") Part("body", "breakpoints", "id") Breakpoint optional;
+    181 response("setInstructionBreakpoints") Member("body") Object optional;
+    182 response("setInstructionBreakpoints") Inner("body", "breakpoints") List optional;
+    183 response("setInstructionBreakpoints") Element("body", "breakpoints") Object needed;
+    184 response("setInstructionBreakpoints") Part("body", "breakpoints", "id") Breakpoint optional;
+    185 response("setExceptionBreakpoints") Member("body") Object optional;
+    186 response("setExceptionBreakpoints") Inner("body", "breakpoints") List optional;
+    187 response("setExceptionBreakpoints") Element("body", "breakpoints") Object needed;
+    188 response("setExceptionBreakpoints") Part("body", "breakpoints", "id") Breakpoint optional;
 };
 
 /// The rows of the table, in the order of their numbers.
-pub fn profile_rows() -> &'static [Row; 139]
+pub fn profile_rows() -> &'static [Row; 188]
     ensures { map row_of result.now ≡ profile }
 {
     &PROFILE

@@ -51,6 +51,8 @@ want_word want.OwnSeq = codes "own-seq"
 want_word want.OtherSeq = codes "other-seq"
 want_word want.Frame = codes "frame"
 want_word want.Reference = codes "reference"
+want_word want.Thread = codes "thread"
+want_word want.Breakpoint = codes "breakpoint"
 
 -- the line of a row
 abbrev pub row_line : ProfileRow → List ℕ

@@ -36,6 +36,8 @@ fn want_word(want: Want) -> &'static str
         Want::OtherSeq => "other-seq",
         Want::Frame => "frame",
         Want::Reference => "reference",
+        Want::Thread => "thread",
+        Want::Breakpoint => "breakpoint",
     }
 }
 
@@ -71,6 +73,11 @@ fn push_place(out: &mut String, place: Place) -> Result<(), AllocError>
         Place::Part(outer, list, member) => {
             push_inner(out, outer, list)?;
             out.push_str("[].")?;
+            out.push_str(member)
+        }
+        Place::Deep(outer, inner, member) => {
+            push_inner(out, outer, inner)?;
+            out.push_str(".")?;
             out.push_str(member)
         }
     }

@@ -7,13 +7,14 @@ use Rattle.dap_tree.specs.declared.sort.Sort.{Sort}
 use Rattle.dap_tree.specs.declared.sort.Sort.TheVariants.{ClientSeq, AdapterSeq}
 use Rattle.std.proofs.Common.{◌≡◌, ℕ, ℤ, true, List, [], ◌∷◌, Option, Some, None, option_map, codes}
 use Rattle.std.proofs.Common.{refl, sym, ◌∙◌, ap}
-use Rattle.dap_profile.specs.Profile.{profile}
+use Rattle.dap_profile.specs.Profile.{profile, first_rows, later_rows}
 use Rattle.dap_profile.specs.ProfileRows.{ProfileRow}
 use Rattle.dap_profile.specs.declared.profile.Kind.{Kind}
 use Rattle.dap_profile.specs.declared.profile.Kind.TheVariants.{Response}
 use Rattle.dap_profile.specs.declared.profile.Want.TheVariants.{OwnSeq, OtherSeq}
 use Rattle.dap_message.specs.Capabilities.{filled}
 use Rattle.dap_message.specs.Faults.{row_broken, has_kind}
+use Rattle.dap_message.specs.Marks.{mark_by_rows}
 use Rattle.dap_message.specs.Marks.{made, made_by, mark, mark_row, mark_rows, top}
 use Rattle.dap_message.specs.Message.{IsTyped}
 use Rattle.dap_message.specs.Places.{is_object}
@@ -48,7 +49,7 @@ later (r ∷ rs) = rs
 
 seq_made : (side : Side) (d : Doc) (n : ℤ) → is_id_number n ≡ true
     → made profile side d (name (codes "seq") ∷ []) (whole n) ≡ id (seq_sort side) n
-unfolding profile
+unfolding profile first_rows later_rows
 seq_made Client d n h =
     made_first row_1 (later profile) Client d (name (codes "seq") ∷ []) ClientSeq n (rw h refl)
 seq_made Adapter d n h =
@@ -57,7 +58,7 @@ seq_made Adapter d n h =
 request_seq_made : (side : Side) (d : Doc) (n : ℤ) → is_of_kind Response d ≡ true
     → is_id_number n ≡ true
     → made profile side d (name (codes "request_seq") ∷ []) (whole n) ≡ id (seq_sort (other side)) n
-unfolding profile
+unfolding profile first_rows later_rows
 request_seq_made Client d n is h =
     let p = name (codes "request_seq") ∷ [] in
     let fourth =
@@ -94,7 +95,7 @@ sort-top (Some (id s z)) = refl
 
 sort_seen : (side : Side) (k : List ℕ) (d : Doc) (n : ℤ) (s : Sort) → get k d ≡ Some (whole n)
     → made profile side d (name k ∷ []) (whole n) ≡ id s n → id_sort (get k (mark side d)) ≡ Some s
-unfolding mark
+unfolding mark_by_rows
 sort_seen side k d n s there is =
     seen-mark id_sort sort-top profile side k d
     ∙ ap (λ o. id_sort (option_map (made profile side d (name k ∷ [])) o)) there
@@ -109,12 +110,12 @@ kind_rows (r ∷ rs) side k d =
 
 kind_typed : (side : Side) (k : Kind) (d : Doc)
     → is_of_kind k (mark side (filled side d)) ≡ is_of_kind k d
-unfolding mark
+unfolding mark_by_rows
 kind_typed side k d = kind_rows profile side k (filled side d) ∙ kind_filled side k d
 
 seq_typed : (side : Side) (d : Doc) → is_object d ≡ true → first_fault profile d ≡ None
     → id_sort (get (codes "seq") (mark side (filled side d))) ≡ Some (seq_sort side)
-unfolding profile
+unfolding profile first_rows later_rows
 seq_typed side d ob rows =
     let found =
     row_free 1 None None (codes "seq") OwnSeq d ob refl (free_at 0 profile row_1 d rows refl) in
@@ -126,7 +127,7 @@ seq_typed side d ob rows =
 request_seq_typed : (side : Side) (d : Doc) → is_object d ≡ true → first_fault profile d ≡ None
     → is_of_kind Response d ≡ true
     → id_sort (get (codes "request_seq") (mark side (filled side d))) ≡ Some (seq_sort (other side))
-unfolding profile
+unfolding profile first_rows later_rows
 request_seq_typed side d ob rows is =
     let found =
     row_free 4 (Some Response) None (codes "request_seq") OtherSeq d ob is

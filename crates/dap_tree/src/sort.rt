@@ -13,4 +13,8 @@ pub enum Sort {
     Frame,
     /// The adapter's number for variables that can be asked for, good until the debuggee goes on.
     Reference,
+    /// The adapter's number for a thread of the debuggee; zero is a number like any other.
+    Thread,
+    /// The adapter's number for a breakpoint; zero is a number like any other.
+    Breakpoint,
 }

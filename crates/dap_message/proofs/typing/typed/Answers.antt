@@ -19,7 +19,7 @@ use Rattle.dap_message.proofs.typing.typed.Goals as goal
 pub new-requires-clause-sound : goal.new-requires-clause-sound
 new-requires-clause-sound c =
     rw (c.mark.ensures, c.in_ok-fill.ensures.ok)
-    (sound-message c.args.side (view c.args.tree) c.requires)
+    (sound-message profile c.args.side (view c.args.tree) c.requires)
 
 pub new-requires-clause-proper : goal.new-requires-clause-proper
 new-requires-clause-proper c =
