@@ -97,6 +97,8 @@ fn key(sort: Sort, number: i64) -> (u8, i64)
         Sort::AdapterSeq => 1,
         Sort::Frame => 2,
         Sort::Reference => 3,
+        Sort::Thread => 4,
+        Sort::Breakpoint => 5,
     };
     (place, number)
 }
@@ -107,6 +109,6 @@ pub(crate) fn is_proper(pair: &Pair) -> bool
 {
     match pair.sort {
         Sort::Reference => pair.from != 0 && pair.to != 0,
-        Sort::ClientSeq | Sort::AdapterSeq | Sort::Frame => true,
+        _ => true,
     }
 }
