@@ -6,10 +6,16 @@ from one_direction import records
 
 MARKERS = {"client": b">", "adapter": b"<"}
 OTHER = {"client": "adapter", "adapter": "client"}
-FRAME, REFERENCE = "frame", "reference"
+FRAME, REFERENCE, THREAD, BREAKPOINT = "frame", "reference", "thread", "breakpoint"
+
+# The requests of one thread, and the responses that list breakpoints.
+THREAD_REQUESTS = "stackTrace continue next stepIn stepOut pause stepBack reverseContinue goto exceptionInfo".split()
+BREAKPOINT_RESPONSES = "setBreakpoints setFunctionBreakpoints setDataBreakpoints setInstructionBreakpoints setExceptionBreakpoints".split()
 
 # Where ids stand, by the kind of a message and its command or event: the names of the members on the way, and the sort.
 REQUESTS = {
+    **{command: [("arguments.threadId", THREAD)] for command in THREAD_REQUESTS},
+    "terminateThreads": [("arguments.threadIds[]", THREAD)],
     "scopes": [("arguments.frameId", FRAME)],
     "variables": [("arguments.variablesReference", REFERENCE)],
     "setVariable": [("arguments.variablesReference", REFERENCE)],
@@ -22,6 +28,8 @@ REQUESTS = {
     "cancel": [("arguments.requestId", "own")],
 }
 RESPONSES = {
+    **{command: [("body.breakpoints[].id", BREAKPOINT)] for command in BREAKPOINT_RESPONSES},
+    "threads": [("body.threads[].id", THREAD)],
     "stackTrace": [("body.stackFrames[].id", FRAME)],
     "scopes": [("body.scopes[].variablesReference", REFERENCE)],
     "variables": [("body.variables[].variablesReference", REFERENCE)],
@@ -30,8 +38,12 @@ RESPONSES = {
     "setExpression": [("body.variablesReference", REFERENCE)],
 }
 EVENTS = {
+    "stopped": [("body.threadId", THREAD), ("body.hitBreakpointIds[]", BREAKPOINT)],
+    "continued": [("body.threadId", THREAD)],
+    "thread": [("body.threadId", THREAD)],
+    "breakpoint": [("body.breakpoint.id", BREAKPOINT)],
     "output": [("body.variablesReference", REFERENCE)],
-    "invalidated": [("body.stackFrameId", FRAME)],
+    "invalidated": [("body.stackFrameId", FRAME), ("body.threadId", THREAD)],
     "progressStart": [("body.requestId", "other")],
 }
 CAPABILITIES = """

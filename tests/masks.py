@@ -7,8 +7,8 @@ from report import PROGRAM, TOP, Report, run
 
 EXAMPLES = os.path.join(TOP, "examples")
 
-# The mask, two runs of one session, and what `compare` says of them as they came and masked. Those of lldb and delve differ in the system's
-# numbers of threads, which are no ids of the profile yet; two values of debugpy's g-cancel really differ.
+# The mask, two runs of one session, and what `compare` says of them as they came and masked. Two values of debugpy's
+# g-cancel really differ.
 PAIRS = [
     ("debugpy", "pairs/debugpy-e-errors.1", "pairs/debugpy-e-errors.2", "differ", "same"),
     ("debugpy", "pairs/debugpy-l-stopentry.3", "pairs/debugpy-l-stopentry.4", "differ", "same"),

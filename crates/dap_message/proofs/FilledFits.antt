@@ -121,7 +121,8 @@ rows_broken d h = h
 pub first_fits : (d : Doc) → Fits d → FitsRows first_rows d
 unfolding broken_by_rows
 first_fits d h =
-    let p = fault_parts (is_object d) (has_kind d) (first_fault profile d) UnknownType NotObject h in
+    let p =
+    fault_parts (is_object d) (has_kind d) (first_fault profile d) UnknownType NotObject h in
     let q = fault_free (first_fault first_rows d) (first_fault later_rows d)
     (sym (profile_split d) ∙ p.2) in
     rw (p.0, p.1) q.0

@@ -18,7 +18,7 @@ use clap::{Arg, ArgAction, ArgMatches, Command, Error};
 use std::alloc::{AllocError, Global};
 
 /// The version of the program, and what it checks recordings against.
-const VERSION: &str = "0.1.0 (profile of 139 rows)";
+const VERSION: &str = "0.1.0 (profile of 188 rows)";
 
 /// The program's command before its subcommands.
 fn bare_command<'a>(alloc: Global) -> Command<'a>

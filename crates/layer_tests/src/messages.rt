@@ -333,6 +333,198 @@ fn a_reference_of_zero_is_no_id(rt: HostRuntime) {
     are_unchanged(&rt, rt.alloc(), &A_REFERENCE_OF_ZERO_IS_NO_ID_UNCHANGED);
 }
 
+const THREADS_MARKED: [Marked; 7] = [
+    (
+        (
+            Adapter,
+            "{\"body\":{\"threads\":[{\"id\":7,\"name\":\"m\"},{\"id\":4,\"name\":\"w\"}]},\"command\":\"threads\",\"request_seq\":2,\"seq\":2,\"success\":true,\"type\":\"response\"}",
+        ),
+        &[(Sort::Thread, 7), (Sort::Thread, 4), (Sort::ClientSeq, 2), (Sort::AdapterSeq, 2)],
+    ),
+    (
+        (
+            Client,
+            "{\"arguments\":{\"threadId\":4},\"command\":\"pause\",\"seq\":3,\"type\":\"request\"}",
+        ),
+        &[(Sort::Thread, 4), (Sort::ClientSeq, 3)],
+    ),
+    (
+        (
+            Client,
+            "{\"arguments\":{\"threadId\":0},\"command\":\"next\",\"seq\":3,\"type\":\"request\"}",
+        ),
+        &[(Sort::Thread, 0), (Sort::ClientSeq, 3)],
+    ),
+    (
+        (
+            Client,
+            "{\"arguments\":{\"threadIds\":[3,0,-1]},\"command\":\"terminateThreads\",\"seq\":3,\"type\":\"request\"}",
+        ),
+        &[(Sort::Thread, 3), (Sort::Thread, 0), (Sort::Thread, -1), (Sort::ClientSeq, 3)],
+    ),
+    (
+        (
+            Adapter,
+            "{\"body\":{\"reason\":\"started\",\"threadId\":7},\"event\":\"thread\",\"seq\":3,\"type\":\"event\"}",
+        ),
+        &[(Sort::Thread, 7), (Sort::AdapterSeq, 3)],
+    ),
+    (
+        (
+            Adapter,
+            "{\"body\":{\"threadId\":null},\"event\":\"continued\",\"seq\":3,\"type\":\"event\"}",
+        ),
+        &[(Sort::AdapterSeq, 3)],
+    ),
+    (
+        (
+            Client,
+            "{\"command\":\"stepBack\",\"seq\":3,\"type\":\"request\"}",
+        ),
+        &[(Sort::ClientSeq, 3)],
+    ),
+];
+
+const THREADS_REFUSED: [Refused; 6] = [
+    (
+        (
+            Client,
+            "{\"arguments\":{},\"command\":\"stackTrace\",\"seq\":2,\"type\":\"request\"}",
+        ),
+        MessageFault::Missing(141),
+    ),
+    (
+        (
+            Client,
+            "{\"command\":\"next\",\"seq\":2,\"type\":\"request\"}",
+        ),
+        MessageFault::Missing(144),
+    ),
+    (
+        (
+            Client,
+            "{\"arguments\":{\"threadId\":null},\"command\":\"continue\",\"seq\":2,\"type\":\"request\"}",
+        ),
+        MessageFault::WrongType(143),
+    ),
+    (
+        (
+            Adapter,
+            "{\"body\":{\"threads\":[{\"id\":7,\"name\":\"m\"},{\"name\":\"w\"}]},\"command\":\"threads\",\"request_seq\":2,\"seq\":2,\"success\":true,\"type\":\"response\"}",
+        ),
+        MessageFault::Missing(140),
+    ),
+    (
+        (
+            Client,
+            "{\"arguments\":{\"threadId\":\"1\"},\"command\":\"goto\",\"seq\":2,\"type\":\"request\"}",
+        ),
+        MessageFault::WrongType(161),
+    ),
+    (
+        (
+            Client,
+            "{\"arguments\":{\"threadIds\":[1,null]},\"command\":\"terminateThreads\",\"seq\":2,\"type\":\"request\"}",
+        ),
+        MessageFault::WrongType(166),
+    ),
+];
+
+#[test]
+fn ids_of_threads(rt: HostRuntime) {
+    have_ids(&rt, rt.alloc(), &THREADS_MARKED);
+    refuses(&rt, rt.alloc(), &THREADS_REFUSED);
+}
+
+const BREAKPOINTS_MARKED: [Marked; 6] = [
+    (
+        (
+            Adapter,
+            "{\"body\":{\"breakpoint\":{\"id\":9,\"verified\":true},\"reason\":\"changed\"},\"event\":\"breakpoint\",\"seq\":2,\"type\":\"event\"}",
+        ),
+        &[(Sort::Breakpoint, 9), (Sort::AdapterSeq, 2)],
+    ),
+    (
+        (
+            Adapter,
+            "{\"body\":{\"hitBreakpointIds\":[9,12],\"reason\":\"breakpoint\",\"threadId\":7},\"event\":\"stopped\",\"seq\":3,\"type\":\"event\"}",
+        ),
+        &[(Sort::Breakpoint, 9), (Sort::Breakpoint, 12), (Sort::Thread, 7), (Sort::AdapterSeq, 3)],
+    ),
+    (
+        (
+            Adapter,
+            "{\"body\":{\"breakpoints\":[{\"id\":0,\"verified\":true},{\"verified\":false}]},\"command\":\"setBreakpoints\",\"request_seq\":2,\"seq\":3,\"success\":true,\"type\":\"response\"}",
+        ),
+        &[(Sort::Breakpoint, 0), (Sort::ClientSeq, 2), (Sort::AdapterSeq, 3)],
+    ),
+    (
+        (
+            Adapter,
+            "{\"body\":{\"breakpoints\":[{\"id\":5}]},\"command\":\"setExceptionBreakpoints\",\"request_seq\":2,\"seq\":3,\"success\":true,\"type\":\"response\"}",
+        ),
+        &[(Sort::Breakpoint, 5), (Sort::ClientSeq, 2), (Sort::AdapterSeq, 3)],
+    ),
+    (
+        (
+            Adapter,
+            "{\"command\":\"setDataBreakpoints\",\"request_seq\":2,\"seq\":3,\"success\":true,\"type\":\"response\"}",
+        ),
+        &[(Sort::ClientSeq, 2), (Sort::AdapterSeq, 3)],
+    ),
+    (
+        (
+            Adapter,
+            "{\"body\":{\"breakpoint\":{\"verified\":true},\"reason\":\"removed\"},\"event\":\"breakpoint\",\"seq\":2,\"type\":\"event\"}",
+        ),
+        &[(Sort::AdapterSeq, 2)],
+    ),
+];
+
+const BREAKPOINTS_REFUSED: [Refused; 5] = [
+    (
+        (
+            Adapter,
+            "{\"body\":{\"breakpoint\":{\"id\":\"9\"}},\"event\":\"breakpoint\",\"seq\":2,\"type\":\"event\"}",
+        ),
+        MessageFault::WrongType(172),
+    ),
+    (
+        (
+            Adapter,
+            "{\"body\":{\"breakpoint\":[]},\"event\":\"breakpoint\",\"seq\":2,\"type\":\"event\"}",
+        ),
+        MessageFault::WrongType(171),
+    ),
+    (
+        (
+            Adapter,
+            "{\"body\":{\"hitBreakpointIds\":[null],\"reason\":\"breakpoint\"},\"event\":\"stopped\",\"seq\":3,\"type\":\"event\"}",
+        ),
+        MessageFault::WrongType(169),
+    ),
+    (
+        (
+            Adapter,
+            "{\"body\":{\"breakpoints\":[{\"id\":1},2]},\"command\":\"setFunctionBreakpoints\",\"request_seq\":2,\"seq\":3,\"success\":true,\"type\":\"response\"}",
+        ),
+        MessageFault::WrongType(175),
+    ),
+    (
+        (
+            Adapter,
+            "{\"body\":{\"breakpoints\":[{\"id\":1},{\"id\":9223372036854775808}]},\"command\":\"setInstructionBreakpoints\",\"request_seq\":2,\"seq\":3,\"success\":true,\"type\":\"response\"}",
+        ),
+        MessageFault::WrongType(184),
+    ),
+];
+
+#[test]
+fn ids_of_breakpoints(rt: HostRuntime) {
+    have_ids(&rt, rt.alloc(), &BREAKPOINTS_MARKED);
+    refuses(&rt, rt.alloc(), &BREAKPOINTS_REFUSED);
+}
+
 const THE_LEAST_SEQUENCE_NUMBER_MARKED: [Marked; 1] = [(
     (
         Client,
@@ -517,7 +709,7 @@ const TEXTS: [(MessageFault, &str); 5] = [
     (MessageFault::NotObject, "NotObject"),
     (MessageFault::UnknownType, "UnknownType"),
     (MessageFault::Missing(13), "Missing row 13"),
-    (MessageFault::WrongType(139), "WrongType row 139"),
+    (MessageFault::WrongType(188), "WrongType row 188"),
     (MessageFault::Memory, "Memory"),
 ];
 

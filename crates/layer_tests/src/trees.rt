@@ -386,6 +386,8 @@ fn order_of_sorts(rt: HostRuntime) {
         Sort::ClientSeq < Sort::AdapterSeq
             && Sort::AdapterSeq < Sort::Frame
             && Sort::Frame < Sort::Reference
+            && Sort::Reference < Sort::Thread
+            && Sort::Thread < Sort::Breakpoint
     );
 }
 
