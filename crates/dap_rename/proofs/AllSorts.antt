@@ -1,5 +1,5 @@
 -- What holds of each sort, and tables of something for each.
-use Rattle.std.proofs.Common.{◌≡◌, true, inl, inr, map, refl, ap}
+use Rattle.std.proofs.Common.{◌≡◌, true, inl, inr, refl, ap}
 use Rattle.std.proofs.Common.{arith}
 use Rattle.std.proofs.lemmas.Bool.{eqb-true, eq-eqb}
 use Rattle.dap_tree.specs.declared.sort.Sort.{Sort}

@@ -1,7 +1,7 @@
 -- The test whether pairs carry one document to another answers whether they do.
 use Rattle.std.proofs.Common.{◌≡◌, ℕ, suc, ℤ, pos, Bool, true, ◌&&◌, inl, inr, eqb, List, [], ◌∷◌}
 use Rattle.std.proofs.Common.{◌++◌, map, length, drop, ◌≤◌, refl, sym, ◌∙◌, ap, subst, arith}
-use Rattle.std.proofs.lemmas.Bool.{and_parts, and_from, or_cases, eqb-true, eq-eqb, ne_eqb}
+use Rattle.std.proofs.lemmas.Bool.{and_parts, and_from, or_cases, ne_eqb}
 use Rattle.std.proofs.lemmas.Bool.Decides.{Decides-int_eq}
 use Rattle.std.proofs.lemmas.List.{length-map, map-append, drop_all}
 use Rattle.std.specs.Cmp.{booleans_Decides}
@@ -22,7 +22,6 @@ use Rattle.dap_message.specs.Message.{Sent, sent}
 use Rattle.dap_message.specs.declared.message.Message.{Message}
 use Rattle.dap_rename.specs.Messages.{Class, class_after, occurrence, occurrences, message_skeleton}
 use Rattle.dap_rename.specs.Messages.{in_whole, Carries}
-use Rattle.dap_rename.specs.Sorts.{sort_number}
 use Rattle.dap_rename.specs.Renamings.{IsIn, AreRelated}
 use Rattle.dap_rename.specs.Pairs.{entries}
 use Rattle.dap_rename.specs.Sorts.{same_sort}

@@ -98,7 +98,8 @@ module _ {T : Type 0} (numbers : T → List ℤ) where
       → EachSort (λ s. table_of n s ≤ length (numbers (table_of new s)))
   unfolding AllBegin
   counts_fit old new n e h =
-      each_sort _ (λ s. omega (arith, count_at old n s e, (h s).0, ap length (list_at new s)))
+      each_sort (λ s. table_of n s ≤ length (numbers (table_of new s)))
+      (λ s. omega (arith, count_at old n s e, (h s).0, ap length (list_at new s)))
 
   -- and cut to those they are as before
   pub lists_cut : (old new cut : Tables T) (n : Tables ℕ) → n ≡ counts numbers old

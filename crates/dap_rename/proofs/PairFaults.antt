@@ -1,12 +1,12 @@
 -- Pairs judged one by one, and the pairs of equal places.
-use Rattle.std.proofs.Common.{◌≡◌, ℕ, ◌+◌, ◌<◌, ℤ, pos, true, false, ◌&&◌, List, [], ◌∷◌, ◌++◌}
+use Rattle.std.proofs.Common.{◌≡◌, ℕ, ◌+◌, ◌<◌, ◌≤◌, ℤ, pos, true, false, ◌&&◌, List, [], ◌∷◌, ◌++◌}
 use Rattle.std.proofs.Common.{length, map, take, drop, get_or, Option, Some, None, MatchOption}
 use Rattle.std.proofs.Common.{is_some}
 use Rattle.std.proofs.Common.{refl, sym, ◌∙◌, ap, subst, arith, true≢false, take-append-drop}
 use Rattle.std.proofs.Common.{append_assoc, append-nil}
 use Rattle.std.proofs.lemmas.Bool.{and_parts, and_from}
 use Rattle.std.proofs.lemmas.Bool.Decides.{Decides-int_eq}
-use Rattle.std.proofs.lemmas.List.{map-append, take_more, length-take-le}
+use Rattle.std.proofs.lemmas.List.{map-append, take_more, take_all, length-take-le}
 use Rattle.std.specs.List.{AllByRecursion}
 use Rattle.std.specs.Ordering.{int_eq}
 use Rattle.dap_tree.specs.declared.sort.Sort.{Sort}
@@ -118,14 +118,22 @@ sorts-push (r ∷ ss) s f g =
     (pairs_of_class (s, 0) (f s) (g s)))
 
 -- one sort more
-pub sort_step : (ss : List Sort) (k : ℕ) (d : Sort) (f g : Sort → List ℤ)
+pub sort_step : (ss : List Sort) (k : ℕ) (d : Sort) (f g : Sort → List ℤ) (t u : List ℤ)
     (old new : List (Class × ℤ × ℤ)) → k < length ss → old ≡ names_of_sorts (take k ss) f g
-    → new ≡ old ++ pairs_of_class (get_or ss k d, 0) (f (get_or ss k d)) (g (get_or ss k d))
+    → t ≡ f (get_or ss k d) → u ≡ g (get_or ss k d)
+    → new ≡ old ++ pairs_of_class (get_or ss k d, 0) t u
     → new ≡ names_of_sorts (take (k + 1) ss) f g
-sort_step ss k d f g old new h e q =
-    q ∙ ap (λ t. t ++ pairs_of_class (get_or ss k d, 0) (f (get_or ss k d)) (g (get_or ss k d))) e
-    ∙ sym (sorts-push (take k ss) (get_or ss k d) f g)
-    ∙ ap (λ t. names_of_sorts t f g) (sym (take_more ss k d h))
+sort_step ss k d f g t u old new h e a b q =
+    let s = get_or ss k d in
+    q ∙ ap (λ r. r ++ pairs_of_class (s, 0) t u) e
+    ∙ ap (λ r. names_of_sorts (take k ss) f g ++ pairs_of_class (s, 0) r u) a
+    ∙ ap (λ r. names_of_sorts (take k ss) f g ++ pairs_of_class (s, 0) (f s) r) b
+    ∙ sym (sorts-push (take k ss) s f g)
+    ∙ ap (λ r. names_of_sorts r f g) (sym (take_more ss k d h))
+
+pub sorts_ended : (ss : List Sort) (k : ℕ) (f g : Sort → List ℤ) (r : List (Class × ℤ × ℤ))
+    → length ss ≤ k → r ≡ names_of_sorts (take k ss) f g → r ≡ names_of_sorts ss f g
+sorts_ended ss k f g r h e = e ∙ ap (λ t. names_of_sorts t f g) (take_all k ss h)
 
 pub pairs-push : {K : Type 0} (c : K) (t u : List ℤ) (x y : ℤ) → length t ≡ length u
     → pairs_of_class c (t ++ x ∷ []) (u ++ y ∷ []) ≡ pairs_of_class c t u ++ (c, x, y) ∷ []
