@@ -14,6 +14,7 @@ use Rattle.dap_tree.specs.declared.sort.Sort.{Sort}
 use Rattle.dap_rename.specs.Messages.{AreSame, IsNormal, class_after, in_whole, equal_places}
 use Rattle.dap_rename.specs.Messages.{numbers_of_class, stops_after}
 use Rattle.dap_rename.specs.Names.{HaveEqualCounts, StandFor, numbers_in}
+use Rattle.dap_rename.proofs.AllSorts.{each_sort}
 use Rattle.dap_rename.specs.Pairs.{entries}
 use Rattle.dap_rename.specs.Renaming.{pairs_of}
 use Rattle.dap_rename.specs.declared.renaming.Renaming.{Renaming}
@@ -445,7 +446,7 @@ module _ {T R S : Type 0} {numbers : T → List ℤ} {table_limit : T → ℕ} (
           ∙ sym (ap length (names_b s))
 
       pub equal_counts : HaveEqualCounts numbers new_a.judge.names new_b.judge.names
-      equal_counts = one_count
+      equal_counts = each_sort _ one_count
 
       pub both_ended : (renaming : Renaming)
           → entries (pairs_of renaming) ≡ equal_places a.messages b.messages

@@ -110,7 +110,7 @@ rules_kept records ms n typed (r, is, carries) =
 
 -- ---- the records of a text
 
-pub contents_of : List Sent → List Held
+unfoldable pub contents_of : List Sent → List Held
 contents_of [] = []
 contents_of (m ∷ ms) = (m.side, text_of m.doc) ∷ contents_of ms
 

@@ -1,4 +1,5 @@
 pub mod Lists
+pub mod AllSorts
 pub mod RelatedLists
 pub mod RenamingBetween
 pub mod Occurrences

@@ -1,6 +1,7 @@
 -- Pairs found by their sort and a number: what is seen pair by pair, and what the index then finds.
 use Rattle.std.proofs.Common.{◌≡◌, ℕ, suc, ◌+◌, ◌<◌, ◌≤◌, ℤ, Bool, true, false, cond, ◌&&◌}
-use Rattle.std.proofs.Common.{List, [], ◌∷◌, ◌++◌, length, take, get_or, Option, Some, None, MatchOption}
+use Rattle.std.proofs.Common.{List, [], ◌∷◌, ◌++◌, length, take, get_or, Option, Some, None}
+use Rattle.std.proofs.Common.{MatchOption}
 use Rattle.std.proofs.Common.{is_some, not, refl, sym, ◌∙◌, ap, subst, arith, true≢false}
 use Rattle.std.proofs.lemmas.Bool.{and_parts, and_from}
 use Rattle.std.proofs.lemmas.Bool.Decides.{Decides-int_eq, same_from_decides}
@@ -17,7 +18,8 @@ use Rattle.std.specs.declared.cmp.Ordering.TheVariants.{Equal}
 use Rattle.dap_tree.specs.declared.sort.Sort.{Sort}
 use Rattle.dap_rename.specs.Messages.{IsProperId}
 use Rattle.dap_rename.specs.Renamings.{AreApart, IsRenaming}
-use Rattle.dap_rename.specs.Pairs.{entry, entries, same_sort, is_taken, is_given, MayFollow}
+use Rattle.dap_rename.specs.Pairs.{entry, entries, is_taken, is_given, MayFollow}
+use Rattle.dap_rename.specs.Sorts.{same_sort}
 use Rattle.dap_rename.specs.Pairs.{PairFails, FailsFirst}
 use Rattle.dap_rename.specs.Carrying.{has_pair}
 use Rattle.dap_rename.specs.PairIndex.{key, key_cmp, image, gives, is_number, finds, IsIndexOf}
@@ -27,9 +29,9 @@ use Rattle.dap_rename.specs.declared.pair.PairFault.{PairFault}
 use Rattle.dap_rename.specs.declared.pair_index.PairIndex.{PairIndex}
 use Rattle.dap_rename.specs.declared.pair_index.SeenPairs.{SeenPairs}
 use Rattle.dap_rename.proofs.Lists.{at_each}
-use Rattle.dap_rename.proofs.Occurrences.{sort_told}
+use Rattle.dap_rename.proofs.AllSorts.{sort_told, same_sort_told, told_same_sort}
 use Rattle.dap_names.proofs.Additions.{by_bool}
-use Rattle.dap_rename.proofs.CarriesTest.{same_sort_told, told_same_sort, has_pair_in}
+use Rattle.dap_rename.proofs.CarriesTest.{has_pair_in}
 use Rattle.dap_rename.proofs.PairFaults.{renaming_step, fails_first}
 
 -- ---- keys

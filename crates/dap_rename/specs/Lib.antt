@@ -1,4 +1,5 @@
 pub mod Renamings
+pub mod Sorts
 pub mod Messages
 pub mod Tables
 pub mod Names

@@ -4,15 +4,14 @@ use Rattle.std.specs.Prelude.{◌≡◌, ℕ, ℤ, List, [], length}
 use Rattle.dap_tree.specs.declared.sort.Sort.{Sort}
 use Rattle.dap_message.specs.Message.{Sent}
 use Rattle.dap_rename.specs.Messages.{class_after, in_whole, stops_after, numbers_of_class}
+use Rattle.dap_rename.specs.Sorts.{EachSort}
 use Rattle.dap_rename.specs.Tables.{table_of}
 use Rattle.dap_rename.specs.declared.names.Names.{Names}
 use Rattle.dap_rename.specs.declared.tables.Tables.{Tables}
 
 -- All tables are empty.
 abbrev pub AreEmpty : {T : Type 0} → (T → List ℤ) → Tables T → Type 0
-AreEmpty numbers t = (numbers t.client_seq ≡ []) × (numbers t.adapter_seq ≡ [])
-    × (numbers t.frame ≡ []) × (numbers t.reference ≡ [])
-    × (numbers t.thread ≡ []) × (numbers t.breakpoint ≡ [])
+AreEmpty numbers t = EachSort (λ s. numbers (table_of t s) ≡ [])
 
 -- The numbers of a sort that have names, the i-th the one with the name i.
 abbrev pub numbers_in : {T : Type 0} → (T → List ℤ) → Names T → Sort → List ℤ
@@ -35,5 +34,5 @@ AreUnchanged numbers old new = (s : Sort) → numbers_in numbers new s ≡ numbe
 
 -- For each sort there are as many numbers with names in the one as in the other.
 abbrev pub HaveEqualCounts : {T : Type 0} → (T → List ℤ) → Names T → Names T → Type 0
-HaveEqualCounts numbers a b = (s : Sort)
-    → length (numbers_in numbers a s) ≡ length (numbers_in numbers b s)
+HaveEqualCounts numbers a b =
+    EachSort (λ s. length (numbers_in numbers a s) ≡ length (numbers_in numbers b s))

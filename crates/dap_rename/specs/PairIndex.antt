@@ -7,8 +7,8 @@ use Rattle.std.specs.List.{list_any}
 use Rattle.std.specs.Ordering.{int_eq, nat_cmp, int_cmp, ordering_then}
 use Rattle.std.specs.declared.cmp.Ordering.{Ordering}
 use Rattle.dap_tree.specs.declared.sort.Sort.{Sort}
-use Rattle.dap_rename.specs.Messages.{sort_number}
-use Rattle.dap_rename.specs.Pairs.{same_sort}
+use Rattle.dap_rename.specs.Sorts.{sort_number}
+use Rattle.dap_rename.specs.Sorts.{same_sort}
 use Rattle.dap_rename.specs.Carrying.{has_pair}
 use Rattle.dap_rename.specs.declared.pair.Pair.{Pair}
 use Rattle.dap_rename.specs.declared.pair_index.PairIndex.{PairIndex}

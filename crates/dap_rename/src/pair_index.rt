@@ -109,10 +109,6 @@ pub(crate) fn is_proper(pair: &Pair) -> bool
 {
     match pair.sort {
         Sort::Reference => pair.from != 0 && pair.to != 0,
-        Sort::ClientSeq
-        | Sort::AdapterSeq
-        | Sort::Frame
-        | Sort::Thread
-        | Sort::Breakpoint => true,
+        _ => true,
     }
 }

@@ -8,7 +8,8 @@ ghost use Rattle.dap_rename.specs.Messages.{IsProperId, Carries, equal_places, i
 ghost use Rattle.dap_rename.specs.Names.{StandFor, HaveEqualCounts, numbers_in};
 ghost use Rattle.dap_rename.specs.Carrying.{has_pair};
 ghost use Rattle.dap_rename.specs.PairIndex.{IsIndexOf};
-ghost use Rattle.dap_rename.specs.Pairs.{entries, is_taken, is_given, same_sort, MayFollow};
+ghost use Rattle.dap_rename.specs.Pairs.{entries, is_taken, is_given, MayFollow};
+ghost use Rattle.dap_rename.specs.Sorts.{same_sort};
 ghost use Rattle.dap_rename.specs.Pairs.{PairFails, FailsFirst, RefusesPairs, equal_names};
 ghost use Rattle.dap_rename.specs.Renamings.{IsRenaming, pairs_of_class};
 
@@ -16,6 +17,7 @@ use crate::carries::carries_list;
 use crate::names::Names;
 use crate::pair::{Pair, PairFault};
 use crate::pair_index::{PairIndex, is_proper};
+use crate::sorts::SORTS;
 use dap_message::Message;
 use dap_names::{NameFault, NameTable};
 use dap_tree::Sort;
@@ -78,28 +80,10 @@ impl Renaming {
         ensures memory { IfErr result (λ f. f ≡ NameFault.Memory) }
     {
         let mut pairs = Vec::new(alloc);
-        let (from, to) = (&from.tables, &to.tables);
-        add_pairs(
-            &mut pairs,
-            Sort::ClientSeq,
-            &from.client_seq,
-            &to.client_seq,
-        )?;
-        add_pairs(
-            &mut pairs,
-            Sort::AdapterSeq,
-            &from.adapter_seq,
-            &to.adapter_seq,
-        )?;
-        add_pairs(&mut pairs, Sort::Frame, &from.frame, &to.frame)?;
-        add_pairs(&mut pairs, Sort::Reference, &from.reference, &to.reference)?;
-        add_pairs(&mut pairs, Sort::Thread, &from.thread, &to.thread)?;
-        add_pairs(
-            &mut pairs,
-            Sort::Breakpoint,
-            &from.breakpoint,
-            &to.breakpoint,
-        )?;
+        for sort in SORTS {
+            let (from, to) = (from.tables.table(sort), to.tables.table(sort));
+            add_pairs(&mut pairs, sort, from, to)?;
+        }
         Ok(Renaming { pairs, index: None })
     }
 
