@@ -2,9 +2,12 @@
 import sys
 from itertools import zip_longest
 
-from normalise_reference import FRAME, REFERENCE, normal_records
+from normalise_reference import BREAKPOINT, FRAME, REFERENCE, THREAD, normal_records
 
-WORDS = [("client", "client-seq"), ("adapter", "adapter-seq"), (FRAME, "frame"), (REFERENCE, "reference")]
+WORDS = [
+    ("client", "client-seq"), ("adapter", "adapter-seq"), (FRAME, "frame"), (REFERENCE, "reference"), (THREAD, "thread"),
+    (BREAKPOINT, "breakpoint"),
+]
 
 
 def compared(a, b):

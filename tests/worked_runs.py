@@ -242,7 +242,7 @@ TRACES = {
 }
 
 # Two recordings, and what `compare` prints or tells of them.
-FRAME_PAIRS = b"same\nclient-seq 1 1\nclient-seq 2 2\nadapter-seq 1 1\nadapter-seq 2 2\nframe 1000 1001\nframe 1001 1000\n"
+FRAME_PAIRS = b"same\nclient-seq 1 1\nclient-seq 2 2\nadapter-seq 1 1\nadapter-seq 2 2\nframe 1000 1001\nframe 1001 1000\nthread 1 1\n"
 FRAMES_LINES, EXCHANGED_LINES = SESSIONS["frames"][0], SESSIONS["frames the other way round"][0]
 TWICE = recording([*BEGUN, RESPONSE])
 COMPARED = {
