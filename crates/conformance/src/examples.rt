@@ -59,5 +59,7 @@ pub fn index_tables(alloc: Global, ids: usize) -> Tables<IndexTable>
         adapter_seq: IndexNames::new(alloc, ids, hasher),
         frame: IndexNames::new(alloc, ids, hasher),
         reference: IndexNames::new(alloc, ids, hasher),
+        thread: IndexNames::new(alloc, ids, hasher),
+        breakpoint: IndexNames::new(alloc, ids, hasher),
     }
 }

@@ -19,6 +19,8 @@ pub fn plain(alloc: Global, limits: Limits) -> Tables<PlainNames>
         adapter_seq: PlainNames::new(alloc, limits.ids),
         frame: PlainNames::new(alloc, limits.ids),
         reference: PlainNames::new(alloc, limits.ids),
+        thread: PlainNames::new(alloc, limits.ids),
+        breakpoint: PlainNames::new(alloc, limits.ids),
     }
 }
 
@@ -36,5 +38,7 @@ pub fn indexed(
         adapter_seq: IndexNames::new(alloc, limits.ids, hasher),
         frame: IndexNames::new(alloc, limits.ids, hasher),
         reference: IndexNames::new(alloc, limits.ids, hasher),
+        thread: IndexNames::new(alloc, limits.ids, hasher),
+        breakpoint: IndexNames::new(alloc, limits.ids, hasher),
     }
 }

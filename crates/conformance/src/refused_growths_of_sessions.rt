@@ -13,7 +13,7 @@ use dap_message::{Message, MessageFault, Side, typed};
 use dap_recording::{
     FedRecord, Record, RecordCause, RecordReader, Recorder, RecorderFault, write_record,
 };
-use dap_rename::{NameFault, Names};
+use dap_rename::{NameFault, Names, SORTS};
 use dap_session::{Session, SessionFault};
 use dap_tree::{Sort, read_tree};
 use fault_injection::{refuse_growth, was_refused};
@@ -253,13 +253,6 @@ fn a_session_is_refused_in_turn(rt: HostRuntime) {
 fn renamed(names: &mut Names<IndexTable>, message: Message) -> Result<Message, NameFault> {
     names.rename(message)
 }
-
-const SORTS: [Sort; 4] = [
-    Sort::ClientSeq,
-    Sort::AdapterSeq,
-    Sort::Frame,
-    Sort::Reference,
-];
 
 fn are_empty(names: &Names<IndexTable>) -> bool {
     for sort in &SORTS {

@@ -11,10 +11,10 @@ use Rattle.dap_device.specs.declared.reading.Stop.{Stop}
 use Rattle.dap_device.specs.declared.reading.Stop.TheVariants.{End}
 use Rattle.dap_message.specs.Message.{Sent}
 use Rattle.dap_tree.specs.declared.sort.Sort.{Sort}
-use Rattle.dap_tree.specs.declared.sort.Sort.TheVariants.{ClientSeq, AdapterSeq, Frame, Reference}
 use Rattle.dap_rename.specs.Messages.{AreSame, IsNormal, class_after, in_whole, equal_places}
 use Rattle.dap_rename.specs.Messages.{numbers_of_class, stops_after}
 use Rattle.dap_rename.specs.Names.{HaveEqualCounts, StandFor, numbers_in}
+use Rattle.dap_rename.proofs.AllSorts.{each_sort}
 use Rattle.dap_rename.specs.Pairs.{entries}
 use Rattle.dap_rename.specs.Renaming.{pairs_of}
 use Rattle.dap_rename.specs.declared.renaming.Renaming.{Renaming}
@@ -446,8 +446,7 @@ module _ {T R S : Type 0} {numbers : T → List ℤ} {table_limit : T → ℕ} (
           ∙ sym (ap length (names_b s))
 
       pub equal_counts : HaveEqualCounts numbers new_a.judge.names new_b.judge.names
-      equal_counts =
-          (one_count ClientSeq, one_count AdapterSeq, one_count Frame, one_count Reference)
+      equal_counts = each_sort _ one_count
 
       pub both_ended : (renaming : Renaming)
           → entries (pairs_of renaming) ≡ equal_places a.messages b.messages

@@ -22,5 +22,7 @@ pub fn index_tables(alloc: Global, limits: Limits) -> Tables<IndexNames<DefaultH
         adapter_seq: IndexNames::new(alloc, limits.ids, hasher),
         frame: IndexNames::new(alloc, limits.ids, hasher),
         reference: IndexNames::new(alloc, limits.ids, hasher),
+        thread: IndexNames::new(alloc, limits.ids, hasher),
+        breakpoint: IndexNames::new(alloc, limits.ids, hasher),
     }
 }

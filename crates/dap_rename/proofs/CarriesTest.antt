@@ -1,7 +1,7 @@
 -- The test whether pairs carry one document to another answers whether they do.
 use Rattle.std.proofs.Common.{◌≡◌, ℕ, suc, ℤ, pos, Bool, true, ◌&&◌, inl, inr, eqb, List, [], ◌∷◌}
 use Rattle.std.proofs.Common.{◌++◌, map, length, drop, ◌≤◌, refl, sym, ◌∙◌, ap, subst, arith}
-use Rattle.std.proofs.lemmas.Bool.{and_parts, and_from, or_cases, eqb-true, eq-eqb, ne_eqb}
+use Rattle.std.proofs.lemmas.Bool.{and_parts, and_from, or_cases, ne_eqb}
 use Rattle.std.proofs.lemmas.Bool.Decides.{Decides-int_eq}
 use Rattle.std.proofs.lemmas.List.{length-map, map-append, drop_all}
 use Rattle.std.specs.Cmp.{booleans_Decides}
@@ -21,22 +21,17 @@ use Rattle.dap_tree.specs.declared.tree.Tree.{Tree}
 use Rattle.dap_message.specs.Message.{Sent, sent}
 use Rattle.dap_message.specs.declared.message.Message.{Message}
 use Rattle.dap_rename.specs.Messages.{Class, class_after, occurrence, occurrences, message_skeleton}
-use Rattle.dap_rename.specs.Messages.{sort_number, in_whole, Carries}
+use Rattle.dap_rename.specs.Messages.{in_whole, Carries}
 use Rattle.dap_rename.specs.Renamings.{IsIn, AreRelated}
-use Rattle.dap_rename.specs.Pairs.{entries, same_sort}
+use Rattle.dap_rename.specs.Pairs.{entries}
+use Rattle.dap_rename.specs.Sorts.{same_sort}
 use Rattle.dap_rename.specs.Carrying.{has_pair, carries_doc, carries_items, carries_members}
 use Rattle.dap_rename.specs.Carrying.{same_side, carries_sent, carries_list}
 use Rattle.dap_rename.specs.declared.pair.Pair.{Pair}
 use Rattle.dap_rename.proofs.Lists.{same_cons, head_of, tail_of}
-use Rattle.dap_rename.proofs.Occurrences.{sort_told, same_sent}
+use Rattle.dap_rename.proofs.AllSorts.{same_sort_told, told_same_sort}
+use Rattle.dap_rename.proofs.Occurrences.{first_class, same_sent}
 use Rattle.dap_rename.proofs.Sameness.{related_front}
-use Rattle.dap_rename.proofs.TableContents.{first_class}
-
-pub same_sort_told : (s t : Sort) → same_sort s t ≡ true → s ≡ t
-same_sort_told s t h = sort_told s t (eqb-true (sort_number s) (sort_number t) h)
-
-pub told_same_sort : (s t : Sort) → s ≡ t → same_sort s t ≡ true
-told_same_sort s t h = eq-eqb (sort_number s) (sort_number t) (ap sort_number h)
 
 -- ---- lists of occurrences in two parts
 

@@ -1,4 +1,5 @@
 pub mod Lists
+pub mod AllSorts
 pub mod RelatedLists
 pub mod RenamingBetween
 pub mod Occurrences
@@ -8,3 +9,4 @@ pub mod ListGrowth
 pub mod TableContents
 pub mod CarriesTest
 pub mod PairFaults
+pub mod PairIndexing

@@ -1,6 +1,6 @@
 -- Laws of lists of any type.
-use Rattle.std.proofs.Common.{◌≡◌, inl, inr, List, [], ◌∷◌, ◌++◌, take, drop, length, refl, sym}
-use Rattle.std.proofs.Common.{◌∙◌, ap}
+use Rattle.std.proofs.Common.{◌≡◌, inl, inr, List, [], ◌∷◌, ◌++◌, take, drop, length, map, refl}
+use Rattle.std.proofs.Common.{sym, ◌∙◌, ap}
 use Rattle.std.proofs.Math.Seq.{take-append_seam, drop-append_seam}
 use Rattle.std.specs.List.{AllByRecursion}
 use Rattle.dap_rename.specs.Renamings.{IsIn}
@@ -70,3 +70,8 @@ in-left p (x ∷ xs) ys (inr i) = inr (in-left p xs ys i)
 pub in-right : {X : Type 0} (p : X) (xs ys : List X) → IsIn p ys → IsIn p (xs ++ ys)
 in-right p [] ys i = i
 in-right p (x ∷ xs) ys i = inr (in-right p xs ys i)
+
+pub in-map : {X Y : Type 0} (f : X → Y) (x : X) (xs : List X) → IsIn x xs → IsIn (f x) (map f xs)
+in-map f x [] i = absurd i
+in-map f x (y ∷ xs) (inl e) = inl (ap f e)
+in-map f x (y ∷ xs) (inr i) = inr (in-map f x xs i)

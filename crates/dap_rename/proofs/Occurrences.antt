@@ -1,6 +1,7 @@
 -- Laws of the ids of messages: their classes, their order, and that a list of messages is told by
 -- its skeletons and its ids.
-use Rattle.std.proofs.Common.{◌≡◌, ℕ, ◌+◌, ℤ, true, List, [], ◌∷◌, ◌++◌, map, length, refl, sym}
+use Rattle.std.proofs.Common.{◌≡◌, ℕ, ◌+◌, ℤ, true, false, List, [], ◌∷◌, ◌++◌, map, length, refl}
+use Rattle.std.proofs.Common.{sym}
 use Rattle.std.proofs.Common.{◌∙◌, ap, arith, append_assoc, append-nil}
 use Rattle.std.proofs.lemmas.List.{length-append, length-map}
 use Rattle.std.proofs.lemmas.Bool.Decides.{Decides-and, Decides-eqb, Decides-like}
@@ -11,26 +12,21 @@ use Rattle.dap_tree.specs.Doc.{Doc}
 use Rattle.dap_tree.specs.Ids.{ids, skeleton, numbers_of, with_ids}
 use Rattle.dap_tree.specs.declared.side.Side.{Side}
 use Rattle.dap_tree.specs.declared.sort.Sort.{Sort}
-use Rattle.dap_tree.specs.declared.sort.Sort.TheVariants.{ClientSeq, AdapterSeq, Frame, Reference}
+use Rattle.dap_tree.specs.declared.sort.Sort.TheVariants.{Frame}
 use Rattle.dap_tree.proofs.Booleans.{and_left, and_right, and_both}
 use Rattle.dap_tree.proofs.IdNumbers.{count_alike, count_ids, with_own, with_others}
 use Rattle.dap_message.specs.Message.{Sent}
 use Rattle.dap_message.specs.Numbers.{is_proper_number, are_proper}
 use Rattle.dap_rename.specs.Messages.{Class, IsProperId, AreProper, class_after, occurrence}
-use Rattle.dap_rename.specs.Messages.{occurrences, message_skeleton, same_class, sort_number}
+use Rattle.dap_rename.specs.Messages.{occurrences, message_skeleton, same_class}
+use Rattle.dap_rename.specs.Sorts.{sort_number, same_sort}
 use Rattle.dap_rename.specs.Messages.{stops_after}
 use Rattle.dap_rename.specs.Laws.{IsToldBySkeleton}
 use Rattle.dap_rename.proofs.Lists.{same_cons, head_of, tail_of, front_told, rest_told, each-append}
 use Rattle.dap_rename.proofs.Lists.{each_left, each_right}
+use Rattle.dap_rename.proofs.AllSorts.{sort_told}
 
 -- ---- classes
-
-pub sort_told : (a b : Sort) → sort_number a ≡ sort_number b → a ≡ b
-sort_told ClientSeq ClientSeq h = refl
-sort_told AdapterSeq AdapterSeq h = refl
-sort_told Frame Frame h = refl
-sort_told Reference Reference h = refl
-sort_told a b h = absurd (omega arith)
 
 pub class_decides : (c d : Class) → Decides (same_class c d) (c ≡ d)
 class_decides c d =
@@ -47,10 +43,19 @@ pub same_itself : (c : Class) → same_class c c ≡ true
 same_itself c = (class_decides c c).1 refl
 
 pub class_sort : (stops : ℕ) (s : Sort) → (class_after stops s).0 ≡ s
-class_sort stops ClientSeq = refl
-class_sort stops AdapterSeq = refl
 class_sort stops Frame = refl
-class_sort stops Reference = refl
+class_sort stops s = refl
+
+pub first_class : (s : Sort) → class_after 0 s ≡ (s, 0)
+first_class Frame = refl
+first_class s = refl
+
+pub class_apart : (stops : ℕ) (r s : Sort) → same_sort r s ≡ false
+    → same_class (class_after stops r) (class_after stops s) ≡ false
+class_apart stops r s h =
+    let e : same_sort (class_after stops r).0 (class_after stops s).0 ≡ false =
+    rw (class_sort stops r, class_sort stops s) h in
+    rw e refl
 
 -- ---- the order of occurrences
 

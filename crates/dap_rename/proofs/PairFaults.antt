@@ -1,31 +1,33 @@
 -- Pairs judged one by one, and the pairs of equal places.
-use Rattle.std.proofs.Common.{◌≡◌, ℕ, ◌+◌, ◌<◌, ℤ, pos, true, false, ◌&&◌, List, [], ◌∷◌, ◌++◌}
-use Rattle.std.proofs.Common.{length, take, drop, get_or, Option, Some, None, MatchOption, is_some}
+use Rattle.std.proofs.Common.{◌≡◌, ℕ, ◌+◌, ◌<◌, ◌≤◌, ℤ, pos, true, false, ◌&&◌, List, [], ◌∷◌, ◌++◌}
+use Rattle.std.proofs.Common.{length, map, take, drop, get_or, Option, Some, None, MatchOption}
+use Rattle.std.proofs.Common.{is_some}
 use Rattle.std.proofs.Common.{refl, sym, ◌∙◌, ap, subst, arith, true≢false, take-append-drop}
 use Rattle.std.proofs.Common.{append_assoc, append-nil}
 use Rattle.std.proofs.lemmas.Bool.{and_parts, and_from}
 use Rattle.std.proofs.lemmas.Bool.Decides.{Decides-int_eq}
-use Rattle.std.proofs.lemmas.List.{map-append, take_more, length-take-le}
+use Rattle.std.proofs.lemmas.List.{map-append, take_more, take_all, length-take-le}
 use Rattle.std.specs.List.{AllByRecursion}
 use Rattle.std.specs.Ordering.{int_eq}
 use Rattle.dap_tree.specs.declared.sort.Sort.{Sort}
-use Rattle.dap_tree.specs.declared.sort.Sort.TheVariants.{ClientSeq, AdapterSeq, Frame, Reference}
 use Rattle.dap_tree.proofs.Booleans.{or_left, or_right}
 use Rattle.dap_message.specs.Message.{Sent}
 use Rattle.dap_message.specs.Numbers.{is_proper_number}
 use Rattle.dap_names.specs.Numbering.{table}
 use Rattle.dap_rename.specs.Messages.{Class, IsProperId, class_after, occurrences, same_class}
 use Rattle.dap_rename.specs.Messages.{in_whole, equal_places}
-use Rattle.dap_rename.specs.Renamings.{AreApart, IsRenaming, pairs_of_class}
+use Rattle.dap_rename.specs.Renamings.{AreApart, IsRenaming, pairs_of_class, pairs}
 use Rattle.dap_rename.specs.Tables.{table_of}
 use Rattle.dap_rename.specs.declared.tables.Tables.{Tables}
-use Rattle.dap_rename.specs.Pairs.{entry, entries, same_sort, is_taken, is_given, MayFollow}
-use Rattle.dap_rename.specs.Pairs.{PairFails, FailsFirst, equal_names}
+use Rattle.dap_rename.specs.Pairs.{entry, entries, is_taken, is_given, MayFollow}
+use Rattle.dap_rename.specs.Sorts.{all_sorts, same_sort}
+use Rattle.dap_rename.specs.Pairs.{PairFails, FailsFirst, names_of_sorts, equal_names}
 use Rattle.dap_rename.specs.declared.pair.Pair.{Pair}
 use Rattle.dap_rename.specs.declared.pair.PairFault.{PairFault}
 use Rattle.dap_rename.proofs.RenamingBetween.{append_renaming}
-use Rattle.dap_rename.proofs.CarriesTest.{told_same_sort}
-use Rattle.dap_rename.proofs.TableContents.{Stand, no_stops, first_class}
+use Rattle.dap_rename.proofs.AllSorts.{told_same_sort}
+use Rattle.dap_rename.proofs.TableContents.{Stand, no_stops}
+use Rattle.dap_rename.proofs.Occurrences.{first_class}
 
 pub entries-append : (a b : List Pair) → entries (a ++ b) ≡ entries a ++ entries b
 entries-append a b = map-append entry a b
@@ -106,21 +108,32 @@ none_found ps k d (Some f) h r m s = absurd (true≢false s)
 
 -- ---- equal places
 
-pub joined : (n o p q r : List Pair) (f g : Sort → List ℤ) → n ≡ [] →
-    entries o ≡ entries n ++ pairs_of_class (ClientSeq, 0) (f ClientSeq) (g ClientSeq)
-    → entries p ≡ entries o ++ pairs_of_class (AdapterSeq, 0) (f AdapterSeq) (g AdapterSeq) →
-    entries q ≡ entries p ++ pairs_of_class (Frame, 0) (f Frame) (g Frame)
-    → entries r ≡ entries q ++ pairs_of_class (Reference, 0) (f Reference) (g Reference)
-    → entries r ≡ equal_names f g
-joined n o p q r f g z e1 e2 e3 e4 =
-    let A = pairs_of_class {K = Class} (ClientSeq, 0) (f ClientSeq) (g ClientSeq) in
-    let B = pairs_of_class {K = Class} (AdapterSeq, 0) (f AdapterSeq) (g AdapterSeq) in
-    let C = pairs_of_class {K = Class} (Frame, 0) (f Frame) (g Frame) in
-    let D = pairs_of_class {K = Class} (Reference, 0) (f Reference) (g Reference) in
-    e4 ∙ ap (λ t. t ++ D) (e3
-    ∙ ap (λ t. t ++ C) (e2 ∙ ap (λ t. t ++ B) (e1 ∙ ap (λ t. entries t ++ A) z)))
-    ∙ append_assoc (A ++ B) C D ∙ append_assoc A B (C ++ D)
-    ∙ ap (λ t. A ++ (B ++ (C ++ t))) (sym (append-nil D))
+pub sorts-push : (ss : List Sort) (s : Sort) (f g : Sort → List ℤ)
+    → names_of_sorts (ss ++ s ∷ []) f g
+    ≡ names_of_sorts ss f g ++ pairs_of_class (s, 0) (f s) (g s)
+sorts-push [] s f g = append-nil (pairs_of_class (s, 0) (f s) (g s))
+sorts-push (r ∷ ss) s f g =
+    ap (λ t. pairs_of_class (r, 0) (f r) (g r) ++ t) (sorts-push ss s f g)
+    ∙ sym (append_assoc (pairs_of_class (r, 0) (f r) (g r)) (names_of_sorts ss f g)
+    (pairs_of_class (s, 0) (f s) (g s)))
+
+-- one sort more
+pub sort_step : (ss : List Sort) (k : ℕ) (d : Sort) (f g : Sort → List ℤ) (t u : List ℤ)
+    (old new : List (Class × ℤ × ℤ)) → k < length ss → old ≡ names_of_sorts (take k ss) f g
+    → t ≡ f (get_or ss k d) → u ≡ g (get_or ss k d)
+    → new ≡ old ++ pairs_of_class (get_or ss k d, 0) t u
+    → new ≡ names_of_sorts (take (k + 1) ss) f g
+sort_step ss k d f g t u old new h e a b q =
+    let s = get_or ss k d in
+    q ∙ ap (λ r. r ++ pairs_of_class (s, 0) t u) e
+    ∙ ap (λ r. names_of_sorts (take k ss) f g ++ pairs_of_class (s, 0) r u) a
+    ∙ ap (λ r. names_of_sorts (take k ss) f g ++ pairs_of_class (s, 0) (f s) r) b
+    ∙ sym (sorts-push (take k ss) s f g)
+    ∙ ap (λ r. names_of_sorts r f g) (sym (take_more ss k d h))
+
+pub sorts_ended : (ss : List Sort) (k : ℕ) (f g : Sort → List ℤ) (r : List (Class × ℤ × ℤ))
+    → length ss ≤ k → r ≡ names_of_sorts (take k ss) f g → r ≡ names_of_sorts ss f g
+sorts_ended ss k f g r h e = e ∙ ap (λ t. names_of_sorts t f g) (take_all k ss h)
 
 pub pairs-push : {K : Type 0} (c : K) (t u : List ℤ) (x y : ℤ) → length t ≡ length u
     → pairs_of_class c (t ++ x ∷ []) (u ++ y ∷ []) ≡ pairs_of_class c t u ++ (c, x, y) ∷ []
@@ -148,6 +161,14 @@ add_step s xs ys k first old new x y h n p q e f =
     ∙ ap (λ u. pairs_of_class (s, 0) (take (k + 1) xs) u) (ap (λ a. take k ys ++ a ∷ []) q
     ∙ sym (take_more ys k (pos 0) (omega (arith, h, n))))))
 
+pub each_place : (ss : List Sort) (xs ys : List (Class × ℤ)) (f g : Sort → List ℤ)
+    → ((s : Sort) → f s ≡ table same_class (s, 0) xs)
+    → ((s : Sort) → g s ≡ table same_class (s, 0) ys)
+    → names_of_sorts ss f g ≡ pairs same_class (map (λ s. (s, 0)) ss) xs ys
+each_place [] xs ys f g h k = refl
+each_place (s ∷ ss) xs ys f g h k =
+    let later = each_place ss xs ys f g h k in rw (h s, k s, later) refl
+
 module _ {T : Type 0} (numbers_of : T → List ℤ) (limit : T → ℕ) where
   pub stand_at : (t : Tables T) (ms : List Sent) → Stand numbers_of limit t ms → (s : Sort)
       → numbers_of (table_of t s) ≡ table same_class (s, 0) (occurrences in_whole 0 ms)
@@ -160,15 +181,6 @@ module _ {T : Type 0} (numbers_of : T → List ℤ) (limit : T → ℕ) where
       → equal_names (λ s. numbers_of (table_of t s)) (λ s. numbers_of (table_of u s))
       ≡ equal_places ms ns
   places_equal t u ms ns h k =
-      let a = stand_at t ms h in
-      let b = stand_at u ns k in
-      rw (
-        a ClientSeq,
-        a AdapterSeq,
-        a Frame,
-        a Reference,
-        b ClientSeq,
-        b AdapterSeq,
-        b Frame,
-        b Reference,
-      ) refl
+      each_place all_sorts (occurrences in_whole 0 ms) (occurrences in_whole 0 ns)
+      (λ s. numbers_of (table_of t s)) (λ s. numbers_of (table_of u s)) (stand_at t ms h)
+      (stand_at u ns k)

@@ -1,32 +1,37 @@
 -- What it is to be the same: one skeleton and one list of names. From it the laws of fresh lists
 -- and of the normal form.
-use Rattle.std.proofs.Common.{◌≡◌, ℕ, suc, ℤ, pos, true, false, cond, List, [], ◌∷◌, ◌++◌, map}
+use Rattle.std.proofs.Common.{◌≡◌, ℕ, suc, ℤ, pos, true, false, cond, Bool, not, ◌&&◌, List, []}
+use Rattle.std.proofs.Common.{◌∷◌, ◌++◌, map}
 use Rattle.std.proofs.Common.{length, inl, inr, refl, sym, ◌∙◌, ap, subst, arith, true≢false}
 use Rattle.std.proofs.lemmas.List.{length-map, map-append}
+use Rattle.std.proofs.lemmas.Bool.{and_parts}
 use Rattle.std.proofs.lemmas.Bool.Decides.{Decides-int_eq}
 use Rattle.std.specs.List.{list_any, AllByRecursion}
 use Rattle.std.specs.Ordering.{int_eq}
 use Rattle.dap_tree.specs.Ids.{ids}
 use Rattle.dap_tree.specs.declared.sort.Sort.{Sort}
-use Rattle.dap_tree.specs.declared.sort.Sort.TheVariants.{ClientSeq, AdapterSeq, Frame, Reference}
+use Rattle.dap_tree.specs.declared.sort.Sort.TheVariants.{Reference}
+use Rattle.dap_tree.proofs.Booleans.{or_left, or_right}
 use Rattle.dap_message.specs.Message.{Sent}
 use Rattle.dap_message.specs.Numbers.{is_proper_number}
 use Rattle.dap_names.specs.Numbering.{table, name, named, IsFresh}
 use Rattle.dap_rename.specs.Renamings.{IsIn, IsRenaming, AreRelated, pairs}
 use Rattle.dap_rename.specs.Messages.{Class, IsProperId, class_after, occurrence, occurrences}
-use Rattle.dap_rename.specs.Messages.{message_skeleton, same_class, sort_number, AreSame, IsNormal}
+use Rattle.dap_rename.specs.Messages.{message_skeleton, same_class, AreSame, IsNormal}
+use Rattle.dap_rename.specs.Sorts.{all_sorts}
 use Rattle.dap_rename.specs.Messages.{Carries, in_whole, whole_classes}
 use Rattle.dap_rename.specs.Laws.{SameAsItself, SameBothWays, SameAlong, SameIsProper, SameFronts}
 use Rattle.dap_rename.specs.Laws.{FreshIsUnique, NormalIsUnique, NormalIsComplete, NamedIsNormal}
 use Rattle.dap_rename.specs.Laws.{NormalIsItsOwn, EqualPlacesRename, EqualPlacesCarry}
 use Rattle.dap_names.proofs.Additions.{by_bool}
 use Rattle.dap_names.proofs.FreshLists.{IsCounted, named-fresh, fresh_named}
-use Rattle.dap_rename.proofs.Lists.{front_told, each-append, each-more}
+use Rattle.dap_rename.proofs.AllSorts.{in_all_sorts}
+use Rattle.dap_rename.proofs.Lists.{front_told, each-append, each-more, in-map}
 use Rattle.dap_rename.proofs.RelatedLists.{Tied, named-related, Distinct}
 use Rattle.dap_rename.proofs.RenamingBetween.{pairs_renaming, related_by_pairs}
 use Rattle.dap_rename.proofs.Occurrences.{class_decides, occurrences_alike, occurrences-append}
 use Rattle.dap_rename.proofs.Occurrences.{messages_told, seconds, seconds-occurrences}
-use Rattle.dap_rename.proofs.Occurrences.{proper_occurrences, proper_messages}
+use Rattle.dap_rename.proofs.Occurrences.{proper_occurrences, proper_messages, first_class}
 
 -- ---- the classes of a list
 
@@ -219,12 +224,10 @@ unfolding IsNormal
 normal_is_its_own stop ms n h = (same_along stop n ms n (same_both_ways stop ms n h.0) h.0, h.1)
 
 pub proper_suc : (s : Sort) (k : ℕ) → is_proper_number s (pos (suc k)) ≡ true
-proper_suc ClientSeq k = refl
-proper_suc AdapterSeq k = refl
-proper_suc Frame k = refl
 proper_suc Reference k =
     by_bool (int_eq (pos (suc k)) (pos 0)) (λ a. let e : pos (suc k)
     ≡ pos 0 = (Decides-int_eq (pos (suc k)) (pos 0)).0 a in absurd cc) (λ a. rw a refl)
+proper_suc s k = refl
 
 pub named_proper : (e os : List (Class × ℤ)) → AllByRecursion IsProperId (named same_class e os)
 unfolding name
@@ -249,26 +252,37 @@ named_is_normal stop ms n p h e =
 
 -- ---- pairs of equal places, in the whole of a recording
 
-pub other_class : (c d : Class) → (sort_number c.0 ≡ sort_number d.0 → ⊥) → c ≡ d → ⊥
-other_class c d n e = n (ap (λ (k : Class). sort_number k.0) e)
+-- classes that differ by a test
+abbrev pub all_differ : List Class → Bool
+all_differ [] = true
+all_differ (c ∷ cs) = not (list_any (same_class c) cs) && all_differ cs
 
-pub whole_distinct : Distinct whole_classes
-whole_distinct = (
-  (
-    other_class _ _ (λ e. omega (arith, e)),
-    (other_class _ _ (λ e. omega (arith, e)), (other_class _ _ (λ e. omega (arith, e)), tt)),
-  ),
-  (
-    (other_class _ _ (λ e. omega (arith, e)), (other_class _ _ (λ e. omega (arith, e)), tt)),
-    ((other_class _ _ (λ e. omega (arith, e)), tt), (tt, tt)),
-  ),
+pub none_equal : (c : Class) (cs : List Class) → list_any (same_class c) cs ≡ false
+    → AllByRecursion (λ d. c ≡ d → ⊥) cs
+none_equal c [] h = tt
+none_equal c (d ∷ cs) h = (
+  (λ e. true≢false (sym ((class_decides c d).1 e)
+      ∙ or_left (same_class c d) (list_any (same_class c) cs) h)),
+  none_equal c cs (or_right (same_class c d) (list_any (same_class c) cs) h),
 )
 
+pub distinct_told : (cs : List Class) → all_differ cs ≡ true → Distinct cs
+distinct_told [] h = tt
+distinct_told (c ∷ cs) h =
+    let parts = and_parts (not (list_any (same_class c) cs)) (all_differ cs) h in
+    (none_equal c cs (not_true (list_any (same_class c) cs) parts.0), distinct_told cs parts.1)
+  where
+    not_true : (b : Bool) → not b ≡ true → b ≡ false
+    not_true true e = sym e
+    not_true false e = refl
+
+pub whole_distinct : Distinct whole_classes
+whole_distinct = distinct_told whole_classes refl
+
 pub whole_class : (s : Sort) → IsIn (class_after 0 s) whole_classes
-whole_class ClientSeq = inl refl
-whole_class AdapterSeq = inr (inl refl)
-whole_class Frame = inr (inr (inl refl))
-whole_class Reference = inr (inr (inr (inl refl)))
+whole_class s =
+    subst (λ c. IsIn c whole_classes) (sym (first_class s))
+    (in-map (λ t. (t, 0)) s all_sorts (in_all_sorts s))
 
 pub whole_ids : (is : List (Sort × ℤ))
     → AllByRecursion (λ o. IsIn o.0 whole_classes) (map (occurrence 0) is)

@@ -1,4 +1,4 @@
--- What the four tables hold and give are the numbers of the classes and their names.
+-- What the tables hold and give are the numbers of the classes and their names.
 use Rattle.std.proofs.Common.{◌≡◌, ℕ, zero, suc, ◌≤◌, ℤ, pos, true, false, eqb, List, [], ◌∷◌, ◌++◌}
 use Rattle.std.proofs.Common.{length, map, zip, refl, sym, ◌∙◌, ap, arith, append_assoc, append-nil}
 use Rattle.std.specs.List.{position_or_len}
@@ -6,25 +6,28 @@ use Rattle.std.specs.Ordering.{int_eq}
 use Rattle.std.proofs.lemmas.Bool.{and_right, ne_eqb}
 use Rattle.dap_tree.specs.Ids.{ids, sorts_of, skeleton}
 use Rattle.dap_tree.specs.declared.sort.Sort.{Sort}
-use Rattle.dap_tree.specs.declared.sort.Sort.TheVariants.{ClientSeq, AdapterSeq, Frame, Reference}
 use Rattle.dap_tree.proofs.Booleans.{and_both}
 use Rattle.dap_message.specs.Message.{Sent}
 use Rattle.dap_message.specs.Numbers.{is_proper_number, are_proper}
 use Rattle.dap_names.specs.Numbering.{add, numbers, table, name, named}
-use Rattle.dap_rename.specs.Messages.{Class, same_class, sort_number, class_after, occurrence}
+use Rattle.dap_rename.specs.Messages.{Class, same_class, class_after, occurrence}
+use Rattle.dap_rename.specs.Sorts.{same_sort}
 use Rattle.dap_rename.specs.Messages.{occurrences, numbers_of_class, stops_after, in_whole}
 use Rattle.dap_rename.specs.Messages.{HasFewIds, HasTooManyIds, IsRenamed}
 use Rattle.dap_names.specs.Table.{place}
-use Rattle.dap_rename.specs.Tables.{Lists, list_of, added, added_all, names_from, table_of, lists}
-use Rattle.dap_rename.specs.Tables.{limit_of, limits, AllFit, SomeIsOver}
+use Rattle.dap_rename.specs.Tables.{Lists, table_of, added, added_all, names_from, lists}
+use Rattle.dap_rename.specs.Tables.{limits, AllFit, SomeIsOver}
 use Rattle.dap_rename.specs.declared.tables.Tables.{Tables}
-use Rattle.dap_names.proofs.Additions.{table-push}
-use Rattle.dap_rename.proofs.Occurrences.{class_sort, same_itself, same_sent, occurrences-push}
+use Rattle.dap_names.proofs.Additions.{by_bool, table-push}
+use Rattle.dap_rename.proofs.AllSorts.{same_sort_told}
+use Rattle.dap_rename.proofs.ListGrowth.{added_at, list_at, limit_at}
+use Rattle.dap_rename.proofs.Occurrences.{class_sort, first_class, class_apart, same_itself}
+use Rattle.dap_rename.proofs.Occurrences.{same_sent, occurrences-push}
 use Rattle.dap_rename.proofs.Sameness.{proper_suc}
 
 -- the lists are the distinct numbers of each class behind so many stops
 abbrev pub StandAfter : ℕ → Lists → List (Class × ℤ) → Type 0
-StandAfter k l os = (s : Sort) → list_of l s ≡ table same_class (class_after k s) os
+StandAfter k l os = (s : Sort) → table_of l s ≡ table same_class (class_after k s) os
 
 pub table-own : (c : Class) (os : List (Class × ℤ)) (x : ℤ)
     → table same_class c (os ++ (c, x) ∷ []) ≡ add (table same_class c os) x
@@ -32,19 +35,18 @@ table-own c os x = table-push same_class c os (c, x) ∙ rw (same_itself c) refl
 
 pub stand-added : (k : ℕ) (l : Lists) (os : List (Class × ℤ)) (s : Sort) (x : ℤ) (r : Sort)
     → StandAfter k l os
-    → list_of (added l s x) r ≡ table same_class (class_after k r) (os ++ (class_after k s, x) ∷ [])
-stand-added k l os ClientSeq x ClientSeq h =
-    ap (λ t. add t x) (h ClientSeq) ∙ sym (table-own (class_after k ClientSeq) os x)
-stand-added k l os AdapterSeq x AdapterSeq h =
-    ap (λ t. add t x) (h AdapterSeq) ∙ sym (table-own (class_after k AdapterSeq) os x)
-stand-added k l os Frame x Frame h =
-    ap (λ t. add t x) (h Frame) ∙ sym (table-own (class_after k Frame) os x)
-stand-added k l os Reference x Reference h =
-    ap (λ t. add t x) (h Reference) ∙ sym (table-own (class_after k Reference) os x)
-stand-added k l os s x r h = rw table-push (h r)
+    → table_of (added l s x) r
+    ≡ table same_class (class_after k r) (os ++ (class_after k s, x) ∷ [])
+stand-added k l os s x r h =
+    added_at l s x r
+    ∙ by_bool (same_sort r s)
+    (λ a. rw a (ap (λ t. add t x) (h r) ∙ sym (table-own (class_after k r) os x)
+    ∙ ap (λ q. table same_class (class_after k r) (os ++ (class_after k q, x) ∷ []))
+    (same_sort_told r s a)))
+    (λ a. let apart = class_apart k r s a in rw (a, table-push, apart) (h r))
 
 pub name_is : (k : ℕ) (l : Lists) (os : List (Class × ℤ)) (i : Sort × ℤ) → StandAfter k l os
-    → place (list_of l i.0) i.1 ≡ name same_class os (occurrence k i)
+    → place (table_of l i.0) i.1 ≡ name same_class os (occurrence k i)
 unfolding name
 name_is k l os i h = ap (λ t. pos (suc (position_or_len (int_eq i.1) t))) (h i.0)
 
@@ -79,7 +81,7 @@ pub names_proper : (ss : List Sort) (l : Lists) (is : List (Sort × ℤ))
 names_proper [] l is = refl
 names_proper (s ∷ ss) l [] = refl
 names_proper (s ∷ ss) l (i ∷ is) =
-    and_both (is_proper_number s (place (list_of l i.0) i.1)) _ (proper_suc s _)
+    and_both (is_proper_number s (place (table_of l i.0) i.1)) _ (proper_suc s _)
     (names_proper ss (added l i.0 i.1) is)
 
 -- ---- in the whole of a recording
@@ -89,14 +91,9 @@ no_stops [] = refl
 no_stops (m ∷ ms) = no_stops ms
 
 pub no_class : (s r : Sort) (k : ℕ) → same_class (s, suc k) (class_after 0 r) ≡ false
-no_class s ClientSeq k =
-    and_right (eqb (sort_number s) 0) (eqb (suc k) 0) (ne_eqb (suc k) 0 (λ e. omega (arith, e)))
-no_class s AdapterSeq k =
-    and_right (eqb (sort_number s) 1) (eqb (suc k) 0) (ne_eqb (suc k) 0 (λ e. omega (arith, e)))
-no_class s Frame k =
-    and_right (eqb (sort_number s) 2) (eqb (suc k) 0) (ne_eqb (suc k) 0 (λ e. omega (arith, e)))
-no_class s Reference k =
-    and_right (eqb (sort_number s) 3) (eqb (suc k) 0) (ne_eqb (suc k) 0 (λ e. omega (arith, e)))
+no_class s r k =
+    rw (first_class r)
+    (and_right (same_sort s r) (eqb (suc k) 0) (ne_eqb (suc k) 0 (λ e. omega (arith, e))))
 
 -- there is no id of a later class
 pub none_of : (s : Sort) (k : ℕ) (is : List (Sort × ℤ)) (os : List (Class × ℤ))
@@ -109,28 +106,9 @@ pub none_later : (s : Sort) (k : ℕ) (ms : List Sent)
 none_later s k [] = refl
 none_later s k (m ∷ ms) = none_of s k (ids m.doc) (occurrences in_whole 0 ms) ∙ none_later s k ms
 
-pub first_class : (s : Sort) → class_after 0 s ≡ (s, 0)
-first_class ClientSeq = refl
-first_class AdapterSeq = refl
-first_class Frame = refl
-first_class Reference = refl
-
 -- ---- names, one message more
 
 module _ {T : Type 0} (numbers_of : T → List ℤ) (limit : T → ℕ) where
-  pub list_at : (t : Tables T) (s : Sort)
-      → list_of (lists numbers_of t) s ≡ numbers_of (table_of t s)
-  list_at t ClientSeq = refl
-  list_at t AdapterSeq = refl
-  list_at t Frame = refl
-  list_at t Reference = refl
-
-  pub limit_at : (t : Tables T) (s : Sort) → limit_of (limits limit t) s ≡ limit (table_of t s)
-  limit_at t ClientSeq = refl
-  limit_at t AdapterSeq = refl
-  limit_at t Frame = refl
-  limit_at t Reference = refl
-
   -- what the tables of names that stand for the messages have
   abbrev pub Stand : Tables T → List Sent → Type 0
   Stand t ms = (s : Sort)
@@ -139,7 +117,7 @@ module _ {T : Type 0} (numbers_of : T → List ℤ) (limit : T → ℕ) where
 
   pub stand_lists : (t : Tables T) (ms : List Sent) → Stand t ms
       → StandAfter (stops_after in_whole 0 ms) (lists numbers_of t) (occurrences in_whole 0 ms)
-  stand_lists t ms h s = list_at t s ∙ h s
+  stand_lists t ms h s = list_at numbers_of t s ∙ h s
 
   pub stand_added : (t : Tables T) (ms : List Sent) (m : Sent) → Stand t ms
       → StandAfter (stops_after in_whole 0 ms) (added_all (lists numbers_of t) (ids m.doc))
@@ -155,7 +133,7 @@ module _ {T : Type 0} (numbers_of : T → List ℤ) (limit : T → ℕ) where
   stand_next t u ms m h g s =
       let k : stops_after in_whole 0 ms ≡ stops_after in_whole 0 (ms ++ m ∷ []) =
       no_stops ms ∙ sym (no_stops (ms ++ m ∷ [])) in
-      sym (list_at u s) ∙ ap (λ l. list_of l s) g ∙ stand_added t ms m h s
+      sym (list_at numbers_of u s) ∙ ap (λ l. table_of l s) g ∙ stand_added t ms m h s
       ∙ ap (λ j. table same_class (class_after j s) (occurrences in_whole 0 (ms ++ m ∷ []))) k
 
   pub few_at : (t : Tables T) (l : Lists) (k : ℕ) (ns : List Sent) → k ≡ 0
@@ -163,10 +141,10 @@ module _ {T : Type 0} (numbers_of : T → List ℤ) (limit : T → ℕ) where
       → length (numbers_of_class in_whole (s, j) ns) ≤ limit (table_of t s)
   unfolding AllFit table
   few_at t l k ns z h f s zero =
-      let e : list_of l s ≡ table same_class (s, 0) (occurrences in_whole 0 ns) =
+      let e : table_of l s ≡ table same_class (s, 0) (occurrences in_whole 0 ns) =
       h s ∙ ap (λ c. table same_class c (occurrences in_whole 0 ns))
       (ap (λ j. class_after j s) z ∙ first_class s) in
-      omega (arith, ap length e, f s, limit_at t s)
+      omega (arith, ap length e, f s, limit_at limit t s)
   few_at t l k ns z h f s (suc j) = rw (none_later s j ns) (omega arith)
 
   pub few_next : (t : Tables T) (ms : List Sent) (m : Sent) → Stand t ms
@@ -187,7 +165,7 @@ module _ {T : Type 0} (numbers_of : T → List ℤ) (limit : T → ℕ) where
           arith,
           o.1,
           ap length (stand_added t ms m h o.0),
-          limit_at t o.0,
+          limit_at limit t o.0,
           ap (λ s. limit (table_of t s)) (class_sort k o.0),
         );
       }

@@ -10,7 +10,7 @@ use Rattle.dap_tree.specs.declared.side.Side.{Side}
 use Rattle.dap_tree.specs.declared.side.Side.TheVariants.{Client, Adapter}
 use Rattle.dap_tree.specs.declared.sort.Sort.{Sort}
 use Rattle.dap_message.specs.Message.{Sent}
-use Rattle.dap_rename.specs.Pairs.{same_sort}
+use Rattle.dap_rename.specs.Sorts.{same_sort}
 use Rattle.dap_rename.specs.declared.pair.Pair.{Pair}
 
 -- Some pair of the sort takes x and gives y.

@@ -1,10 +1,12 @@
 pub mod Renamings
+pub mod Sorts
 pub mod Messages
 pub mod Tables
 pub mod Names
 pub mod Pairs
 pub mod Renaming
 pub mod Carrying
+pub mod PairIndex
 pub mod Laws
 pub use Rattle.dap_names.specs.IndexNames
 pub use Rattle.dap_names.specs.Numbering

@@ -5,11 +5,12 @@ use Rattle.std.specs.Prelude.{length, map}
 use Rattle.std.specs.List.{AllByRecursion}
 use Rattle.dap_tree.specs.Ids.{ids, skeleton, with_ids}
 use Rattle.dap_tree.specs.declared.sort.Sort.{Sort}
-use Rattle.dap_tree.specs.declared.sort.Sort.TheVariants.{ClientSeq, AdapterSeq, Frame, Reference}
+use Rattle.dap_tree.specs.declared.sort.Sort.TheVariants.{Frame, Reference}
 use Rattle.dap_message.specs.Message.{Sent}
 use Rattle.dap_message.specs.Numbers.{is_proper_number, is_proper}
 use Rattle.dap_names.specs.Numbering.{table, named, IsFresh}
 use Rattle.dap_rename.specs.Renamings.{IsRenaming, AreRelated, pairs}
+use Rattle.dap_rename.specs.Sorts.{all_sorts, same_sort}
 
 -- ---- classes
 
@@ -18,23 +19,16 @@ use Rattle.dap_rename.specs.Renamings.{IsRenaming, AreRelated, pairs}
 abbrev pub Class : Type 0
 Class = Sort × ℕ
 
-abbrev pub sort_number : Sort → ℕ
-sort_number ClientSeq = 0
-sort_number AdapterSeq = 1
-sort_number Frame = 2
-sort_number Reference = 3
-
 abbrev pub same_class : Class → Class → Bool
-same_class c d = eqb (sort_number c.0) (sort_number d.0) && eqb c.1 d.1
+same_class c d = same_sort c.0 d.0 && eqb c.1 d.1
 
 -- The class of an id of this sort, behind so many stops (own). Frames and references are good until
--- the debuggee goes on (DAP specification, "Lifetime of Objects References"); sequence numbers are
+-- the debuggee goes on (DAP specification, "Lifetime of Objects References"); the other numbers are
 -- of the whole recording.
 abbrev pub class_after : ℕ → Sort → Class
-class_after stops ClientSeq = (ClientSeq, 0)
-class_after stops AdapterSeq = (AdapterSeq, 0)
 class_after stops Frame = (Frame, stops)
 class_after stops Reference = (Reference, stops)
+class_after stops s = (s, 0)
 
 -- What says how many stops a message is: behind them the classes of frames and references begin
 -- anew. In a whole recording no message is one (own), so that there is one class for each sort.
@@ -133,7 +127,7 @@ module _ (stop : Sent → ℕ) where
 
 -- The classes of whole recordings, in the order of the sorts.
 abbrev pub whole_classes : List Class
-whole_classes = (ClientSeq, 0) ∷ (AdapterSeq, 0) ∷ (Frame, 0) ∷ (Reference, 0) ∷ []
+whole_classes = map (λ s. (s, 0)) all_sorts
 
 -- Sort by sort, the i-th distinct number of the one list with the i-th of the other (own).
 abbrev pub equal_places : List Sent → List Sent → List (Class × ℤ × ℤ)

@@ -2,17 +2,16 @@
 -- they stand for.
 use Rattle.std.specs.Prelude.{◌≡◌, ℕ, ℤ, List, [], length}
 use Rattle.dap_tree.specs.declared.sort.Sort.{Sort}
-use Rattle.dap_tree.specs.declared.sort.Sort.TheVariants.{ClientSeq, AdapterSeq, Frame, Reference}
 use Rattle.dap_message.specs.Message.{Sent}
 use Rattle.dap_rename.specs.Messages.{class_after, in_whole, stops_after, numbers_of_class}
+use Rattle.dap_rename.specs.Sorts.{EachSort}
 use Rattle.dap_rename.specs.Tables.{table_of}
 use Rattle.dap_rename.specs.declared.names.Names.{Names}
 use Rattle.dap_rename.specs.declared.tables.Tables.{Tables}
 
 -- All tables are empty.
 abbrev pub AreEmpty : {T : Type 0} → (T → List ℤ) → Tables T → Type 0
-AreEmpty numbers t = (numbers t.client_seq ≡ []) × (numbers t.adapter_seq ≡ [])
-    × (numbers t.frame ≡ []) × (numbers t.reference ≡ [])
+AreEmpty numbers t = EachSort (λ s. numbers (table_of t s) ≡ [])
 
 -- The numbers of a sort that have names, the i-th the one with the name i.
 abbrev pub numbers_in : {T : Type 0} → (T → List ℤ) → Names T → Sort → List ℤ
@@ -36,7 +35,4 @@ AreUnchanged numbers old new = (s : Sort) → numbers_in numbers new s ≡ numbe
 -- For each sort there are as many numbers with names in the one as in the other.
 abbrev pub HaveEqualCounts : {T : Type 0} → (T → List ℤ) → Names T → Names T → Type 0
 HaveEqualCounts numbers a b =
-    (length (numbers_in numbers a ClientSeq) ≡ length (numbers_in numbers b ClientSeq))
-    × (length (numbers_in numbers a AdapterSeq) ≡ length (numbers_in numbers b AdapterSeq))
-    × (length (numbers_in numbers a Frame) ≡ length (numbers_in numbers b Frame))
-    × (length (numbers_in numbers a Reference) ≡ length (numbers_in numbers b Reference))
+    EachSort (λ s. length (numbers_in numbers a s) ≡ length (numbers_in numbers b s))

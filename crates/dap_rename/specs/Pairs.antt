@@ -1,13 +1,13 @@
 -- Pairs of numbers as the entries of a renaming, and why pairs are none.
-use Rattle.std.specs.Prelude.{◌≡◌, suc, ℤ, Bool, true, false, ◌&&◌, eqb, List, [], ◌∷◌, ◌++◌}
+use Rattle.std.specs.Prelude.{◌≡◌, suc, ℤ, Bool, true, false, ◌&&◌, List, [], ◌∷◌, ◌++◌}
 use Rattle.std.specs.Prelude.{length, map}
 use Rattle.std.specs.List.{list_any}
 use Rattle.std.specs.Ordering.{int_eq}
 use Rattle.dap_tree.specs.declared.sort.Sort.{Sort}
-use Rattle.dap_tree.specs.declared.sort.Sort.TheVariants.{ClientSeq, AdapterSeq, Frame, Reference}
 use Rattle.dap_message.specs.Numbers.{is_proper_number}
-use Rattle.dap_rename.specs.Messages.{Class, IsProperId, sort_number}
+use Rattle.dap_rename.specs.Messages.{Class, IsProperId}
 use Rattle.dap_rename.specs.Renamings.{IsRenaming, pairs_of_class}
+use Rattle.dap_rename.specs.Sorts.{all_sorts, same_sort}
 use Rattle.dap_rename.specs.declared.pair.Pair.{Pair}
 use Rattle.dap_rename.specs.declared.pair.PairFault.{PairFault}
 use Rattle.dap_rename.specs.declared.pair.PairFault.TheVariants.{ZeroReference, FromTwice, ToTwice}
@@ -19,9 +19,6 @@ entry p = ((p.sort, 0), p.from, p.to)
 
 abbrev pub entries : List Pair → List (Class × ℤ × ℤ)
 entries ps = map entry ps
-
-abbrev pub same_sort : Sort → Sort → Bool
-same_sort s t = eqb (sort_number s) (sort_number t)
 
 -- Neither number is a variables reference of 0.
 abbrev pub is_proper_pair : Pair → Bool
@@ -66,11 +63,11 @@ RefusesPairs ps (FromTwice n) = FailsFirst ps (FromTwice n)
 RefusesPairs ps (ToTwice n) = FailsFirst ps (ToTwice n)
 RefusesPairs ps Memory = IsRenaming IsProperId (entries ps)
 
--- The entries of the i-th number of the one with the i-th of the other, in the order of the sorts
--- (own).
+-- Sort by sort, the entries of the i-th number of the one with the i-th of the other (own).
+abbrev pub names_of_sorts : List Sort → (Sort → List ℤ) → (Sort → List ℤ) → List (Class × ℤ × ℤ)
+names_of_sorts [] f g = []
+names_of_sorts (s ∷ ss) f g = pairs_of_class (s, 0) (f s) (g s) ++ names_of_sorts ss f g
+
+-- So it is for all sorts, in their order.
 abbrev pub equal_names : (Sort → List ℤ) → (Sort → List ℤ) → List (Class × ℤ × ℤ)
-equal_names f g =
-    pairs_of_class (ClientSeq, 0) (f ClientSeq) (g ClientSeq)
-    ++ (pairs_of_class (AdapterSeq, 0) (f AdapterSeq) (g AdapterSeq)
-    ++ (pairs_of_class (Frame, 0) (f Frame) (g Frame)
-    ++ (pairs_of_class (Reference, 0) (f Reference) (g Reference) ++ [])))
+equal_names f g = names_of_sorts all_sorts f g

@@ -1,48 +1,50 @@
--- The tables of the four sorts, and for private clauses what they hold as four lists, and the names
--- that those give.
-use Rattle.std.specs.Prelude.{◌≡◌, ◌≤◌, ◌<◌, ℕ, ℤ, List, [], ◌∷◌, length, take}
+-- The tables of the sorts, and for private clauses what they hold as lists, and the names that
+-- those give.
+use Rattle.std.specs.Prelude.{◌≡◌, ◌≤◌, ◌<◌, ℕ, ℤ, cond, List, [], ◌∷◌, length, take}
 use Rattle.dap_tree.specs.declared.sort.Sort.{Sort}
 use Rattle.dap_tree.specs.declared.sort.Sort.TheVariants.{ClientSeq, AdapterSeq, Frame, Reference}
+use Rattle.dap_tree.specs.declared.sort.Sort.TheVariants.{Thread, Breakpoint}
 use Rattle.dap_names.specs.Numbering.{add}
 use Rattle.dap_names.specs.Table.{place}
+use Rattle.dap_rename.specs.Sorts.{same_sort}
 use Rattle.dap_rename.specs.declared.tables.Tables.{Tables}
 
--- The table of a sort.
+-- What is there for a sort.
 abbrev pub table_of : {T : Type 0} → Tables T → Sort → T
 table_of t ClientSeq = t.client_seq
 table_of t AdapterSeq = t.adapter_seq
 table_of t Frame = t.frame
 table_of t Reference = t.reference
+table_of t Thread = t.thread
+table_of t Breakpoint = t.breakpoint
 
--- The lists of the four sorts.
-pub record Lists : Type 0 where
-  pub client_seq : List ℤ
-  pub adapter_seq : List ℤ
-  pub frame : List ℤ
-  pub reference : List ℤ
-
-abbrev pub list_of : Lists → Sort → List ℤ
-list_of l ClientSeq = l.client_seq
-list_of l AdapterSeq = l.adapter_seq
-list_of l Frame = l.frame
-list_of l Reference = l.reference
-
--- What the four tables hold.
-abbrev pub lists : {T : Type 0} → (T → List ℤ) → Tables T → Lists
-lists numbers t =
+-- For each sort what is said of it.
+abbrev pub tables_of : {T : Type 0} → (Sort → T) → Tables T
+tables_of f =
     record {
-      client_seq = numbers t.client_seq;
-      adapter_seq = numbers t.adapter_seq;
-      frame = numbers t.frame;
-      reference = numbers t.reference;
+      client_seq = f ClientSeq;
+      adapter_seq = f AdapterSeq;
+      frame = f Frame;
+      reference = f Reference;
+      thread = f Thread;
+      breakpoint = f Breakpoint;
     }
+
+-- A list for each sort.
+abbrev pub Lists : Type 0
+Lists = Tables (List ℤ)
+
+-- What the tables hold.
+abbrev pub lists : {T : Type 0} → (T → List ℤ) → Tables T → Lists
+lists numbers t = tables_of (λ s. numbers (table_of t s))
+
+-- How many names they have.
+abbrev pub counts : {T : Type 0} → (T → List ℤ) → Tables T → Tables ℕ
+counts numbers t = tables_of (λ s. length (numbers (table_of t s)))
 
 -- The lists after an id was named.
 abbrev pub added : Lists → Sort → ℤ → Lists
-added l ClientSeq x = record l { client_seq = add l.client_seq x }
-added l AdapterSeq x = record l { adapter_seq = add l.adapter_seq x }
-added l Frame x = record l { frame = add l.frame x }
-added l Reference x = record l { reference = add l.reference x }
+added l s x = tables_of (λ r. cond (same_sort r s) (add (table_of l r) x) (table_of l r))
 
 -- The lists after these ids were named in turn.
 abbrev pub added_all : Lists → List (Sort × ℤ) → Lists
@@ -52,7 +54,7 @@ added_all l (i ∷ is) = added_all (added l i.0 i.1) is
 -- The name of each id, where each is named after those before it.
 abbrev pub names_from : Lists → List (Sort × ℤ) → List ℤ
 names_from l [] = []
-names_from l (i ∷ is) = place (list_of l i.0) i.1 ∷ names_from (added l i.0 i.1) is
+names_from l (i ∷ is) = place (table_of l i.0) i.1 ∷ names_from (added l i.0 i.1) is
 
 -- The new list begins with the old one.
 abbrev pub Begins : List ℤ → List ℤ → Type 0
@@ -60,35 +62,19 @@ Begins old new = (length old ≤ length new) × (take (length old) new ≡ old)
 
 -- Each new list begins with its old one.
 unfoldable pub AllBegin : Lists → Lists → Type 0
-AllBegin old new = Begins old.client_seq new.client_seq × Begins old.adapter_seq new.adapter_seq
-    × Begins old.frame new.frame × Begins old.reference new.reference
+AllBegin old new = (s : Sort) → Begins (table_of old s) (table_of new s)
 
--- The limits of the four tables.
-pub record Limits : Type 0 where
-  pub client_seq : ℕ
-  pub adapter_seq : ℕ
-  pub frame : ℕ
-  pub reference : ℕ
-
-abbrev pub limit_of : Limits → Sort → ℕ
-limit_of m ClientSeq = m.client_seq
-limit_of m AdapterSeq = m.adapter_seq
-limit_of m Frame = m.frame
-limit_of m Reference = m.reference
+-- A limit for each sort.
+abbrev pub Limits : Type 0
+Limits = Tables ℕ
 
 abbrev pub limits : {T : Type 0} → (T → ℕ) → Tables T → Limits
-limits limit t =
-    record {
-      client_seq = limit t.client_seq;
-      adapter_seq = limit t.adapter_seq;
-      frame = limit t.frame;
-      reference = limit t.reference;
-    }
+limits limit t = tables_of (λ s. limit (table_of t s))
 
 -- No list is longer than its limit.
 unfoldable pub AllFit : Limits → Lists → Type 0
-AllFit m l = (s : Sort) → length (list_of l s) ≤ limit_of m s
+AllFit m l = (s : Sort) → length (table_of l s) ≤ table_of m s
 
 -- Some list is longer than its limit.
 abbrev pub SomeIsOver : Limits → Lists → Type 0
-SomeIsOver m l = (s : Sort) × (limit_of m s < length (list_of l s))
+SomeIsOver m l = (s : Sort) × (table_of m s < length (table_of l s))

@@ -1,26 +1,26 @@
 //! Whether pairs carry one list of messages to another, told without memory.
-ghost use Rattle.std.specs.Prelude.{◌≡◌, ◌&&◌, map};
-ghost use Rattle.std.specs.Ordering.{int_eq};
+ghost use Rattle.std.specs.Prelude.{◌≡◌, map};
 ghost use Rattle.dap_tree.specs.View.{view, items_view, members_view};
 ghost use Rattle.dap_message.specs.Message.{sent};
-ghost use Rattle.dap_rename.specs.Pairs.{same_sort};
-ghost use Rattle.dap_rename.specs.Carrying.{has_pair, carries_doc, carries_items, carries_members};
+ghost use Rattle.dap_rename.specs.Renaming.{pairs_of};
+ghost use Rattle.dap_rename.specs.Carrying.{carries_doc, carries_items, carries_members};
 ghost use Rattle.dap_rename.specs.Carrying.{carries_sent, carries_list};
 
 use crate::pair::Pair;
+use crate::renaming::Renaming;
 use dap_message::Message;
 use dap_tree::Tree;
 use std::collections::BTreeMap;
 
-pub(crate) fn carries_list(pairs: &[Pair], from: &[Message], to: &[Message]) -> bool
-    ensures { result ≡ carries_list pairs.now (map sent from.now) (map sent to.now) }
+pub(crate) fn carries_list(renaming: &Renaming, from: &[Message], to: &[Message]) -> bool
+    ensures { result ≡ carries_list (pairs_of renaming.now) (map sent from.now) (map sent to.now) }
 {
     let mut rest = to;
     for message in from {
         let [other, others @ ..] = rest else {
             return false;
         };
-        if !carries_message(pairs, message, other) {
+        if !carries_message(renaming, message, other) {
             return false;
         }
         rest = others;
@@ -28,46 +28,46 @@ pub(crate) fn carries_list(pairs: &[Pair], from: &[Message], to: &[Message]) -> 
     rest.is_empty()
 }
 
-fn carries_message(pairs: &[Pair], from: &Message, to: &Message) -> bool
-    ensures { result ≡ carries_sent pairs.now (sent from.now) (sent to.now) }
+fn carries_message(renaming: &Renaming, from: &Message, to: &Message) -> bool
+    ensures { result ≡ carries_sent (pairs_of renaming.now) (sent from.now) (sent to.now) }
 {
-    from.side() == to.side() && carries_tree(pairs, from.tree(), to.tree())
+    from.side() == to.side() && carries_tree(renaming, from.tree(), to.tree())
 }
 
 #[cycle(carries_tree)]
-fn carries_tree(pairs: &[Pair], from: &Tree, to: &Tree) -> bool
-    ensures { result ≡ carries_doc pairs.now (view from.now) (view to.now) }
+fn carries_tree(renaming: &Renaming, from: &Tree, to: &Tree) -> bool
+    ensures { result ≡ carries_doc (pairs_of renaming.now) (view from.now) (view to.now) }
 {
     match (from, to) {
         (Tree::Null, Tree::Null) => true,
         (Tree::Bool(a), Tree::Bool(b)) => *a == *b,
         (Tree::Whole(a), Tree::Whole(b)) => *a == *b,
         (Tree::Text(a), Tree::Text(b)) => a.as_str() == b.as_str(),
-        (Tree::List(a), Tree::List(b)) => carries_items(pairs, a, b),
-        (Tree::Object(a), Tree::Object(b)) => carries_members(pairs, a, b),
+        (Tree::List(a), Tree::List(b)) => carries_items(renaming, a, b),
+        (Tree::Object(a), Tree::Object(b)) => carries_members(renaming, a, b),
         (Tree::Id(sort, a), Tree::Id(other, b)) => {
             let pair = Pair {
                 sort: *sort,
                 from: *a,
                 to: *b,
             };
-            *sort == *other && has_pair(pairs, &pair)
+            *sort == *other && renaming.has(&pair)
         }
         _ => false,
     }
 }
 
 #[cycle(carries_tree)]
-fn carries_items(pairs: &[Pair], from: &Vec<Tree>, to: &Vec<Tree>) -> bool
-    ensures { result
-        ≡ carries_items pairs.now (items_view from.now.items) (items_view to.now.items) }
+fn carries_items(renaming: &Renaming, from: &Vec<Tree>, to: &Vec<Tree>) -> bool
+    ensures { let pairs = pairs_of renaming.now in result
+        ≡ carries_items pairs (items_view from.now.items) (items_view to.now.items) }
 {
     let mut rest = to.as_slice();
     for item in from {
         let [other, others @ ..] = rest else {
             return false;
         };
-        if !carries_tree(pairs, item, other) {
+        if !carries_tree(renaming, item, other) {
             return false;
         }
         rest = others;
@@ -77,34 +77,21 @@ fn carries_items(pairs: &[Pair], from: &Vec<Tree>, to: &Vec<Tree>) -> bool
 
 #[cycle(carries_tree)]
 fn carries_members(
-    pairs: &[Pair],
+    renaming: &Renaming,
     from: &BTreeMap<String, Tree>,
     to: &BTreeMap<String, Tree>,
 ) -> bool
-    ensures { result
-        ≡ carries_members pairs.now (members_view from.now.entries) (members_view to.now.entries) }
+    ensures { let pairs = pairs_of renaming.now in result
+        ≡ carries_members pairs (members_view from.now.entries) (members_view to.now.entries) }
 {
     let mut rest = to.iter();
     for (name, member) in from.iter() {
         let Some((other_name, other)) = rest.next() else {
             return false;
         };
-        if name.as_str() != other_name.as_str() || !carries_tree(pairs, member, other) {
+        if name.as_str() != other_name.as_str() || !carries_tree(renaming, member, other) {
             return false;
         }
     }
     rest.next().is_none()
-}
-
-fn has_pair(pairs: &[Pair], pair: &Pair) -> bool
-    ensures { result ≡ has_pair pairs.now pair.now.sort pair.now.from pair.now.to }
-{
-    pairs.iter().any(|other| is_equal(other, pair))
-}
-
-fn is_equal(pair: &Pair, other: &Pair) -> bool
-    ensures { result ≡ (same_sort pair.now.sort other.now.sort
-        && (int_eq pair.now.from other.now.from && int_eq pair.now.to other.now.to)) }
-{
-    pair.sort == other.sort && pair.from == other.from && pair.to == other.to
 }

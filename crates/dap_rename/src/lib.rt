@@ -9,11 +9,14 @@ mod carries;
 pub mod laws;
 mod names;
 mod pair;
+mod pair_index;
 mod renaming;
+mod sorts;
 mod tables;
 
 pub use dap_names::{IndexNames, NameFault, NameTable, PlainNames};
 pub use names::Names;
 pub use pair::{Pair, PairFault};
 pub use renaming::Renaming;
+pub use sorts::SORTS;
 pub use tables::Tables;

@@ -59,11 +59,6 @@ impl<T: NameTable> Names<T> {
     pub fn len(&self, sort: Sort) -> usize
         ensures { result ≡ length (numbers_in T.numbers self.now sort) }
     {
-        match sort {
-            Sort::ClientSeq => self.tables.client_seq.len(),
-            Sort::AdapterSeq => self.tables.adapter_seq.len(),
-            Sort::Frame => self.tables.frame.len(),
-            Sort::Reference => self.tables.reference.len(),
-        }
+        self.tables.table(sort).len()
     }
 }

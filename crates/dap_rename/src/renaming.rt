@@ -1,16 +1,23 @@
 //! Renamings: made of pairs or between two tables, and asked whether they carry messages.
 ghost use Rattle.std.specs.Prelude.{◌≡◌, ◌++◌, ◌↔◌, List, length, map, IsTrue, MatchOption, IfOk};
-ghost use Rattle.std.specs.Prelude.{IfErr, OnOk};
+ghost use Rattle.std.specs.Prelude.{IfErr, OnOk, ◌&&◌};
+ghost use Rattle.std.specs.Option.{ForSome};
+ghost use Rattle.std.specs.Ordering.{int_eq};
 ghost use Rattle.dap_message.specs.Message.{Sent, sent};
 ghost use Rattle.dap_rename.specs.Messages.{IsProperId, Carries, equal_places, in_whole};
 ghost use Rattle.dap_rename.specs.Names.{StandFor, HaveEqualCounts, numbers_in};
-ghost use Rattle.dap_rename.specs.Pairs.{entries, is_proper_pair, is_taken, is_given, MayFollow};
+ghost use Rattle.dap_rename.specs.Carrying.{has_pair};
+ghost use Rattle.dap_rename.specs.PairIndex.{IsIndexOf};
+ghost use Rattle.dap_rename.specs.Pairs.{entries, is_taken, is_given, MayFollow};
+ghost use Rattle.dap_rename.specs.Sorts.{same_sort};
 ghost use Rattle.dap_rename.specs.Pairs.{PairFails, FailsFirst, RefusesPairs, equal_names};
 ghost use Rattle.dap_rename.specs.Renamings.{IsRenaming, pairs_of_class};
 
 use crate::carries::carries_list;
 use crate::names::Names;
 use crate::pair::{Pair, PairFault};
+use crate::pair_index::{PairIndex, is_proper};
+use crate::sorts::SORTS;
 use dap_message::Message;
 use dap_names::{NameFault, NameTable};
 use dap_tree::Sort;
@@ -20,6 +27,10 @@ use std::alloc::{AllocError, Global};
 #[derive(Drop)]
 pub struct Renaming {
     pairs: Vec<Pair>,
+    // The pairs of `new` by their sort and number. Those of two tables have none: it would take
+    // memory and time, and `compare` only shows the pairs.
+    index: Option<PairIndex>,
+    ghost indexed: { ForSome index (IsIndexOf pairs.items) },
 }
 
 impl Renaming {
@@ -32,12 +43,16 @@ impl Renaming {
         ensures renaming { OnOk result (IsRenaming IsProperId (entries pairs.now)) }
         ensures refused { IfErr result (RefusesPairs pairs.now) }
     {
-        if let Some(fault) = first_fault(pairs) {
-            return Err(fault);
-        }
-        match Vec::from_slice(alloc, pairs) {
-            Ok(pairs) => Ok(Renaming { pairs }),
-            Err(_) => Err(PairFault::Memory),
+        match PairIndex::new(alloc, pairs) {
+            Ok(Ok(index)) => match Vec::from_slice(alloc, pairs) {
+                Ok(pairs) => Ok(Renaming {
+                    pairs,
+                    index: Some(index),
+                }),
+                Err(_) => Err(PairFault::Memory),
+            },
+            Ok(Err(fault)) => Err(fault),
+            Err(_) => Err(fault_or_memory(pairs)),
         }
     }
 
@@ -65,22 +80,11 @@ impl Renaming {
         ensures memory { IfErr result (λ f. f ≡ NameFault.Memory) }
     {
         let mut pairs = Vec::new(alloc);
-        let (from, to) = (&from.tables, &to.tables);
-        add_pairs(
-            &mut pairs,
-            Sort::ClientSeq,
-            &from.client_seq,
-            &to.client_seq,
-        )?;
-        add_pairs(
-            &mut pairs,
-            Sort::AdapterSeq,
-            &from.adapter_seq,
-            &to.adapter_seq,
-        )?;
-        add_pairs(&mut pairs, Sort::Frame, &from.frame, &to.frame)?;
-        add_pairs(&mut pairs, Sort::Reference, &from.reference, &to.reference)?;
-        Ok(Renaming { pairs })
+        for sort in SORTS {
+            let (from, to) = (from.tables.table(sort), to.tables.table(sort));
+            add_pairs(&mut pairs, sort, from, to)?;
+        }
+        Ok(Renaming { pairs, index: None })
     }
 
     /// Whether the pairs carry the one list to the other: the messages are equal but for the
@@ -90,7 +94,35 @@ impl Renaming {
         ensures { IsTrue result
             ↔ Carries in_whole (entries (pairs_of self.now)) (map sent from.now) (map sent to.now) }
     {
-        carries_list(self.pairs.as_slice(), from, to)
+        carries_list(self, from, to)
+    }
+
+    /// Whether some pair is equal to this one.
+    pub(crate) fn has(&self, pair: &Pair) -> bool
+        ensures { result ≡ has_pair (pairs_of self.now) pair.now.sort pair.now.from pair.now.to }
+    {
+        match &self.index {
+            Some(index) => index.has(pair),
+            None => self.pairs.iter().any(|other| is_equal(other, pair)),
+        }
+    }
+}
+
+fn is_equal(pair: &Pair, other: &Pair) -> bool
+    ensures { result ≡ (same_sort pair.now.sort other.now.sort
+        && (int_eq pair.now.from other.now.from && int_eq pair.now.to other.now.to)) }
+{
+    pair.sort == other.sort && pair.from == other.from && pair.to == other.to
+}
+
+// The fault of the first pair that fails, found without memory and so by going through the earlier
+// pairs for each, or else that memory was refused.
+fn fault_or_memory(pairs: &[Pair]) -> PairFault
+    ensures { RefusesPairs pairs.now result }
+{
+    match first_fault(pairs) {
+        Some(fault) => fault,
+        None => PairFault::Memory,
     }
 }
 
@@ -119,15 +151,6 @@ fn fault_behind(before: &[Pair], pair: &Pair) -> Option<PairFault>
         Some(PairFault::ToTwice(place))
     } else {
         None
-    }
-}
-
-fn is_proper(pair: &Pair) -> bool
-    ensures { result ≡ is_proper_pair pair.now }
-{
-    match pair.sort {
-        Sort::Reference => pair.from != 0 && pair.to != 0,
-        Sort::ClientSeq | Sort::AdapterSeq | Sort::Frame => true,
     }
 }
 

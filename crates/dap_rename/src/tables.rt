@@ -1,8 +1,9 @@
 //! A table of names for each sort of ids.
 ghost use Rattle.std.specs.Prelude.{◌≡◌, ◌≤◌, false, Err, IfOk, OnOk, OnErr, length, take};
 ghost use Rattle.dap_names.specs.Table.{has, place};
-ghost use Rattle.dap_rename.specs.Tables.{lists, list_of, added, added_all, names_from, AllBegin};
-ghost use Rattle.dap_rename.specs.Tables.{limits, limit_of, AllFit, SomeIsOver};
+ghost use Rattle.dap_rename.specs.Sorts.{EachSort};
+ghost use Rattle.dap_rename.specs.Tables.{table_of, lists, counts, added, added_all, names_from};
+ghost use Rattle.dap_rename.specs.Tables.{AllBegin, limits, AllFit, SomeIsOver};
 
 use dap_names::{NameFault, NameTable};
 use dap_tree::Sort;
@@ -15,15 +16,24 @@ pub struct Tables<T> {
     pub adapter_seq: T,
     pub frame: T,
     pub reference: T,
+    pub thread: T,
+    pub breakpoint: T,
 }
 
-// How many names each table has.
-#[derive(Clone, Copy, Drop)]
-struct Lengths {
-    client_seq: usize,
-    adapter_seq: usize,
-    frame: usize,
-    reference: usize,
+impl<T> Tables<T> {
+    /// The table of the sort.
+    pub(crate) fn table(&self, sort: Sort) -> &T
+        ensures { result.now ≡ table_of self.now sort }
+    {
+        match sort {
+            Sort::ClientSeq => &self.client_seq,
+            Sort::AdapterSeq => &self.adapter_seq,
+            Sort::Frame => &self.frame,
+            Sort::Reference => &self.reference,
+            Sort::Thread => &self.thread,
+            Sort::Breakpoint => &self.breakpoint,
+        }
+    }
 }
 
 impl<T: NameTable> Tables<T> {
@@ -74,14 +84,14 @@ impl<T: NameTable> Tables<T> {
 
     fn name(&mut self, id: (Sort, i64)) -> Result<i64, NameFault>
         ensures named { IfOk result (λ n. n
-            ≡ place (list_of (lists T.numbers self.old) id.0) id.1) }
+            ≡ place (table_of (lists T.numbers self.old) id.0) id.1) }
         ensures grown { OnOk result
             (lists T.numbers self.new ≡ added (lists T.numbers self.old) id.0 id.1) }
         ensures refused { OnErr result (lists T.numbers self.new ≡ lists T.numbers self.old) }
         ensures full { result ≡ Err NameFault.Full
-            → (has (list_of (lists T.numbers self.old) id.0) id.1 ≡ false)
-            × (limit_of (limits T.limit self.old) id.0
-            ≤ length (list_of (lists T.numbers self.old) id.0)) }
+            → (has (table_of (lists T.numbers self.old) id.0) id.1 ≡ false)
+            × (table_of (limits T.limit self.old) id.0
+            ≤ length (table_of (lists T.numbers self.old) id.0)) }
         ensures same_limits { limits T.limit self.new ≡ limits T.limit self.old }
     {
         match id.0 {
@@ -89,40 +99,37 @@ impl<T: NameTable> Tables<T> {
             Sort::AdapterSeq => self.adapter_seq.name(id.1),
             Sort::Frame => self.frame.name(id.1),
             Sort::Reference => self.reference.name(id.1),
+            Sort::Thread => self.thread.name(id.1),
+            Sort::Breakpoint => self.breakpoint.name(id.1),
         }
     }
 
-    fn lengths(&self) -> Lengths
-        ensures client_seq { result.client_seq ≡ length (T.numbers self.now.client_seq) }
-        ensures adapter_seq { result.adapter_seq ≡ length (T.numbers self.now.adapter_seq) }
-        ensures frame { result.frame ≡ length (T.numbers self.now.frame) }
-        ensures reference { result.reference ≡ length (T.numbers self.now.reference) }
+    // How many names each table has.
+    fn lengths(&self) -> Tables<usize>
+        ensures { result ≡ counts T.numbers self.now }
     {
-        Lengths {
+        Tables {
             client_seq: self.client_seq.len(),
             adapter_seq: self.adapter_seq.len(),
             frame: self.frame.len(),
             reference: self.reference.len(),
+            thread: self.thread.len(),
+            breakpoint: self.breakpoint.len(),
         }
     }
 
-    fn cut(&mut self, lengths: Lengths)
-        requires client_seq { lengths.client_seq ≤ length (T.numbers self.old.client_seq) }
-        requires adapter_seq { lengths.adapter_seq ≤ length (T.numbers self.old.adapter_seq) }
-        requires frame { lengths.frame ≤ length (T.numbers self.old.frame) }
-        requires reference { lengths.reference ≤ length (T.numbers self.old.reference) }
-        ensures client_seq { T.numbers self.new.client_seq
-            ≡ take lengths.client_seq (T.numbers self.old.client_seq) }
-        ensures adapter_seq { T.numbers self.new.adapter_seq
-            ≡ take lengths.adapter_seq (T.numbers self.old.adapter_seq) }
-        ensures frame { T.numbers self.new.frame ≡ take lengths.frame (T.numbers self.old.frame) }
-        ensures reference { T.numbers self.new.reference
-            ≡ take lengths.reference (T.numbers self.old.reference) }
+    // Each table with its first names, so many as are said.
+    fn cut(&mut self, lengths: Tables<usize>)
+        requires { EachSort (λ s. table_of lengths s ≤ length (T.numbers (table_of self.old s))) }
+        ensures cut { EachSort (λ s. T.numbers (table_of self.new s)
+            ≡ take (table_of lengths s) (T.numbers (table_of self.old s))) }
         ensures same_limits { limits T.limit self.new ≡ limits T.limit self.old }
     {
         self.client_seq.cut(lengths.client_seq);
         self.adapter_seq.cut(lengths.adapter_seq);
         self.frame.cut(lengths.frame);
         self.reference.cut(lengths.reference);
+        self.thread.cut(lengths.thread);
+        self.breakpoint.cut(lengths.breakpoint);
     }
 }

@@ -29,6 +29,8 @@ fn word(sort: Sort) -> &'static str
         Sort::AdapterSeq => "adapter-seq",
         Sort::Frame => "frame",
         Sort::Reference => "reference",
+        Sort::Thread => "thread",
+        Sort::Breakpoint => "breakpoint",
     }
 }
 
@@ -133,8 +135,9 @@ pub(crate) fn refusal_status(refused: CompareRefused) -> u8
 /// one line.
 ///
 /// Of recordings that are the same `same` goes to `writer`, and then a line for each pair of ids,
-/// `W FROM TO`, where W is `client-seq`, `adapter-seq`, `frame` or `reference`. Of others `differ
-/// K` goes there, with the number of the first record where they differ.
+/// `W FROM TO`, where W is `client-seq`, `adapter-seq`, `frame`, `reference`, `thread` or
+/// `breakpoint`. Of others `differ K` goes there, with the number of the first record where they
+/// differ.
 ///
 /// The status is 0 where they are the same, 1 where they differ, 2 where an input is refused, 4
 /// where a device failed and 5 for want of memory.

@@ -49,6 +49,8 @@ fn tables(alloc: Global, limits: Limits, hasher: RandomState) -> Tables<IndexNam
         adapter_seq: IndexNames::new(alloc, limits.ids, hasher),
         frame: IndexNames::new(alloc, limits.ids, hasher),
         reference: IndexNames::new(alloc, limits.ids, hasher),
+        thread: IndexNames::new(alloc, limits.ids, hasher),
+        breakpoint: IndexNames::new(alloc, limits.ids, hasher),
     }
 }
 

@@ -15,6 +15,8 @@ pub fn plain_names(alloc: Global, limit: u8) -> Names<PlainNames> {
         adapter_seq: PlainNames::new(alloc, limit as usize),
         frame: PlainNames::new(alloc, limit as usize),
         reference: PlainNames::new(alloc, limit as usize),
+        thread: PlainNames::new(alloc, limit as usize),
+        breakpoint: PlainNames::new(alloc, limit as usize),
     };
     Names::new(alloc, tables)
 }

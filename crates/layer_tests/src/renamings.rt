@@ -87,6 +87,8 @@ fn between(
         || from.len(Sort::AdapterSeq) != to.len(Sort::AdapterSeq)
         || from.len(Sort::Frame) != to.len(Sort::Frame)
         || from.len(Sort::Reference) != to.len(Sort::Reference)
+        || from.len(Sort::Thread) != to.len(Sort::Thread)
+        || from.len(Sort::Breakpoint) != to.len(Sort::Breakpoint)
     {
         return Err(NameFault::Full);
     }

@@ -6,10 +6,12 @@ use Rattle.dap_rename.proofs.carries.+carries_tree.Given as goal
 -- what is left to look at has the answer of the whole
 abbrev pub invariant-carries_items-loop-item : goal.invariant-carries_items-loop-item
 invariant-carries_items-loop-item l =
-    carries_items l.pairs (items_view (drop l.item-index l.item-items)) (items_view l.rest)
-    ≡ carries_items l.pairs (items_view l.item-items) (items_view l.fn.to.items)
+    let ps = l.renaming.pairs.items in
+    carries_items ps (items_view (drop l.item-index l.item-items)) (items_view l.rest)
+    ≡ carries_items ps (items_view l.item-items) (items_view l.fn.to.items)
 
 abbrev pub invariant-carries_members-loop-name : goal.invariant-carries_members-loop-name
 invariant-carries_members-loop-name l =
-    carries_members l.pairs (members_view l.name-iterator) (members_view l.rest)
-    ≡ carries_members l.pairs (members_view l.fn.from.entries) (members_view l.fn.to.entries)
+    let ps = l.renaming.pairs.items in
+    carries_members ps (members_view l.name-iterator) (members_view l.rest)
+    ≡ carries_members ps (members_view l.fn.from.entries) (members_view l.fn.to.entries)

@@ -5,6 +5,6 @@ use Rattle.dap_rename.proofs.carries.carries_list.Goals as goal
 pub returns : goal.returns
 returns c =
     let ended : length c.args.from.now ≤ c.loop-message.message-index = search rules in
-    list_at_end c.args.pairs.now c.args.from.now c.loop-message.rest.now
+    list_at_end c.args.renaming.now.pairs.items c.args.from.now c.loop-message.rest.now
     c.loop-message.message-index c.is_empty.result c.args.to.now ended c.loop-message.invariant
     c.is_empty.ensures

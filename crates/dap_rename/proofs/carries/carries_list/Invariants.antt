@@ -5,5 +5,5 @@ use Rattle.dap_rename.proofs.carries.carries_list.Given as goal
 
 abbrev pub invariant-loop-message : goal.invariant-loop-message
 invariant-loop-message l =
-    carries_list l.pairs (map sent (drop l.message-index l.from)) (map sent l.rest)
-    ≡ carries_list l.pairs (map sent l.from) (map sent l.fn.to)
+    carries_list l.renaming.pairs.items (map sent (drop l.message-index l.from)) (map sent l.rest)
+    ≡ carries_list l.renaming.pairs.items (map sent l.from) (map sent l.fn.to)

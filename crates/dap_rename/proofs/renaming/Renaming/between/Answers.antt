@@ -1,30 +1,28 @@
-use Rattle.std.proofs.Common.{◌≡◌, ◌∙◌}
+use Rattle.std.proofs.Common.{rules, ◌≡◌, ◌≤◌, ◌<◌, ◌∙◌, ap, length}
 use Rattle.dap_rename.specs.Names.{numbers_in}
 use Rattle.dap_rename.specs.Pairs.{entries, equal_names}
-use Rattle.dap_rename.proofs.PairFaults.{joined, places_equal}
+use Rattle.dap_rename.specs.Sorts.{all_sorts}
+use Rattle.dap_rename.proofs.PairFaults.{sort_step, sorts_ended, places_equal}
 use Rattle.dap_rename.proofs.renaming.Renaming.between.Goals as goal
 
-pub add_pairs-requires : goal.add_pairs-requires
-add_pairs-requires g c = c.requires.0
-
-pub add_pairs-requires-2 : goal.add_pairs-requires-2
-add_pairs-requires-2 g c = c.requires.1
-
-pub add_pairs-requires-3 : goal.add_pairs-requires-3
-add_pairs-requires-3 g c = c.requires.2
-
-pub add_pairs-requires-4 : goal.add_pairs-requires-4
-add_pairs-requires-4 g c = c.requires.3
+pub loop-sort-preserved : goal.loop-sort-preserved
+loop-sort-preserved g c =
+    let numbers = g.T.NameTable.numbers in
+    let within : c.loop-sort.sort-index < length all_sorts = search rules in
+    sort_step all_sorts c.loop-sort.sort-index _ (numbers_in numbers c.args.from.now)
+    (numbers_in numbers c.args.to.now) (numbers c.table-from.result.now)
+    (numbers c.table-to.result.now) (entries c.loop-sort.pairs.items)
+    (entries c.add_pairs.new.pairs.items) within c.loop-sort.invariant
+    (ap numbers c.table-from.ensures) (ap numbers c.table-to.ensures) c.in_ok-add_pairs.ensures
 
 pub returns-clause-stand : goal.returns-clause-stand
 returns-clause-stand g c ms ns h k =
     let numbers = g.T.NameTable.numbers in
-    let e : entries c.add_pairs-4.new.pairs.items
+    let ended : length all_sorts ≤ c.loop-sort.sort-index = search rules in
+    let e : entries c.loop-sort.pairs.items
     ≡ equal_names (numbers_in numbers c.args.from.now) (numbers_in numbers c.args.to.now) =
-    joined c.new-pairs.result.items c.add_pairs.new.pairs.items c.add_pairs-2.new.pairs.items
-    c.add_pairs-3.new.pairs.items c.add_pairs-4.new.pairs.items
-    (numbers_in numbers c.args.from.now) (numbers_in numbers c.args.to.now)
-    c.new-pairs.ensures.items c.in_ok-add_pairs.ensures c.in_ok-add_pairs-2.ensures
-    c.in_ok-add_pairs-3.ensures c.in_ok-add_pairs-4.ensures in
+    sorts_ended all_sorts c.loop-sort.sort-index (numbers_in numbers c.args.from.now)
+    (numbers_in numbers c.args.to.now) (entries c.loop-sort.pairs.items) ended
+    c.loop-sort.invariant in
     e ∙ places_equal numbers g.T.NameTable.limit c.args.from.now.tables c.args.to.now.tables ms ns h
     k

@@ -1,4 +1,4 @@
-use Rattle.std.proofs.Common.{◌≡◌, ◌∙◌, ap, sym, map}
+use Rattle.std.proofs.Common.{◌≡◌, ◌∙◌, sym, map}
 use Rattle.dap_message.specs.Message.{sent}
 use Rattle.dap_rename.specs.Carrying.{carries_list}
 use Rattle.dap_rename.proofs.CarriesTest.{list_carried, carried_list}
@@ -9,6 +9,5 @@ returns c =
     let ps = c.args.self.now.pairs.items in
     let ms = map sent c.args.from.now in
     let ns = map sent c.args.to.now in
-    let e : c.carries_list.result ≡ carries_list ps ms ns =
-    c.carries_list.ensures ∙ ap (λ qs. carries_list qs ms ns) c.as_slice.ensures.value in
+    let e : c.carries_list.result ≡ carries_list ps ms ns = c.carries_list.ensures in
     ((λ h. list_carried ps ms ns (sym e ∙ h)), (λ h. e ∙ carried_list ps ms ns h))

@@ -1,39 +1,15 @@
-use Rattle.std.proofs.Common.{arith}
-use Rattle.dap_rename.specs.Tables.{AllBegin}
-use Rattle.dap_rename.proofs.ListGrowth.{fit_tables, cut_back, lists_equal}
+use Rattle.dap_rename.proofs.ListGrowth.{fit_tables, counts_fit, lists_cut}
 use Rattle.dap_rename.proofs.tables.Tables.name_ids.Goals as goal
 
-pub cut-requires-clause-client_seq : goal.cut-requires-clause-client_seq
-unfolding AllBegin
-cut-requires-clause-client_seq g c =
-    omega (arith, c.name_all.ensures.begins.0.0, c.lengths-lengths.ensures.client_seq)
-
-pub cut-requires-clause-adapter_seq : goal.cut-requires-clause-adapter_seq
-unfolding AllBegin
-cut-requires-clause-adapter_seq g c =
-    omega (arith, c.name_all.ensures.begins.1.0, c.lengths-lengths.ensures.adapter_seq)
-
-pub cut-requires-clause-frame : goal.cut-requires-clause-frame
-unfolding AllBegin
-cut-requires-clause-frame g c =
-    omega (arith, c.name_all.ensures.begins.2.0, c.lengths-lengths.ensures.frame)
-
-pub cut-requires-clause-reference : goal.cut-requires-clause-reference
-unfolding AllBegin
-cut-requires-clause-reference g c =
-    omega (arith, c.name_all.ensures.begins.3.0, c.lengths-lengths.ensures.reference)
+pub cut-requires : goal.cut-requires
+cut-requires g c =
+    counts_fit g.T.NameTable.numbers c.args.self.now c.name_all.new.self c.lengths-lengths.result
+    c.lengths-lengths.ensures c.name_all.ensures.begins
 
 pub returns-in-Err-clause-refused : goal.returns-in-Err-clause-refused
-unfolding AllBegin
 returns-in-Err-clause-refused g c =
-    let b = c.name_all.ensures.begins in
-    let m = c.lengths-lengths.ensures in
-    let k = c.cut.ensures in
-    lists_equal _ _ _ _ _ _ _ _
-    (cut_back _ _ _ _ b.0 m.client_seq k.client_seq)
-    (cut_back _ _ _ _ b.1 m.adapter_seq k.adapter_seq)
-    (cut_back _ _ _ _ b.2 m.frame k.frame)
-    (cut_back _ _ _ _ b.3 m.reference k.reference)
+    lists_cut g.T.NameTable.numbers c.args.self.now c.name_all.new.self c.cut.new.self
+    c.lengths-lengths.result c.lengths-lengths.ensures c.name_all.ensures.begins c.cut.ensures.cut
 
 pub returns-in-Ok-clause-fits : goal.returns-in-Ok-clause-fits
 returns-in-Ok-clause-fits g c =

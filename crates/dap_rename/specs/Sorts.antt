@@ -1,0 +1,26 @@
+-- The sorts of ids, one after the other. What holds of each sort is said of this list.
+use Rattle.std.specs.Prelude.{ℕ, Bool, eqb, List, [], ◌∷◌}
+use Rattle.std.specs.List.{AllByRecursion}
+use Rattle.dap_tree.specs.declared.sort.Sort.{Sort}
+use Rattle.dap_tree.specs.declared.sort.Sort.TheVariants.{ClientSeq, AdapterSeq, Frame, Reference}
+use Rattle.dap_tree.specs.declared.sort.Sort.TheVariants.{Thread, Breakpoint}
+
+-- All sorts, in their order.
+abbrev pub all_sorts : List Sort
+all_sorts = ClientSeq ∷ AdapterSeq ∷ Frame ∷ Reference ∷ Thread ∷ Breakpoint ∷ []
+
+-- So it is of each sort.
+abbrev pub EachSort : (Sort → Type 0) → Type 0
+EachSort P = AllByRecursion P all_sorts
+
+-- The place of a sort among them, from 0.
+abbrev pub sort_number : Sort → ℕ
+sort_number ClientSeq = 0
+sort_number AdapterSeq = 1
+sort_number Frame = 2
+sort_number Reference = 3
+sort_number Thread = 4
+sort_number Breakpoint = 5
+
+abbrev pub same_sort : Sort → Sort → Bool
+same_sort s t = eqb (sort_number s) (sort_number t)
