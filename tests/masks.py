@@ -8,18 +8,18 @@ from report import PROGRAM, TOP, Report, run
 EXAMPLES = os.path.join(TOP, "examples")
 
 # The mask, two runs of one session, and what `compare` says of them as they came and masked. Two values of debugpy's
-# g-cancel really differ.
+# g-cancel and addresses in the texts of delve's a-basic, which are decimal there, really differ.
 PAIRS = [
     ("debugpy", "pairs/debugpy-e-errors.1", "pairs/debugpy-e-errors.2", "differ", "same"),
     ("debugpy", "pairs/debugpy-l-stopentry.3", "pairs/debugpy-l-stopentry.4", "differ", "same"),
     ("debugpy", "pairs/debugpy-g-cancel.3", "pairs/debugpy-g-cancel.4", "differ", "differ"),
     ("delve", "captures/dlv-a-basic.1", "pairs/dlv-a-basic.2", "differ", "differ"),
-    ("delve", "pairs/dlv-f-edit.1", "pairs/dlv-f-edit.2", "differ", "differ"),
-    ("lldb", "pairs/lldb14-e-errors.1", "pairs/lldb14-e-errors.2", "differ", "differ"),
-    ("lldb", "captures/lldb14-b-loop.1", "pairs/lldb14-b-loop.2", "differ", "differ"),
-    ("lldb", "pairs/lldb16-l-stopentry.1", "pairs/lldb16-l-stopentry.2", "differ", "differ"),
-    ("lldb", "pairs/lldb16-i-terminal.1", "pairs/lldb16-i-terminal.2", "differ", "differ"),
-    ("lldb", "pairs/lldb19-e-errors.1", "pairs/lldb19-e-errors.2", "differ", "differ"),
+    ("delve", "pairs/dlv-f-edit.1", "pairs/dlv-f-edit.2", "differ", "same"),
+    ("lldb", "pairs/lldb14-e-errors.1", "pairs/lldb14-e-errors.2", "differ", "same"),
+    ("lldb", "captures/lldb14-b-loop.1", "pairs/lldb14-b-loop.2", "differ", "same"),
+    ("lldb", "pairs/lldb16-l-stopentry.1", "pairs/lldb16-l-stopentry.2", "differ", "same"),
+    ("lldb", "pairs/lldb16-i-terminal.1", "pairs/lldb16-i-terminal.2", "differ", "same"),
+    ("lldb", "pairs/lldb19-e-errors.1", "pairs/lldb19-e-errors.2", "differ", "same"),
     ("rdbg", "pairs/rdbg-g-cancel.1", "pairs/rdbg-g-cancel.2", "differ", "same"),
     # Two sessions that really differ stay different.
     ("debugpy", "pairs/debugpy-e-errors.1", "pairs/debugpy-l-stopentry.3", "differ", "differ"),

@@ -101,11 +101,13 @@ def rows(report):
         ("1", b"1 * * seq needed own-seq\n"),
         ("2", b"2 request * command needed string\n"),
         ("62", b"62 response stackTrace body.stackFrames[].id needed frame\n"),
-        ("139", output.splitlines(keepends=True)[-1]),
+        ("166", b"166 request terminateThreads arguments.threadIds[] needed thread\n"),
+        ("172", b"172 event breakpoint body.breakpoint.id optional breakpoint\n"),
+        ("188", output.splitlines(keepends=True)[-1]),
     ]:
         answer = run(["rows", number])
         report.check(f"rows {number} prints that row", answer == (0, line, b""), repr(answer))
-    for number in ("0", "140", "062", "x", ""):
+    for number in ("0", "189", "062", "x", ""):
         answer = run(["rows", number])
         report.check(f"there is no row {number!r}", answer[:2] == (3, b"") and answer[2].startswith(b"error: no row "), repr(answer))
 
