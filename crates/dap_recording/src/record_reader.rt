@@ -100,9 +100,12 @@ impl RecordReader {
     pub fn has_record(&self, piece: &[u8]) -> bool
         ensures { IsTrue result → HasRecord (record_limits self.now) piece.now }
     {
-        if piece.is_empty() || side_of(piece[0]).is_none() {
+        if piece.is_empty() {
             return false;
         }
+        let Some(_) = side_of(piece[0]) else {
+            return false;
+        };
         match self.framer.frame_in(&piece[1..]) {
             Some(used) => used + 1 < piece.len() && piece[used + 1] == b'\n',
             None => false,
