@@ -8,3 +8,4 @@ pub mod StreamAnswers
 pub mod StreamLoop
 pub mod StreamWriting
 pub mod WholeInput
+pub mod PendingTexts
