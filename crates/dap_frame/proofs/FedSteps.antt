@@ -1,6 +1,6 @@
 -- What a framer stands for once it has taken of a frame.
 use Rattle.std.proofs.Common.{◌≡◌, ℕ, ◌+◌, ◌-◌, ◌<◌, ◌≤◌, List, [], ◌++◌, length, take, drop, min}
-use Rattle.std.proofs.Common.{Result, Ok, Err, sym, ap, ◌∙◌, subst, arith}
+use Rattle.std.proofs.Common.{Result, Ok, Err, refl, sym, ap, ◌∙◌, subst, arith}
 use Rattle.std.proofs.lemmas.List.{take-append-drop, take_all, append_assoc, length-append}
 use Rattle.std.proofs.lemmas.List.{length-take-le, length-drop, drop-append-le, nil_from_length}
 use Rattle.std.proofs.Math.Seq.{take-add}
@@ -15,7 +15,7 @@ use Rattle.dap_frame.specs.declared.progress.HeaderTaken.TheVariants.{Unfinished
 use Rattle.dap_frame.specs.Frame.{BeginsWith, HasContentByte, IsFrame, IsOpen}
 use Rattle.dap_frame.specs.Reading.{Reading, Stands, IsKeptOf, IsKeptBy}
 use Rattle.dap_frame.specs.Framer.{reading, progress_in}
-use Rattle.dap_frame.specs.Progress.{IsAtContent, TakesHeader, TakesRestOfHeader}
+use Rattle.dap_frame.specs.Progress.{HasEnded, IsAtContent, TakesHeader, TakesRestOfHeader}
 use Rattle.dap_frame.proofs.MarkEnds.{BeginsWith-more}
 use Rattle.dap_frame.proofs.Frames.{frame_of, open_in_content}
 
@@ -105,6 +105,23 @@ module _ (limits : FrameLimits) (bytes rest piece new : List ℕ) (header_len co
         frame_of limits (rest ++ take (used + more) piece) new header_len content begins behind
             exact,
       )
+
+-- a piece that begins with a header part and as many bytes as it says
+pub frame_in : (limits : FrameLimits) (piece : List ℕ) (header_len content_len used : ℕ)
+    → HasEnded limits [] piece header_len content_len used
+    → content_len ≤ length piece - used
+    → (content : List ℕ) × IsFrame limits (take (used + content_len) piece) content
+frame_in limits piece header_len content_len used ended short =
+    let begun = rest_taken limits [] [] piece (Ok (Ended header_len content_len used)) refl ended
+    in
+    let content : List ℕ = take content_len (drop used piece) in
+    let behind = length-drop used piece in
+    (
+      content,
+      (fed_frame limits [] [] piece content header_len content_len used content_len begun
+          (omega (arith, behind)) refl
+          (omega (arith, behind, length-take-le content_len (drop used piece) (omega arith)))).1,
+    )
 
 -- memory is asked for bytes of a content alone
 pub content_byte : (limits : FrameLimits) (bytes rest piece : List ℕ)

@@ -15,4 +15,5 @@ pub mod Outcomes
 pub mod Frames
 pub mod Faults
 pub mod WrittenFrames
+pub mod UsualNames
 pub mod Streams

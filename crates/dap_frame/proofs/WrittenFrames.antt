@@ -126,6 +126,15 @@ scan_plain limits bytes (b ∷ text) count findings line all is =
           (append_assoc bytes (b ∷ []) text) rest.1,
     )
 
+-- the name of the one field
+pub name_scan : (limits : FrameLimits)
+    → IsScanOf limits (codes "Content-Length: ") (scan_of 16 Nothing none_found (Length Blank))
+name_scan limits =
+    let s = scan_plain limits [] (codes "Content-Length: ") 0 none_found (Name 0) refl
+    (scan_start limits) in
+    subst (λ n. IsScanOf limits (codes "Content-Length: ")
+    (scan_of n Nothing none_found (Length Blank))) s.1.count s.1
+
 -- a lone line, and the header part's end
 ends_after : (limits : FrameLimits) (line : List ℕ) → list_all is_plain line ≡ true
     → HeaderEnds limits (line ++ codes "\r\n\r\n")

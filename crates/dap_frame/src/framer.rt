@@ -1,8 +1,8 @@
 //! Frames read from the pieces of a stream.
 ghost use Rattle.std.specs.Prelude.{◌≡◌, ℕ, ◌≤◌, ◌+◌, ◌<◌, ◌↔◌, ◌++◌, List, [], length, Err};
-ghost use Rattle.std.specs.Prelude.{IsErrOf, IfErr, IsOk, IfOk};
+ghost use Rattle.std.specs.Prelude.{IsErrOf, IfErr, IsOk, IfOk, IfSome, take};
 ghost use Rattle.dap_frame.specs.Limits.{IsSound};
-ghost use Rattle.dap_frame.specs.Frame.{HasContentByte};
+ghost use Rattle.dap_frame.specs.Frame.{HasContentByte, IsFrame};
 ghost use Rattle.dap_frame.specs.Reading.{Stands, HasFailed, Gives, limits_of};
 
 use crate::content::Content;
@@ -10,7 +10,7 @@ use crate::fault::FrameFault;
 use crate::fed::Fed;
 use crate::header_scan::HeaderScan;
 use crate::limits::FrameLimits;
-use crate::progress::{HeaderTaken, Progress, take_content, take_rest_of_header};
+use crate::progress::{HeaderTaken, Progress, take_content, take_header, take_rest_of_header};
 use std::alloc::Global;
 use std::marker::Model;
 use std::mem;
@@ -152,6 +152,27 @@ impl Framer {
             used: used + more,
             content: Some(Content::from_vec(bytes)),
         })
+    }
+
+    /// How long the frame is that the piece begins with, where all of it is in the piece. What the
+    /// framer stands for is of no matter. Takes no memory.
+    pub fn frame_in(&self, piece: &[u8]) -> Option<usize>
+        ensures within { IfSome result (λ used. used ≤ length piece.now) }
+        ensures frame { IfSome result (λ used. (content : List ℕ)
+            × IsFrame (limits_of self.now) (take used piece.now) content) }
+    {
+        match take_header(self.limits, HeaderScan::start(), piece) {
+            Ok(HeaderTaken::Ended {
+                content_len, used, ..
+            }) => {
+                if content_len <= piece.len() - used {
+                    Some(used + content_len)
+                } else {
+                    None
+                }
+            }
+            _ => None,
+        }
     }
 
     /// Keeps the memory of a content that is done with, for the contents to come. Nothing else is

@@ -1,11 +1,12 @@
 //! A header part, scanned byte by byte. None of its bytes is kept.
 
-ghost use Rattle.std.specs.Prelude.{◌≡◌, ◌<◌, ℕ, List, []};
+ghost use Rattle.std.specs.Prelude.{◌≡◌, ◌<◌, ℕ, List, [], codes};
 ghost use Rattle.dap_frame.specs.Frame.{told_length};
 ghost use Rattle.dap_frame.specs.Findings.{AreFindings, with_line};
 ghost use Rattle.dap_frame.specs.HeaderScan.{header_step, IsScanOf};
 
 use crate::fault::FrameFault;
+use crate::length_scan::LengthScan;
 use crate::limits::FrameLimits;
 use crate::line_scan::LineScan;
 
@@ -101,6 +102,22 @@ impl HeaderScan {
                 length: Err(FrameFault::NoLength),
             },
             line: LineScan::Name(0),
+        }
+    }
+
+    /// The scan of `Content-Length: `, with which each frame begins that is written.
+    pub fn behind_name() -> HeaderScan
+        ensures { (limits : _) → IsScanOf limits (codes "Content-Length: ") result }
+    {
+        HeaderScan {
+            count: 16,
+            mark: EndMark::Nothing,
+            findings: Findings {
+                are_fields: true,
+                has_length: false,
+                length: Err(FrameFault::NoLength),
+            },
+            line: LineScan::Length(LengthScan::Blank),
         }
     }
 

@@ -26,6 +26,7 @@ pub enum Progress {
 }
 
 /// What a piece makes of a header part.
+#[derive(Clone, Copy)]
 pub enum HeaderTaken {
     /// It took the whole piece.
     Unfinished(HeaderScan),
@@ -38,7 +39,7 @@ pub enum HeaderTaken {
 }
 
 /// Takes what belongs to the header part, byte by byte.
-fn take_header(
+fn scan_header(
     limits: FrameLimits,
     scan: HeaderScan,
     piece: &[u8],
@@ -71,6 +72,40 @@ fn take_header(
         }
     }
     Ok(HeaderTaken::Unfinished(scan))
+}
+
+/// Takes what belongs to the header part. The name of its one field, as [`crate::write_frame`]
+/// writes it, is taken at once.
+pub fn take_header(
+    limits: FrameLimits,
+    scan: HeaderScan,
+    piece: &[u8],
+) -> Result<HeaderTaken, FrameFault>
+    requires sound { IsSound limits }
+    requires scan { IsShortScan limits scan }
+    ensures { (rest : List ℕ) → IsScanOf limits rest scan → length rest < limits.header
+        → TakesHeader limits rest piece.now result }
+{
+    if scan.count == 0 {
+        if let Some(behind) = piece.strip_prefix(b"Content-Length: ") {
+            return match scan_header(limits, HeaderScan::behind_name(), behind) {
+                Ok(
+                    HeaderTaken::Ended {
+                        header_len,
+                        content_len,
+                        used,
+                    },
+                ) => Ok(HeaderTaken::Ended {
+                    header_len,
+                    content_len,
+                    used: used + 16,
+                }),
+                Ok(HeaderTaken::Unfinished(scan)) => Ok(HeaderTaken::Unfinished(scan)),
+                Err(fault) => Err(fault),
+            };
+        }
+    }
+    scan_header(limits, scan, piece)
 }
 
 /// Takes what belongs to the header part, unless it has ended.

@@ -1,6 +1,7 @@
 //! What reads the items of an input, as its bytes come.
 ghost use Rattle.std.specs.Prelude.{◌≡◌, ◌<◌, ◌≤◌, ◌↔◌, ℕ, List, [], length, IfErr, IfOk, IsOk};
-ghost use Rattle.dap_items.specs.Items.{Items};
+ghost use Rattle.std.specs.Prelude.{IsTrue};
+ghost use Rattle.dap_items.specs.Items.{HasItem, Items};
 ghost use Rattle.dap_frame.specs.declared.limits.FrameLimits.{FrameLimits};
 ghost use Rattle.dap_recording.specs.declared.record_fault.RecordCause.{RecordCause};
 
@@ -42,6 +43,12 @@ pub trait ItemReader: Drop {
             → GivesItem (items limits) (stands limits) bytes piece.now result self.new }
         ensures used { IfOk result (λ fed. fed.used ≤ length piece.now) }
         ensures progress { IfOk result (λ fed. 0 < length piece.now → 0 < fed.used) };
+
+    /// Whether the piece begins with a whole item. For which bytes the reader stands is of no
+    /// matter. Takes no memory.
+    fn has_item(&self, piece: &[u8]) -> bool
+        ensures { (limits : FrameLimits) (bytes : List ℕ) → stands limits self.now bytes
+            → IsTrue result → HasItem (items limits) piece.now };
 
     /// Keeps the memory of an item that is done with, for the items to come. Nothing else is
     /// changed, and no memory is taken.
@@ -85,6 +92,13 @@ impl ItemReader for Framer {
         }
     }
 
+    fn has_item(&self, piece: &[u8]) -> bool {
+        match Framer::frame_in(self, piece) {
+            Some(_) => true,
+            None => false,
+        }
+    }
+
     fn recycle(&mut self, item: Content) {
         Framer::recycle(self, item);
     }
@@ -120,6 +134,10 @@ impl ItemReader for RecordReader {
             }),
             Err(fault) => Err(fault.cause),
         }
+    }
+
+    fn has_item(&self, piece: &[u8]) -> bool {
+        RecordReader::has_record(self, piece)
     }
 
     fn recycle(&mut self, item: Record) {

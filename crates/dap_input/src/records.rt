@@ -1,5 +1,7 @@
 //! The records of an input one by one, as its bytes come.
-ghost use Rattle.std.specs.Prelude.{◌≡◌, ◌+◌, ◌-◌, ◌<◌, ◌≤◌, ◌^◌, [], IfOk, true, false};
+ghost use Rattle.std.specs.Prelude.{◌≡◌, ◌+◌, ◌-◌, ◌<◌, ◌≤◌, ◌^◌, [], IfOk, IsTrue, true};
+ghost use Rattle.std.specs.Prelude.{false};
+ghost use Rattle.dap_items.specs.Items.{HasItem};
 ghost use Rattle.dap_frame.specs.declared.limits.FrameLimits.{FrameLimits};
 
 use crate::item_reader::ItemReader;
@@ -74,6 +76,15 @@ impl<I: ItemReader> Records<I> {
                 return Ok(fed.item);
             }
         }
+    }
+
+    /// Whether the whole next record is among the bytes that have come, so that
+    /// [`next`](Records::next) asks for none. Takes no memory.
+    pub fn has_next(&self) -> bool
+        ensures { (limits : FrameLimits) → StandsBetween (I.stands limits) self.now
+            → IsTrue result → HasItem (I.items limits) self.now.pieces.unread }
+    {
+        self.reader.has_item(self.pieces.unread())
     }
 
     /// Keeps the memory of a record that is done with, for the records to come. Nothing else is

@@ -9,3 +9,4 @@ pub mod StreamAnswers
 pub mod StreamLoop
 pub mod StreamWriting
 pub mod WholeInput
+pub mod PendingTexts

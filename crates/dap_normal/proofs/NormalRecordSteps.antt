@@ -1,6 +1,6 @@
 -- What the next record of an input may answer.
 use Rattle.std.proofs.Common.{◌≡◌, ℕ, ℤ, List, [], ◌∷◌, ◌++◌, Option, Some, None, Result}
-use Rattle.std.proofs.Common.{Ok, Err, refl, ◌∙◌, subst}
+use Rattle.std.proofs.Common.{Ok, Err, refl, ◌∙◌, ap, subst, inl, inr, length, arith, append_assoc}
 use Rattle.dap_device.specs.declared.device.Source.{Ghosts as Source}
 use Rattle.dap_device.specs.Pieces.{HasComeSoFar}
 use Rattle.dap_device.specs.declared.reading.Stop.TheVariants.{End}
@@ -8,10 +8,12 @@ use Rattle.dap_message.specs.Message.{Sent}
 use Rattle.dap_recording.specs.declared.record.Record.{Record as WholeRecord}
 use Rattle.dap_recording.specs.RecordReading.{RecordReading}
 use Rattle.dap_recording.specs.declared.record_fault.RecordCause.TheVariants.{Cut}
+use Rattle.dap_items.proofs.Ends.{item_not_open}
+use Rattle.dap_recording.specs.Recording.{IsOpenRecord}
 use Rattle.dap_recording.proofs.Records.{readable}
 use Rattle.dap_input.specs.InputSteps.{Says}
 use Rattle.dap_input.specs.ItemReading.{StandsForRecord, record_items}
-use Rattle.dap_input.specs.RecordSteps.{IsAtStart, ReadsNext}
+use Rattle.dap_input.specs.RecordSteps.{IsAtStart, IsNeeded, ReadsNext}
 use Rattle.dap_input.specs.Refusals.{RefusesHeld}
 use Rattle.dap_input.specs.declared.limits.Limits.{Limits}
 use Rattle.dap_input.specs.declared.records.Records.{Records}
@@ -24,7 +26,7 @@ use Rattle.dap_normal.specs.declared.judging.Judge.{Judge}
 use Rattle.dap_normal.specs.declared.normal_records.NormalRecords.{NormalRecords}
 use Rattle.dap_normal.specs.Accepting.{Objects, IsNext, accepting}
 use Rattle.dap_normal.specs.JudgingSteps.{JudgesRecord, StandsFor, held_of, judge_limits}
-use Rattle.dap_normal.specs.NormalSteps.{HasEnded, HasGone, HasStoppedAt, StandsBefore}
+use Rattle.dap_normal.specs.NormalSteps.{HasEnded, HasGone, HasStoppedAt, IsAtHand, StandsBefore}
 use Rattle.dap_normal.proofs.AcceptingFacts.{accepted_facts, value_laws}
 
 -- A reader of records gives the records that are judged.
@@ -112,6 +114,28 @@ module _ {T R : Type 0} {numbers : T → List ℤ} {table_limit : T → ℕ} (so
     says = told.0;
     cut = told.1;
   }
+
+  -- where the record is at hand, nothing has come
+  pub nothing_more : (answer : Result (Option WholeRecord) Refused) (read : Reads answer)
+      → IsAtHand limits old → read.more ≡ []
+  nothing_more answer read has = none_of read.needed
+    where
+      none_of : IsNeeded (record_items limits.frame) old.records.pieces.unread read.more
+          → read.more ≡ []
+      none_of (inl none) = none
+      none_of (inr some) =
+          absurd (item_not_open (readable limits.frame).grammar has.item (has.more ++ some.0)
+          (held_of has.value) has.is_item
+          (subst (λ bytes. IsOpenRecord limits.frame bytes)
+          (ap (λ bytes. bytes ++ some.0) has.bytes_are
+          ∙ append_assoc has.item has.more some.0) some.5))
+
+  pub nothing_given : (answer : Result (Option WholeRecord) Refused) → Reads answer
+      → IsAtHand limits old → source.given after ≡ source.given before
+  nothing_given answer read has =
+      let none = nothing_more answer read has in
+      let counted = read.came.counted in
+      omega (arith, counted, ap length none)
 
   -- ---- no record has come
 

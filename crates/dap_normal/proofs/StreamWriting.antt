@@ -1,27 +1,32 @@
 -- What `normalise` answers, and what it has then written.
-use Rattle.std.proofs.Common.{◌≡◌, ◌≢◌, inr, ℕ, ℤ, List, [], ◌∷◌, ◌++◌, Some, None, Result, Ok}
-use Rattle.std.proofs.Common.{Err, refl, sym, ◌∙◌, ap, subst, arith}
-use Rattle.std.proofs.lemmas.List.{length_push}
+use Rattle.std.proofs.Common.{◌≡◌, inl, inr, ℕ, ℤ, List, [], ◌++◌, Option, Some, Result, Ok}
+use Rattle.std.proofs.Common.{Err, refl, sym, subst}
 use Rattle.dap_device.specs.declared.device.Source.{Ghosts as Source}
 use Rattle.dap_device.specs.declared.device.Sink.{Ghosts as Sink}
+use Rattle.dap_device.specs.Pieces.{HasComeSoFar}
 use Rattle.dap_device.specs.Written.{AllWritten, FrontWritten}
+use Rattle.dap_device.specs.declared.reading.Stop.{Stop}
 use Rattle.dap_device.specs.declared.reading.Stop.TheVariants.{End}
 use Rattle.dap_device.proofs.Sending.{all_then_all}
 use Rattle.dap_input.specs.Limits.{AreSound}
+use Rattle.dap_input.specs.ReadTo.{IsReadTo}
+use Rattle.dap_input.specs.Streaming.{AnswersRefusal}
 use Rattle.dap_input.specs.declared.limits.Limits.{Limits}
 use Rattle.dap_input.specs.declared.refused.Refused.{Refused}
 use Rattle.dap_input.specs.declared.refused.Refused.TheVariants.{Memory}
+use Rattle.dap_input.proofs.Coming.{came_on}
 use Rattle.dap_input.proofs.Runs.{run_none}
 use Rattle.dap_input.proofs.StreamEnds as ends
 use Rattle.dap_normal.specs.declared.normal_records.NormalRecords.{NormalRecords}
 use Rattle.dap_normal.specs.Accepting.{accepting, text}
-use Rattle.dap_normal.specs.NormalSteps.{HasEnded, HasGone, HasStoppedAt}
+use Rattle.dap_normal.specs.NormalSteps.{HasEnded, HasStoppedAt, IsAtHand}
 use Rattle.dap_normal.specs.Normalising.{IsCanonical, Normalises}
-use Rattle.dap_normal.specs.Streaming.{Flushes, HasFailedToWrite, HasGivenUp, Streams}
+use Rattle.dap_normal.specs.Streaming.{Answers, Ends, Flushes, HasFailedToWrite, HasGivenUp}
+use Rattle.dap_normal.specs.Streaming.{Streams}
 use Rattle.dap_normal.proofs.AcceptingFacts.{accepted_facts}
-use Rattle.dap_normal.proofs.JudgedRecords.{text_push}
 use Rattle.dap_normal.proofs.NormalFormLaws.{canonical}
 use Rattle.dap_normal.proofs.NormalTexts.{normal}
+use Rattle.dap_normal.proofs.PendingTexts.{Waiting, failed_inside, stops_before}
 use Rattle.dap_normal.proofs.StreamLoop.{Going, all_came, come_to, refused_to}
 
 module _ {R W : Type 0} (source : Source R) (sink : Sink W) (limits : Limits) (start : R)
@@ -46,47 +51,6 @@ module _ {R W : Type 0} (source : Source R) (sink : Sink W) (limits : Limits) (s
       (writer : W)
       (written : AllWritten sink before writer (text was.normal))
       (new : NormalRecords T) (after : R) where
-    -- ---- one more record
-
-    module _ (longer : List ℕ)
-        (gone : HasGone numbers table_limit source limits was.bytes was.messages
-        was.normal records new reader after [] longer) where
-      next_text : text (was.normal ++ gone.named ∷ []) ≡ text was.normal ++ longer
-      next_text =
-          text_push was.normal gone.named ∙ ap (λ t. text was.normal ++ t) (sym gone.appended)
-
-      pub written_on : (end : W) → AllWritten sink writer end longer
-          → AllWritten sink before end (text (was.normal ++ gone.named ∷ []))
-      written_on end all =
-          subst (AllWritten sink before end) (sym next_text)
-          (all_then_all sink before writer end (text was.normal) longer written all)
-
-      pub failed_to_write : (end : W) → FrontWritten sink writer end longer
-          → HasFailedToWrite source sink limits start after before end
-      failed_to_write =
-          ends.failed_to_write (accepting limits) (Normalises limits) (IsCanonical limits) source
-          sink start before after writer None records.records.number (text was.normal)
-          (come_to source limits start reader records was after gone.more None gone.came
-          gone.read_to) written longer (inr (
-            record {
-              values = was.messages ++ gone.message ∷ [];
-              front = gone.stands.front;
-              rest = new.records.pieces.unread;
-              split = gone.stands.came;
-              accepted = gone.stands.accepted;
-              is_number =
-                  (let is = was.stands.number_is in omega
-                  (arith, is, length_push was.messages gone.message));
-            },
-            record {
-              messages = was.messages ++ gone.message ∷ [];
-              accepts = gone.stands.accepted;
-              normal = was.normal ++ gone.named ∷ [];
-              is_normal = gone.stands.stands.is_normal;
-              text_is = sym next_text;
-            },
-          ))
-
     -- ---- no more
 
     abbrev pub Answer : W → Result (Unit {0}) Refused → Type 0
@@ -114,22 +78,62 @@ module _ {R W : Type 0} (source : Source R) (sink : Sink W) (limits : Limits) (s
               });
         })
 
-    module _ (because : Refused)
-        (stopped : HasStoppedAt numbers table_limit source limits was.bytes
-        was.messages was.normal records new reader after because) where
-      pub given_up_at : HasGivenUp source sink limits start after before writer
-      given_up_at =
-          ends.given_up_at (accepting limits) (Normalises limits) (IsCanonical limits) source sink
-          start before after writer stopped.stop records.records.number (text was.normal)
-          (refused_to source limits start reader records was after new because stopped) written
+module _ {R W : Type 0} (source : Source R) (sink : Sink W) (limits : Limits) (start : R)
+    (before : W) where
+  module _ {T : Type 0} {numbers : T → List ℤ} {table_limit : T
+      → ℕ} (reader : R) (records : NormalRecords T)
+      (was : Going numbers table_limit source limits start reader records)
+      (writer : W) (sent waiting : List ℕ)
+      (written : AllWritten sink before writer sent)
+      (waits : Waiting limits records was.bytes (text was.normal) sent waiting)
+      (new : NormalRecords T) (after : R)
+      (same_given : IsAtHand limits records → source.given after ≡ source.given reader) where
+    all_written : (mid : W) → AllWritten sink writer mid waiting
+        → AllWritten sink before mid (text was.normal)
+    all_written mid all =
+        subst (AllWritten sink before mid) (sym waits.text_is)
+        (all_then_all sink before writer mid sent waiting written all)
 
-    pub has_refused : (because : Refused) → because ≢ Memory
+    failed : (more : List ℕ) (stop : Option Stop) → HasComeSoFar source reader after more stop
+        → IsReadTo (accepting limits) (was.bytes ++ more) records.records.number → (end : W)
+        → FrontWritten sink writer end waiting
+        → HasFailedToWrite source sink limits start after before end
+    failed more stop came read_to end front =
+        failed_inside source sink limits start after before writer end (was.bytes ++ more) sent
+        waiting stop (came_on source start reader after was.bytes more stop was.came came) written
+        front (stops_before source limits start reader records was sent waiting waits after more
+        stop came same_given read_to front.count front.within)
+
+    pub all_streamed : AreSound limits → (text_before longer : List ℕ)
+        → HasEnded numbers table_limit source limits was.bytes was.messages
+        was.normal records new reader after text_before longer
+        → (end : W) (answer : Result (Unit {0}) Refused)
+        → Ends sink waiting writer end (Ok tt) answer
+        → Streams source sink limits start after before end answer
+    all_streamed sound text_before longer end_is end answer (inl (mid, all, given)) =
+        has_streamed source sink limits start before reader records was mid (all_written mid all)
+        new after sound text_before longer end_is end answer given
+    all_streamed sound text_before longer end_is end answer (inr (front, is)) =
+        subst (Streams source sink limits start after before end) (sym is)
+        (failed end_is.more (Some End) end_is.came end_is.read_to end front)
+
+    refused_at : (mid end : W) (because : Refused) (answer : Result (Unit {0}) Refused)
+        → Answers sink mid end (Err because) answer → AnswersRefusal sink mid end because answer
+    refused_at mid end Memory answer given = given
+    refused_at mid end because answer given = given
+
+    pub all_refused : (because : Refused)
         → HasStoppedAt numbers table_limit source limits was.bytes was.messages
         was.normal records new reader after because
         → (end : W) (answer : Result (Unit {0}) Refused)
-        → Flushes sink writer end (Err because) answer → Answer end answer
-    has_refused because other stopped =
-        ends.once_flushed (accepting limits) (Normalises limits) (IsCanonical limits) source sink
-        start before after writer stopped.stop records.records.number (text was.normal)
-        (refused_to source limits start reader records was after new because stopped) written
-        because other (stopped.says, stopped.cut)
+        → Ends sink waiting writer end (Err because) answer
+        → Streams source sink limits start after before end answer
+    all_refused because stopped end answer (inl (mid, all, given)) =
+        ends.refused (accepting limits) (Normalises limits) (IsCanonical limits) source sink start
+        before after mid stopped.stop records.records.number (text was.normal)
+        (refused_to source limits start reader records was after new because stopped)
+        (all_written mid all) because (stopped.says, stopped.cut) end answer
+        (refused_at mid end because answer given)
+    all_refused because stopped end answer (inr (front, is)) =
+        subst (Streams source sink limits start after before end) (sym is)
+        (failed stopped.more stopped.stop stopped.came stopped.read_to end front)

@@ -5,6 +5,7 @@ use Rattle.dap_device.specs.declared.device.Source.{Ghosts as Source}
 use Rattle.dap_device.specs.Pieces.{HasComeSoFar}
 use Rattle.dap_device.specs.declared.reading.Stop.{Stop}
 use Rattle.dap_device.specs.declared.reading.Stop.TheVariants.{End}
+use Rattle.dap_items.specs.Items.{HasItem}
 use Rattle.dap_message.specs.Message.{Sent}
 use Rattle.dap_recording.specs.declared.record_fault.RecordCause.TheVariants.{Cut}
 use Rattle.dap_input.specs.declared.limits.Limits.{Limits}
@@ -14,7 +15,7 @@ use Rattle.dap_input.specs.declared.refused.Refused.TheVariants.{Record}
 use Rattle.dap_normal.specs.Accepting.{IsAccepted, accepting}
 use Rattle.dap_normal.specs.JudgingSteps.{StandsFor, judge_limits, record_of}
 use Rattle.dap_input.specs.InputSteps.{Says}
-use Rattle.dap_input.specs.ItemReading.{StandsForRecord}
+use Rattle.dap_input.specs.ItemReading.{StandsForRecord, record_items}
 use Rattle.dap_input.specs.ReadTo.{IsReadTo}
 use Rattle.dap_input.specs.RecordSteps.{StandsBetween}
 
@@ -35,6 +36,10 @@ pub record StandsBefore {T : Type 0} (numbers : T → List ℤ) (table_limit : T
   pub read_to : IsReadTo (accepting limits) bytes (length messages)
   pub stands : StandsFor numbers table_limit records.judge messages normal
   pub judge_limits_are : judge_limits records.judge ≡ limits
+
+-- The whole next record is among the bytes that have come.
+abbrev pub IsAtHand : {T : Type 0} → Limits → NormalRecords T → Type 0
+IsAtHand limits records = HasItem (record_items limits.frame) records.records.pieces.unread
 
 -- how many bytes are left at most behind what is accepted
 abbrev pub remaining : {T : Type 0} → NormalRecords T → ℕ

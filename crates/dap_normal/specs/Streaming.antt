@@ -1,12 +1,14 @@
 -- What `normalise` and `check` answer, and how far they have then read and written: what every
 -- engine does that goes record by record. The text is that of the normal form. Source: own.
-use Rattle.std.specs.Prelude.{ℕ, List, Option, Result}
+use Rattle.std.specs.Prelude.{◌≡◌, ◌⊎◌, ℕ, List, Option, Result, Err}
 use Rattle.dap_device.specs.declared.device.Source.{Ghosts as Source}
 use Rattle.dap_device.specs.declared.device.Sink.{Ghosts as Sink}
+use Rattle.dap_device.specs.Written.{AllWritten, FrontWritten}
 use Rattle.dap_device.specs.declared.reading.Stop.{Stop}
 use Rattle.dap_input.specs.Streaming as engine
 use Rattle.dap_input.specs.declared.limits.Limits.{Limits}
 use Rattle.dap_input.specs.declared.refused.Refused.{Refused}
+use Rattle.dap_input.specs.declared.refused.Refused.TheVariants.{Memory, WriteFault}
 use Rattle.dap_normal.specs.Accepting.{accepting}
 use Rattle.dap_normal.specs.Normalising.{IsCanonical, Normalises}
 
@@ -31,6 +33,20 @@ module _ {R W : Type 0} (source : Source R) (sink : Sink W) (limits : Limits) wh
   -- The normal text of the records goes out as they are judged.
   abbrev pub Streams : {U : Type 0} → R → R → W → W → Result U Refused → Type 0
   Streams = engine.Streams (accepting limits) (Normalises limits) (IsCanonical limits) source sink
+
+-- The answer is given: where memory was refused, at once, and else once the writer is flushed.
+abbrev pub Answers : {W : Type 0} → Sink W → W → W → Result (Unit {0}) Refused
+    → Result (Unit {0}) Refused → Type 0
+Answers sink before after (Err Memory) given = (given ≡ Err Memory) × (after ≡ before)
+Answers sink before after answer given = engine.Flushes sink before after answer given
+
+-- What is left of a text goes out before the answer is given; or the writer fails, and that is
+-- answered.
+abbrev pub Ends : {W : Type 0} → Sink W → List ℕ → W → W → Result (Unit {0}) Refused
+    → Result (Unit {0}) Refused → Type 0
+Ends {W} sink text before after answer given =
+    ((mid : W) × AllWritten sink before mid text × Answers sink mid after answer given)
+    ⊎ (FrontWritten sink before after text × (given ≡ Err WriteFault))
 
 abbrev pub Flushes : {W U : Type 0} → Sink W → W → W → Result U Refused → Result U Refused → Type 0
 Flushes = engine.Flushes

@@ -1,6 +1,6 @@
 //! Judges the records of a recording, each behind those before it. `check` and `normalise` both
 //! judge so.
-ghost use Rattle.std.specs.Prelude.{◌≡◌, ◌≤◌, List, []};
+ghost use Rattle.std.specs.Prelude.{◌≡◌, ◌≤◌, List, [], OnErr};
 ghost use Rattle.dap_message.specs.Message.{Sent};
 ghost use Rattle.dap_session.specs.Rules.{open_requests};
 ghost use Rattle.dap_input.specs.Limits.{AreSound};
@@ -64,6 +64,7 @@ impl<T: NameTable + Drop> Judge<T> {
             → JudgesRecord T.numbers T.limit messages normal (held_of whole.now) number self.old
             self.new out.old.items out.new.items result }
         ensures limits { judge_limits self.new ≡ judge_limits self.old }
+        ensures kept { OnErr result (out.new.items ≡ out.old.items) }
     {
         let message = read_message(
             alloc,

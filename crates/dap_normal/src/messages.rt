@@ -1,5 +1,5 @@
 //! Reads the message of a record, and writes the record of a message.
-ghost use Rattle.std.specs.Prelude.{◌≤◌, List, IfOk, IfErr};
+ghost use Rattle.std.specs.Prelude.{◌≡◌, ◌≤◌, List, IfOk, IfErr, OnErr};
 ghost use Rattle.dap_message.specs.Message.{Sent, sent};
 ghost use Rattle.dap_normal.specs.Accepting.{HoldsNoMessage, IsMessage, Objects};
 ghost use Rattle.dap_normal.specs.JudgingSteps.{Writes};
@@ -54,7 +54,9 @@ pub fn append_record(
 ) -> Result<u64, Refused>
     requires sound { AreSound limits }
     requires short { written ≤ limits.input }
-    ensures { Writes limits (sent message.now) number written out.old.items out.new.items result }
+    ensures writes { Writes limits (sent message.now) number written out.old.items out.new.items
+        result }
+    ensures kept { OnErr result (out.new.items ≡ out.old.items) }
 {
     content.clear();
     let Ok(()) = message.write_content_to(alloc, content) else {
@@ -68,6 +70,7 @@ pub fn append_record(
     }
     let after = written + (out.len() - before) as u64;
     if limits.input < after {
+        out.truncate(before);
         return Err(Refused::Grew(number));
     }
     Ok(after)

@@ -1,5 +1,6 @@
 //! The records of an input one by one, each as the record of its normal form.
-ghost use Rattle.std.specs.Prelude.{◌≡◌, ◌+◌, ◌-◌, ◌<◌, ◌^◌, ℕ, List, [], IfErr, IfOk};
+ghost use Rattle.std.specs.Prelude.{◌≡◌, ◌+◌, ◌-◌, ◌<◌, ◌^◌, ℕ, List, [], IfErr, IfOk, IsTrue};
+ghost use Rattle.std.specs.Prelude.{OnErr};
 ghost use Rattle.dap_message.specs.Message.{Sent};
 ghost use Rattle.dap_rename.specs.Messages.{equal_places};
 ghost use Rattle.dap_rename.specs.Names.{HaveEqualCounts, StandFor};
@@ -27,7 +28,7 @@ pub struct NormalRecords<T> {
 
 impl<T: NameTable + Drop> NormalRecords<T> {
     ghost use Rattle.dap_normal.specs.JudgingSteps.{StandsFor as JudgeStandsFor};
-    ghost use Rattle.dap_normal.specs.NormalSteps.{HasNext, StandsBefore};
+    ghost use Rattle.dap_normal.specs.NormalSteps.{HasNext, IsAtHand, StandsBefore};
 
     /// The records of an input, before the first.
     pub fn new(
@@ -63,6 +64,16 @@ impl<T: NameTable + Drop> NormalRecords<T> {
         self.judge.open(side)
     }
 
+    /// Whether the whole next record is among the bytes that have come, so that
+    /// [`next`](NormalRecords::next) reads nothing. Takes no memory.
+    pub fn has_next(&self) -> bool
+        ensures { (limits : Limits) (bytes : List ℕ) (messages normal : List Sent)
+            → StandsBefore T.numbers T.limit limits bytes self.now messages normal
+            → IsTrue result → IsAtHand limits self.now }
+    {
+        self.records.has_next()
+    }
+
     /// Reads and judges the next record, and appends the record of its normal form to `text`. None
     /// is left where the input has ended and all of it is accepted.
     pub fn next<R: Source>(
@@ -75,10 +86,16 @@ impl<T: NameTable + Drop> NormalRecords<T> {
         requires given { R.given
             reader.old + (self.old.records.pieces.limit - self.old.records.pieces.taken) < 2 ^ 63 }
         requires failures { R.failures reader.old < 2 ^ 63 }
-        ensures { (limits : Limits) (bytes : List ℕ) (messages normal : List Sent)
+        ensures next { (limits : Limits) (bytes : List ℕ) (messages normal : List Sent)
             → StandsBefore T.numbers T.limit limits bytes self.old messages normal
             → HasNext T.numbers T.limit R.Source limits bytes messages normal
             self.old self.new reader.old reader.new text.old.items text.new.items result }
+        ensures kept { OnErr result (text.new.items ≡ text.old.items) }
+
+        // Where the record is at hand, nothing is read.
+        ensures at_hand { (limits : Limits) (bytes : List ℕ) (messages normal : List Sent)
+            → StandsBefore T.numbers T.limit limits bytes self.old messages normal
+            → IsAtHand limits self.old → R.given reader.new ≡ R.given reader.old }
     {
         let number = self.records.number();
         let Some(whole) = self.records.next(reader)? else {

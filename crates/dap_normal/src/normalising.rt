@@ -4,7 +4,7 @@ ghost use Rattle.dap_input.specs.Limits.{AreSound};
 ghost use Rattle.dap_normal.specs.NameTables.{AreReady};
 ghost use Rattle.dap_normal.specs.NormalSteps.{StandsBefore};
 ghost use Rattle.dap_normal.specs.Normalising.{IsCanonical, RefusesBytes};
-ghost use Rattle.dap_normal.specs.Streaming.{Flushes, Streams};
+ghost use Rattle.dap_normal.specs.Streaming.{Ends, Flushes, Streams};
 
 use crate::default_tables::index_tables;
 use crate::normal_records::NormalRecords;
@@ -13,6 +13,9 @@ use dap_device::{MemorySource, Sink, Source, write_all};
 use dap_input::{Limits, Refused};
 use dap_rename::{NameTable, Tables};
 use std::alloc::Global;
+
+/// How long a text grows before it is written, though the next record is at hand.
+const PIECE: usize = 65_536;
 
 /// The normal text of a recording: its messages in order, each as its canonical content, in which
 /// ids count from 1.
@@ -53,11 +56,30 @@ fn flushed<W: Sink>(writer: &mut W, answer: Result<(), Refused>) -> Result<(), R
     }
 }
 
+/// Writes the text that is left, and gives the answer: where memory was refused, at once, and else
+/// once all that was written is flushed.
+fn ended<W: Sink>(
+    writer: &mut W,
+    text: &[u8],
+    answer: Result<(), Refused>,
+) -> Result<(), Refused>
+    requires { W.failures writer.old < 2 ^ 62 }
+    ensures { Ends W.Sink text.now writer.old writer.new answer result }
+{
+    if write_all(writer, text).is_err() {
+        return Err(Refused::WriteFault);
+    }
+    match answer {
+        Err(Refused::Memory) => Err(Refused::Memory),
+        _ => flushed(writer, answer),
+    }
+}
+
 /// Reads a recording and writes its normal text, as [`normalise_bytes`] answers it, record by
 /// record.
 ///
-/// One record is read, judged and written before the next one: at most 65,536 bytes are read past
-/// it, and at most one byte past `limits.input`. Where a record is refused, the normal text of
+/// At most 65,536 bytes are read past a record before it is written, and at most one byte past
+/// `limits.input`: the texts of records that came together go out together. Where a record is refused, the normal text of
 /// those before it has been written. What was written is flushed at the end, also before a refusal
 /// is answered. Records are counted from 1 in the order of the input.
 ///
@@ -120,7 +142,8 @@ pub fn normalise_with<R: Source, W: Sink, T: NameTable + Drop>(
     write_records(alloc, &mut records, reader, writer, limits)
 }
 
-/// Writes the normal text of each record of an input, of which nothing has been read.
+/// Writes the normal text of each record of an input, of which nothing has been read. The texts of
+/// records that came together go out together, before more is read.
 fn write_records<R: Source, W: Sink, T: NameTable + Drop>(
     alloc: Global,
     records: &mut NormalRecords<T>,
@@ -138,19 +161,18 @@ fn write_records<R: Source, W: Sink, T: NameTable + Drop>(
     ensures taken { R.given reader.new ≤ R.given reader.old + limits.input + 1 }
 {
     let mut text = Vec::new(alloc);
-    loop {
-        text.clear();
+    'records: loop {
         match records.next(alloc, reader, &mut text) {
             Ok(true) => {
-                if write_all(writer, text.as_slice()).is_err() {
-                    return Err(Refused::WriteFault);
+                if text.len() >= PIECE || !records.has_next() {
+                    if write_all(writer, text.as_slice()).is_err() {
+                        return Err(Refused::WriteFault);
+                    }
+                    text.clear();
                 }
             }
-            Ok(false) => return flushed(writer, Ok(())),
-            Err(refused) => match refused {
-                Refused::Memory => return Err(Refused::Memory),
-                _ => return flushed(writer, Err(refused)),
-            },
+            Ok(false) => return ended(writer, text.as_slice(), Ok(())),
+            Err(refused) => return ended(writer, text.as_slice(), Err(refused)),
         }
     }
 }

@@ -1,7 +1,7 @@
 -- What a reader of records stands for once it has read on.
 use Rattle.std.proofs.Common.{arith, ◌≡◌, ◌≢◌, ℕ, suc, ◌+◌, ◌<◌, ⊎_elim, List, [], ◌∷◌, ◌++◌}
 use Rattle.std.proofs.Common.{length, take, drop, get_or, Ok, Err, refl, sym, ap, ◌∙◌, subst}
-use Rattle.std.proofs.lemmas.List.{append_assoc, append-nil, take_more}
+use Rattle.std.proofs.lemmas.List.{append_assoc, append-nil, take_more, take-append-drop}
 use Rattle.std.proofs.Math.Seq.{drop-cons}
 use Rattle.dap_items.specs.Then.{in_first, in_second, first_open, second_open}
 use Rattle.dap_frame.specs.declared.limits.FrameLimits.{FrameLimits}
@@ -17,10 +17,10 @@ use Rattle.dap_recording.specs.declared.record_fault.RecordFault.{RecordFault}
 use Rattle.dap_recording.specs.declared.record_state.RecordState.{RecordState}
 use Rattle.dap_recording.specs.declared.record_state.RecordState.TheVariants as states
 use Rattle.dap_recording.specs.Marker.{marker, IsNoMarker}
-use Rattle.dap_recording.specs.Recording.{IsRecord, ShowsFault, IsOpenRecord}
+use Rattle.dap_recording.specs.Recording.{HasRecord, IsRecord, ShowsFault, IsOpenRecord}
 use Rattle.dap_recording.specs.RecordReading.{RecordReading, StandsFor, IsKeptOfRecord, HasFailedAt}
 use Rattle.dap_recording.specs.RecordReading.{GivesRecordFault, record_limits}
-use Rattle.dap_recording.proofs.Fronts.{first_is, split_at}
+use Rattle.dap_recording.proofs.Fronts.{first_is, split_at, taken_more}
 use Rattle.dap_recording.proofs.FramerSteps.{is_memory}
 use Rattle.dap_recording.proofs.Markers.{a_marker}
 use Rattle.dap_recording.proofs.Records.{ends_line}
@@ -105,6 +105,29 @@ module _ (limits : FrameLimits) (bytes piece frame content : List ℕ) (side : S
       subst (λ xs. IsRecord limits xs side content) (sym line)
       (ends_line limits side frame content (get_or piece from 0) (Ok (side, content)) is
       (lf, refl))
+
+first_taken : (piece : List ℕ) → 0 < length piece → take 1 piece ≡ get_or piece 0 0 ∷ []
+first_taken [] some = absurd (omega arith)
+first_taken (x ∷ xs) some = refl
+
+-- a piece that begins with a marker, a frame and LF
+pub record_in : (limits : FrameLimits) (piece content : List ℕ) (side : Side) (used : ℕ)
+    → get_or piece 0 0 ≡ marker side → IsFrame limits (take used (drop 1 piece)) content
+    → used + 1 < length piece → get_or piece (used + 1) 0 ≡ 10 → HasRecord limits piece
+record_in limits piece content side used is frame inside lf =
+    let first : take 1 piece ≡ marker side ∷ [] =
+    first_taken piece (omega (arith, inside)) ∙ ap (λ b. b ∷ []) is in
+    let front : take (used + 1) piece ≡ marker side ∷ take used (drop 1 piece) =
+    ap (λ n. take n piece) (let same : used + 1 ≡ 1 + used = omega arith in same)
+    ∙ taken_more [] piece (marker side ∷ []) 1 used first in
+    record {
+      item = take (used + 1 + 1) piece;
+      more = drop (used + 1 + 1) piece;
+      value = (side, content);
+      bytes_are = sym (take-append-drop (used + 1 + 1) piece);
+      is_item = good_line_end limits [] piece (take used (drop 1 piece)) content side (used + 1)
+          inside front frame lf;
+    }
 
 module _ (limits : FrameLimits) (number : ℕ) (bytes piece rest : List ℕ) (side : Side) (from : ℕ)
     (fault : FrameFault) (told : RecordFault) (old new : RecordReading) (framer : Reading)

@@ -1,12 +1,13 @@
 //! Records read from the pieces of a recording.
 ghost use Rattle.std.specs.Prelude.{◌≡◌, ◌≢◌, ℕ, ◌<◌, ◌≤◌, ◌↔◌, List, [], ◌∷◌, ◌++◌, length, take};
-ghost use Rattle.std.specs.Prelude.{Err, IfErr, IfOk, IsOk};
+ghost use Rattle.std.specs.Prelude.{Err, IfErr, IfOk, IsOk, IsTrue};
 ghost use Rattle.dap_frame.specs.Limits.{IsSound};
 ghost use Rattle.dap_frame.specs.Frame.{IsFrame};
 ghost use Rattle.dap_frame.specs.Reading.{Stands};
 ghost use Rattle.dap_recording.specs.Marker.{marker};
 ghost use Rattle.dap_recording.specs.RecordReading.{StandsFor, HasFailedAt, GivesRecord};
 ghost use Rattle.dap_recording.specs.RecordReading.{record_limits};
+ghost use Rattle.dap_recording.specs.Recording.{HasRecord};
 
 use crate::fed_record::FedRecord;
 use crate::marker::side_of;
@@ -91,6 +92,23 @@ impl RecordReader {
                 self.read_frame(side, piece, 0)
             }
             RecordState::Marker => self.read_marker(piece),
+        }
+    }
+
+    /// Whether the piece begins with a whole record. What the reader stands for is of no matter.
+    /// Takes no memory.
+    pub fn has_record(&self, piece: &[u8]) -> bool
+        ensures { IsTrue result → HasRecord (record_limits self.now) piece.now }
+    {
+        if piece.is_empty() {
+            return false;
+        }
+        let Some(_) = side_of(piece[0]) else {
+            return false;
+        };
+        match self.framer.frame_in(&piece[1..]) {
+            Some(used) => used + 1 < piece.len() && piece[used + 1] == b'\n',
+            None => false,
         }
     }
 

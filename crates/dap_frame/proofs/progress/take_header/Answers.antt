@@ -1,46 +1,62 @@
-use Rattle.std.proofs.Common.{◌≡◌, ◌++◌, length, take, arith, ap, subst}
-use Rattle.std.proofs.lemmas.List.{take_all}
+use Rattle.std.proofs.Common.{◌≡◌, ◌+◌, ℕ, List, [], sym, subst, arith}
+use Rattle.std.proofs.lemmas.List.{nil_from_length}
+use Rattle.dap_frame.specs.declared.header_scan.HeaderScan.{HeaderScan}
+use Rattle.dap_frame.specs.declared.limits.FrameLimits.{FrameLimits}
 use Rattle.dap_frame.specs.HeaderScan.{IsScanOf}
-use Rattle.dap_frame.proofs.HeaderSteps.{gives_more, has_ended, header_fault, header_too_long}
+use Rattle.dap_frame.specs.Progress.{GoesOn, HasEnded, ShowsInHeader}
+use Rattle.dap_frame.proofs.UsualNames.{goes_on, has_ended, is_behind, name_text}
+use Rattle.dap_frame.proofs.UsualNames.{shows_fault}
 use Rattle.dap_frame.proofs.progress.take_header.Goals as goal
 
-pub step-requires : goal.step-requires
-step-requires c =
-    let inv = c.loop-i.invariant c.requires.scan.0 c.requires.scan.1 c.requires.scan.2 in
-    let high = c.requires.sound.header_high in
-    omega (arith, inv.0.count, inv.1, high)
+pub scan_header-requires-clause-scan : goal.scan_header-requires-clause-scan
+scan_header-requires-clause-scan c =
+    let low = c.requires.sound.header_low in
+    (name_text, c.behind_name.ensures c.args.limits, omega (arith, low))
 
-pub loop-i-preserved : goal.loop-i-preserved
-loop-i-preserved c = λ rest scanned short.
-    let inv = c.loop-i.invariant rest scanned short in
-    let next = gives_more c.args.limits rest c.args.piece.now c.loop-i.i c.loop-i.scan (omega arith)
-    inv.0 c.in-Unfinished.next c.in-Unfinished.ensures in
-    (next, omega (arith, next.count))
+-- where nothing has been counted, nothing has come
+nothing_came : (limits : FrameLimits) (rest : List ℕ) (scan : HeaderScan)
+    → IsScanOf limits rest scan → scan.count ≡ 0 → rest ≡ []
+nothing_came limits rest scan scanned none =
+    let count = scanned.count in nil_from_length rest (omega (arith, count))
 
-pub returns-in-Ended : goal.returns-in-Ended
-returns-in-Ended c = λ rest scanned short.
-    let inv = c.loop-i.invariant rest scanned short in
-    has_ended c.args.limits rest c.args.piece.now c.loop-i.i c.loop-i.scan (omega arith) inv.0 inv.1
-    c.in-Ended.findings c.in-Ok.content_len c.in-Ended.ensures (c.in-Ok.ensures c.args.limits)
+pub overflow_add-result : goal.overflow_add-result
+overflow_add-result c =
+    let low = c.requires.sound.header_low in
+    let took = (rw c.in-Ok-Ended.field-0-is at c.in-Ok-Ended.ensures) name_text
+    (c.behind_name.ensures c.args.limits) (omega (arith, low)) in
+    let within = took.within in
+    let long = c.in-Some.ensures.cases.2 in
+    omega (arith, within, long)
+
+pub returns-in-Ok-Ended : goal.returns-in-Ok-Ended
+returns-in-Ok-Ended c = λ rest scanned short.
+    let low = c.requires.sound.header_low in
+    let took = (rw c.in-Ok-Ended.field-0-is at c.in-Ok-Ended.ensures) name_text
+    (c.behind_name.ensures c.args.limits) (omega (arith, low)) in
+    subst (λ r. HasEnded c.args.limits r c.args.piece.now c.in-Ok-Ended.header_len
+    c.in-Ok-Ended.content_len (c.in-Ok-Ended.used + 16))
+    (sym (nothing_came c.args.limits rest c.args.scan scanned c.if-scan-eq0.true))
+    (has_ended c.args.limits c.args.piece.now c.in-Some.behind.now
+    (is_behind c.args.piece.now c.in-Some.behind c.in-Some.ensures.cases) c.in-Ok-Ended.header_len
+    c.in-Ok-Ended.content_len c.in-Ok-Ended.used took)
+
+pub returns-in-Ok-Unfinished : goal.returns-in-Ok-Unfinished
+returns-in-Ok-Unfinished c = λ rest scanned short.
+    let low = c.requires.sound.header_low in
+    let took = (rw c.in-Ok-Unfinished.field-0-is at c.in-Ok-Unfinished.ensures) name_text
+    (c.behind_name.ensures c.args.limits) (omega (arith, low)) in
+    subst (λ r. GoesOn c.args.limits r c.args.piece.now c.in-Ok-Unfinished.scan)
+    (sym (nothing_came c.args.limits rest c.args.scan scanned c.if-scan-eq0.true))
+    (goes_on c.args.limits c.args.piece.now c.in-Some.behind.now
+    (is_behind c.args.piece.now c.in-Some.behind c.in-Some.ensures.cases) c.in-Ok-Unfinished.scan
+    took)
 
 pub returns-in-Err : goal.returns-in-Err
 returns-in-Err c = λ rest scanned short.
-    let inv = c.loop-i.invariant rest scanned short in
-    header_fault c.args.limits rest c.args.piece.now c.loop-i.i c.loop-i.scan (omega arith) inv.0
-    inv.1 c.in-Ended.findings c.in-Err.fault c.in-Ended.ensures (c.in-Err.ensures c.args.limits)
-
-pub returns-then-limits-next : goal.returns-then-limits-next
-returns-then-limits-next c = λ rest scanned short.
-    let inv = c.loop-i.invariant rest scanned short in
-    header_too_long c.args.limits rest c.args.piece.now c.loop-i.i c.loop-i.scan (omega arith) inv.0
-    inv.1 c.in-Unfinished.next c.in-Unfinished.ensures (omega arith)
-
-pub returns : goal.returns
-returns c = λ rest scanned short.
-    let inv = c.loop-i.invariant rest scanned short in
-    let all : rest ++ take c.loop-i.i c.args.piece.now ≡ rest ++ c.args.piece.now =
-    ap (λ xs. rest ++ xs) (take_all c.loop-i.i c.args.piece.now (omega arith)) in
-    record {
-      scanned = subst (λ bytes. IsScanOf c.args.limits bytes c.loop-i.scan) all inv.0;
-      short = omega (arith, ap length all, inv.1);
-    }
+    let low = c.requires.sound.header_low in
+    let took = c.in-Err.ensures name_text (c.behind_name.ensures c.args.limits)
+    (omega (arith, low)) in
+    subst (λ r. ShowsInHeader c.args.limits r c.args.piece.now c.in-Err.fault)
+    (sym (nothing_came c.args.limits rest c.args.scan scanned c.if-scan-eq0.true))
+    (shows_fault c.args.limits c.args.piece.now c.in-Some.behind.now
+    (is_behind c.args.piece.now c.in-Some.behind c.in-Some.ensures.cases) c.in-Err.fault took)

@@ -13,21 +13,21 @@ returns-in_err-next-clause-answer g c =
     (check_refuses g.R.Source c.args.limits
     c.args.reader.now c.loop-text.reader c.loop-text.records was c.next.new.self
     c.next.new.reader false _
-    (c.in_err-next.ensures c.args.limits was.bytes was.messages was.normal was.stands))
+    (c.in_err-next.ensures.next c.args.limits was.bytes was.messages was.normal was.stands))
 
 pub returns-in_err-next-clause-taken : goal.returns-in_err-next-clause-taken
 returns-in_err-next-clause-taken g c =
     let was = c.loop-text.invariant in
     few_taken g.R.Source c.args.limits c.args.reader.now
     c.loop-text.reader c.loop-text.records was c.next.new.reader c.next.new.self _
-    (c.in_err-next.ensures c.args.limits was.bytes was.messages was.normal was.stands)
+    (c.in_err-next.ensures.next c.args.limits was.bytes was.messages was.normal was.stands)
 
 pub loop-text-smaller : goal.loop-text-smaller
 loop-text-smaller g c =
     let was = c.loop-text.invariant in
     (gone g.R.Source c.args.limits c.args.reader.now
     c.loop-text.reader c.loop-text.records was c.next.new.self c.next.new.reader _ _ _
-    (c.in_ok-next.ensures c.args.limits was.bytes was.messages was.normal was.stands)
+    (c.in_ok-next.ensures.next c.args.limits was.bytes was.messages was.normal was.stands)
     c.if-branch.true).shorter
 
 pub loop-text-preserved : goal.loop-text-preserved
@@ -37,7 +37,7 @@ loop-text-preserved g c =
     c.loop-text.reader c.loop-text.records was c.next.new.self c.next.new.reader _ _
     (gone g.R.Source c.args.limits c.args.reader.now
     c.loop-text.reader c.loop-text.records was c.next.new.self c.next.new.reader _ _ _
-    (c.in_ok-next.ensures c.args.limits was.bytes was.messages was.normal was.stands)
+    (c.in_ok-next.ensures.next c.args.limits was.bytes was.messages was.normal was.stands)
     c.if-branch.true)
 
 pub overflow_sub-result : goal.overflow_sub-result
@@ -46,7 +46,7 @@ overflow_sub-result g c =
     let end = ended g.R.Source c.args.limits
     c.args.reader.now c.loop-text.reader c.loop-text.records was c.next.new.self
     c.next.new.reader _ _ _
-    (c.in_ok-next.ensures c.args.limits was.bytes was.messages was.normal was.stands)
+    (c.in_ok-next.ensures.next c.args.limits was.bytes was.messages was.normal was.stands)
     c.if-branch.false in
     let some = some_records g.R.Source c.args.limits
     c.args.reader.now c.loop-text.reader c.loop-text.records was c.next.new.self
@@ -60,7 +60,7 @@ returns-clause-answer g c =
     let end = ended g.R.Source c.args.limits
     c.args.reader.now c.loop-text.reader c.loop-text.records was c.next.new.self
     c.next.new.reader _ _ _
-    (c.in_ok-next.ensures c.args.limits was.bytes was.messages was.normal was.stands)
+    (c.in_ok-next.ensures.next c.args.limits was.bytes was.messages was.normal was.stands)
     c.if-branch.false in
     let some = some_records g.R.Source c.args.limits
     c.args.reader.now c.loop-text.reader c.loop-text.records was c.next.new.self
@@ -79,5 +79,5 @@ returns-clause-taken g c =
     c.loop-text.reader c.loop-text.records was c.next.new.reader c.next.new.self _ _
     (ended g.R.Source c.args.limits c.args.reader.now
     c.loop-text.reader c.loop-text.records was c.next.new.self c.next.new.reader _ _ _
-    (c.in_ok-next.ensures c.args.limits was.bytes was.messages was.normal was.stands)
+    (c.in_ok-next.ensures.next c.args.limits was.bytes was.messages was.normal was.stands)
     c.if-branch.false)

@@ -13,8 +13,8 @@ counted : (old added new : List ℕ) (written before after : ℕ) → new ≡ ol
 counted old added new written before after is first last =
     omega (arith, first, last, ap length is, length-append old added)
 
-pub returns : goal.returns
-returns c =
+pub returns-clause-writes : goal.returns-clause-writes
+returns-clause-writes c =
     let text = text_of (doc_of c.args.message.now) in
     let content : c.as_slice.result.now ≡ text =
     c.as_slice.ensures.value ∙ c.in-Ok.ensures.text ∙ ap (λ xs. xs ++ text) c.clear.ensures.items in

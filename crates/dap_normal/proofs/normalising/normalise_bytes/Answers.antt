@@ -35,7 +35,7 @@ loop-text-smaller c =
     (gone memory c.args.limits
     (start c.args.limits c.requires.limits c.args.bytes.now) c.loop-text.reader
     c.loop-text.records was c.next.new.self c.next.new.reader _ _ _
-    (c.in_ok-next.ensures c.args.limits was.bytes was.messages was.normal was.stands)
+    (c.in_ok-next.ensures.next c.args.limits was.bytes was.messages was.normal was.stands)
     c.if-branch.true).shorter
 
 pub loop-text-preserved : goal.loop-text-preserved
@@ -44,7 +44,7 @@ loop-text-preserved c =
     let more = gone memory c.args.limits
     (start c.args.limits c.requires.limits c.args.bytes.now) c.loop-text.reader
     c.loop-text.records was c.next.new.self c.next.new.reader _ _ _
-    (c.in_ok-next.ensures c.args.limits was.bytes was.messages was.normal was.stands)
+    (c.in_ok-next.ensures.next c.args.limits was.bytes was.messages was.normal was.stands)
     c.if-branch.true in
     record {
       going = on memory c.args.limits
@@ -61,7 +61,7 @@ returns-in_err-next-clause-err c =
     rw (because.1, because.2)
     (refuses_bytes c.args.limits c.requires.limits c.args.bytes.now c.loop-text.reader
     c.loop-text.records was c.next.new.reader c.next.new.self _
-    (c.in_err-next.ensures c.args.limits was.bytes was.messages was.normal was.stands))
+    (c.in_err-next.ensures.next c.args.limits was.bytes was.messages was.normal was.stands))
 
 pub new-requires-2 : goal.new-requires-2
 new-requires-2 c =
@@ -69,7 +69,7 @@ new-requires-2 c =
     let end = ended memory c.args.limits
     (start c.args.limits c.requires.limits c.args.bytes.now) c.loop-text.reader
     c.loop-text.records was c.next.new.self c.next.new.reader _ _ _
-    (c.in_ok-next.ensures c.args.limits was.bytes was.messages was.normal was.stands)
+    (c.in_ok-next.ensures.next c.args.limits was.bytes was.messages was.normal was.stands)
     c.if-branch.false in
     let kept = end.kept ∙ c.loop-text.invariant.text_is in
     subst HoldsSome (sym kept)
@@ -83,7 +83,7 @@ returns-clause-ok c =
     let end = ended memory c.args.limits
     (start c.args.limits c.requires.limits c.args.bytes.now) c.loop-text.reader
     c.loop-text.records was c.next.new.self c.next.new.reader _ _ _
-    (c.in_ok-next.ensures c.args.limits was.bytes was.messages was.normal was.stands)
+    (c.in_ok-next.ensures.next c.args.limits was.bytes was.messages was.normal was.stands)
     c.if-branch.false in
     canonical_whole c.args.limits c.requires.limits c.args.bytes.now c.loop-text.reader
     c.loop-text.records was c.next.new.reader c.next.new.self _ _ end _

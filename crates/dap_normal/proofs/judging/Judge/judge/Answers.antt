@@ -25,14 +25,14 @@ returns-in_err-self-clause-judges g c = λ messages normal stands.
     (sent c.in_ok-message.message) is says.0
     (c.in-Ok-rename.ensures.few messages stands.names) (sent c.in-Ok-rename.renamed)
     (c.in-Ok-rename.ensures.renamed messages stands.names)
-    _ c.args.number c.args.out.now.items c.append_record.new.out.items c.in_err-self.ensures)
+    _ c.args.number c.args.out.now.items c.append_record.new.out.items c.in_err-self.ensures.writes)
 
 pub returns-clause-judges : goal.returns-clause-judges
 returns-clause-judges g c = λ messages normal stands.
     let is : IsMessage (held_of c.args.whole.now) (sent c.in_ok-message.message) =
     rw c.as_slice.ensures at c.in_ok-message.ensures.ok in
     let says = c.in-Ok.ensures.says messages stands.session in
-    let wrote = c.in_ok-self.ensures in
+    let wrote = c.in_ok-self.ensures.writes in
     taken c.args.self.now messages normal stands (held_of c.args.whole.now)
     (sent c.in_ok-message.message) is says.0
     (c.in-Ok-rename.ensures.few messages stands.names) (sent c.in-Ok-rename.renamed)

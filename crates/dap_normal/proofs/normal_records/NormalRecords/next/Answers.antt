@@ -3,18 +3,19 @@ use Rattle.std.proofs.lemmas.Result.{err_from_is_err_and}
 use Rattle.dap_input.specs.ItemReading.{StandsForRecord, record_items}
 use Rattle.dap_input.specs.RecordSteps.{ReadsNext}
 use Rattle.dap_normal.proofs.NormalRecordSteps.{refused_read, none_left, refused_judge, gone_on}
+use Rattle.dap_normal.proofs.NormalRecordSteps.{nothing_given}
 use Rattle.dap_normal.proofs.normal_records.NormalRecords.next.Goals as goal
 
-pub returns-in_err-whole : goal.returns-in_err-whole
-returns-in_err-whole g c = λ limits bytes messages normal was.
+pub returns-in_err-whole-clause-next : goal.returns-in_err-whole-clause-next
+returns-in_err-whole-clause-next g c = λ limits bytes messages normal was.
     let because = err_from_is_err_and c.from_residual.result c.from_residual.ensures.1 in
     rw (because.1, because.2)
     (refused_read g.R.Source limits bytes c.args.self.now
     messages normal was c.next.new.self c.args.reader.now c.next.new.reader _
     (c.in_err-whole.ensures limits.frame was.between))
 
-pub returns-in_default : goal.returns-in_default
-returns-in_default g c = λ limits bytes messages normal was.
+pub returns-in_default-clause-next : goal.returns-in_default-clause-next
+returns-in_default-clause-next g c = λ limits bytes messages normal was.
     none_left g.R.Source limits bytes c.args.self.now
     messages normal was c.next.new.self c.args.reader.now c.next.new.reader
     c.args.text.now.items
@@ -23,8 +24,8 @@ returns-in_default g c = λ limits bytes messages normal was.
     c.args.reader.now c.next.new.reader (Ok o)) c.in_default.is
     (c.in_ok-whole.ensures limits.frame was.between))
 
-pub returns-in_err-judge : goal.returns-in_err-judge
-returns-in_err-judge g c = λ limits bytes messages normal was.
+pub returns-in_err-judge-clause-next : goal.returns-in_err-judge-clause-next
+returns-in_err-judge-clause-next g c = λ limits bytes messages normal was.
     let because =
     err_from_is_err_and c.from_residual-in_err-judge.result
     c.from_residual-in_err-judge.ensures.1 in
@@ -39,8 +40,8 @@ returns-in_err-judge g c = λ limits bytes messages normal was.
     c.judge.new.self c.args.text.now.items c.judge.new.out.items _
     (rw c.number-number.ensures at c.in_err-judge.ensures.judges))
 
-pub returns : goal.returns
-returns g c = λ limits bytes messages normal was.
+pub returns-clause-next : goal.returns-clause-next
+returns-clause-next g c = λ limits bytes messages normal was.
     let read = subst
     (λ o. ReadsNext (record_items limits.frame) (StandsForRecord limits.frame) g.R.Source
     c.args.self.now.records c.next.new.self
@@ -51,3 +52,27 @@ returns g c = λ limits bytes messages normal was.
     messages normal was c.next.new.self c.args.reader.now c.next.new.reader c.in-Some.whole read
     c.judge.new.self c.args.text.now.items c.judge.new.out.items c.in_ok-judge.ensures.limits
     c.in_ok-judge.ensures.judges)
+
+pub returns-in_err-whole-clause-at_hand : goal.returns-in_err-whole-clause-at_hand
+returns-in_err-whole-clause-at_hand g c = λ limits bytes messages normal was has.
+    nothing_given g.R.Source limits bytes c.args.self.now messages normal was c.next.new.self
+    c.args.reader.now c.next.new.reader _
+    (c.in_err-whole.ensures limits.frame was.between) has
+
+pub returns-in_default-clause-at_hand : goal.returns-in_default-clause-at_hand
+returns-in_default-clause-at_hand g c = λ limits bytes messages normal was has.
+    nothing_given g.R.Source limits bytes c.args.self.now messages normal was c.next.new.self
+    c.args.reader.now c.next.new.reader _
+    (c.in_ok-whole.ensures limits.frame was.between) has
+
+pub returns-in_err-judge-clause-at_hand : goal.returns-in_err-judge-clause-at_hand
+returns-in_err-judge-clause-at_hand g c = λ limits bytes messages normal was has.
+    nothing_given g.R.Source limits bytes c.args.self.now messages normal was c.next.new.self
+    c.args.reader.now c.next.new.reader _
+    (c.in_ok-whole.ensures limits.frame was.between) has
+
+pub returns-clause-at_hand : goal.returns-clause-at_hand
+returns-clause-at_hand g c = λ limits bytes messages normal was has.
+    nothing_given g.R.Source limits bytes c.args.self.now messages normal was c.next.new.self
+    c.args.reader.now c.next.new.reader _
+    (c.in_ok-whole.ensures limits.frame was.between) has

@@ -1,6 +1,6 @@
 use Rattle.std.proofs.Common.{◌<◌, ◌++◌, ℕ, List, length, take}
 use Rattle.dap_frame.specs.HeaderScan.{IsScanOf}
-use Rattle.dap_frame.proofs.progress.take_header.Given as goal
+use Rattle.dap_frame.proofs.progress.scan_header.Given as goal
 
 -- of the bytes so far the facts are kept
 abbrev pub invariant-loop-i : goal.invariant-loop-i

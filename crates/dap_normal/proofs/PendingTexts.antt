@@ -1,0 +1,323 @@
+-- The texts of records that await a write, and where a write stops that fails inside them.
+use Rattle.std.proofs.Common.{◌≡◌, ◌⊎◌, ⊎_elim, inl, inr, ℕ, ℤ, ◌+◌, ◌-◌, ◌<◌, ◌≤◌, List, [], ◌∷◌}
+use Rattle.std.proofs.Common.{◌++◌, length, take, Option, Some, None, Result, Ok, Err, refl, sym, ◌∙◌}
+use Rattle.std.proofs.Common.{ap, subst, arith, append_assoc, append-nil, length-append}
+use Rattle.std.proofs.Math.Seq.{take-append-add, take-nil}
+use Rattle.std.proofs.lemmas.Bool.{cases_lt}
+use Rattle.std.proofs.lemmas.List.{length_push, length-take-le, nil_from_length, take-append-le}
+use Rattle.std.proofs.KnownBytes.{Appends-trans}
+use Rattle.std.specs.Io.KnownBytes.{Appends}
+use Rattle.dap_device.specs.declared.device.Source.{Ghosts as Source}
+use Rattle.dap_device.specs.declared.device.Sink.{Ghosts as Sink}
+use Rattle.dap_device.specs.Device.{AwaitFlush}
+use Rattle.dap_device.specs.Pieces.{HasComeSoFar}
+use Rattle.dap_device.specs.Written.{AllWritten, FrontWritten}
+use Rattle.dap_device.specs.declared.reading.Stop.{Stop}
+use Rattle.dap_device.proofs.Sending.{some_of_both}
+use Rattle.dap_message.specs.Message.{Sent}
+use Rattle.dap_input.specs.ReadTo.{IsReadTo}
+use Rattle.dap_input.specs.declared.limits.Limits.{Limits}
+use Rattle.dap_normal.specs.declared.normal_records.NormalRecords.{NormalRecords}
+use Rattle.dap_normal.specs.Accepting.{IsAccepted, accepting, text}
+use Rattle.dap_normal.specs.JudgingSteps.{record_of}
+use Rattle.dap_normal.specs.NormalSteps.{HasGone, IsAtHand}
+use Rattle.dap_normal.specs.Normalising.{Normalises}
+use Rattle.dap_normal.specs.Streaming.{HasFailedToWrite}
+use Rattle.dap_normal.proofs.JudgedRecords.{text_push}
+use Rattle.dap_normal.proofs.StreamLoop.{Going}
+
+module _ (limits : Limits) where
+  -- The records before this one are accepted, and give this text.
+  pub record AreBefore (bytes : List ℕ) (number : ℕ) (given : List ℕ) : Type 0 where
+    pub values : List Sent
+    pub front : List ℕ
+    pub rest : List ℕ
+    pub split : bytes ≡ front ++ rest
+    pub accepted : IsAccepted limits front values
+    pub is_number : number ≡ length values + 1
+    pub gives : Normalises limits front given
+
+  -- So many of the bytes that await a write, behind those that went out, end in this record's text.
+  pub record StopsIn (bytes sent waiting : List ℕ) (taken : ℕ) : Type 0 where
+    pub number : ℕ
+    pub given : List ℕ
+    pub before : AreBefore bytes number given
+    pub read_to : IsReadTo (accepting limits) bytes number
+    pub next : List ℕ
+    pub is_next : (next ≡ []) ⊎ AreBefore bytes (number + 1) (given ++ next)
+    pub count : ℕ
+    pub within : count ≤ length next
+    pub same : sent ++ take taken waiting ≡ given ++ take count next
+
+  -- What went out and what awaits a write are the text of the records. Where some awaits one, the
+  -- next record is at hand.
+  pub record Waiting {T : Type 0} (records : NormalRecords T) (bytes given sent waiting : List ℕ)
+      : Type 0 where
+    pub text_is : given ≡ sent ++ waiting
+    pub stops : (taken : ℕ) → taken ≤ length waiting → StopsIn bytes sent waiting taken
+    pub at_hand : (waiting ≡ []) ⊎ IsAtHand limits records
+
+  -- a record behind is not asked for earlier
+  later : (bytes : List ℕ) (earlier number : ℕ) → IsReadTo (accepting limits) bytes earlier
+      → earlier ≤ number → IsReadTo (accepting limits) bytes number
+  later bytes earlier number read le = record {
+    before = read.before;
+    last = read.last;
+    split = read.split;
+    few = read.few;
+    ends = elim read.ends [
+      | inl none ↦ inl none
+      | inr ends ↦ inr (ends.0, (let early = ends.1 in omega arith), ends.2)
+    ];
+  }
+
+module _ {T R : Type 0} {numbers : T → List ℤ} {table_limit : T → ℕ} (source : Source R)
+    (limits : Limits) (start reader : R) (records : NormalRecords T)
+    (was : Going numbers table_limit source limits start reader records) where
+  given_by : Normalises limits was.stands.front (text was.normal)
+  given_by = record {
+    messages = was.messages;
+    accepts = was.stands.accepted;
+    normal = was.normal;
+    is_normal = was.stands.stands.is_normal;
+    text_is = refl;
+  }
+
+  before_behind : (more : List ℕ)
+      → AreBefore limits (was.bytes ++ more) records.records.number (text was.normal)
+  before_behind more = record {
+    values = was.messages;
+    front = was.stands.front;
+    rest = records.records.pieces.unread ++ more;
+    split = ap (λ t. t ++ more) was.stands.came
+        ∙ append_assoc was.stands.front records.records.pieces.unread more;
+    accepted = was.stands.accepted;
+    is_number = was.stands.number_is;
+    gives = given_by;
+  }
+
+  before_next : AreBefore limits was.bytes records.records.number (text was.normal)
+  before_next = record {
+    values = was.messages;
+    front = was.stands.front;
+    rest = records.records.pieces.unread;
+    split = was.stands.came;
+    accepted = was.stands.accepted;
+    is_number = was.stands.number_is;
+    gives = given_by;
+  }
+
+  -- where all went out
+  pub none_waiting : Waiting limits records was.bytes (text was.normal) (text was.normal) []
+  none_waiting = record {
+    text_is = sym (append-nil (text was.normal));
+    stops = λ taken few. record {
+      number = records.records.number;
+      given = text was.normal;
+      before = before_next;
+      read_to = later limits was.bytes (length was.messages) records.records.number
+          was.stands.read_to (let is = was.stands.number_is in omega (arith, is));
+      next = [];
+      is_next = inl refl;
+      count = 0;
+      within = omega arith;
+      same = ap (λ t. text was.normal ++ t) (take-nil taken);
+    };
+    at_hand = inl refl;
+  }
+
+  module _ (sent waiting : List ℕ)
+      (waits : Waiting limits records was.bytes (text was.normal) sent waiting) where
+    -- a record that is at hand asks for no more
+    module _ (after : R) (more : List ℕ) (stop : Option Stop)
+        (came : HasComeSoFar source reader after more stop)
+        (same_given : IsAtHand limits records → source.given after ≡ source.given reader) where
+      no_more : IsAtHand limits records → more ≡ []
+      no_more has =
+          let counted = came.counted in
+          let same = same_given has in
+          nil_from_length more (omega (arith, counted, same))
+
+      -- the bytes that came behind are none
+      stops_still : IsAtHand limits records → (taken : ℕ) → taken ≤ length waiting
+          → StopsIn limits (was.bytes ++ more) sent waiting taken
+      stops_still has taken few =
+          subst (λ bytes. StopsIn limits bytes sent waiting taken)
+          (sym (ap (λ t. was.bytes ++ t) (no_more has) ∙ append-nil was.bytes))
+          (waits.stops taken few)
+
+      -- where the next record gives no text
+      pub stops_before : IsReadTo (accepting limits) (was.bytes ++ more) records.records.number
+          → (taken : ℕ) → taken ≤ length waiting
+          → StopsIn limits (was.bytes ++ more) sent waiting taken
+      stops_before read_to taken few =
+          ⊎_elim by_none (λ has. stops_still has taken few) waits.at_hand
+        where
+          by_none : waiting ≡ [] → StopsIn limits (was.bytes ++ more) sent waiting taken
+          by_none none = record {
+            number = records.records.number;
+            given = text was.normal;
+            before = before_behind more;
+            read_to = read_to;
+            next = [];
+            is_next = inl refl;
+            count = 0;
+            within = omega arith;
+            same = ap (λ t. sent ++ t) (ap (take taken) none ∙ take-nil taken ∙ sym none)
+                ∙ sym waits.text_is ∙ sym (append-nil (text was.normal));
+          }
+
+    -- where it does
+    module _ (new : NormalRecords T) (after : R) (longer : List ℕ)
+        (gone : HasGone numbers table_limit source limits was.bytes was.messages was.normal
+        records new reader after waiting longer)
+        (same_given : IsAtHand limits records → source.given after ≡ source.given reader) where
+      added : text (was.normal ++ gone.named ∷ []) ≡ text was.normal ++ record_of gone.named
+      added = text_push was.normal gone.named
+
+      pub longer_is : text (was.normal ++ gone.named ∷ []) ≡ sent ++ longer
+      longer_is =
+          added ∙ ap (λ t. t ++ record_of gone.named) waits.text_is
+          ∙ append_assoc sent waiting (record_of gone.named)
+          ∙ ap (λ t. sent ++ t) (sym gone.appended)
+
+      stops_in_it : (taken : ℕ) → length waiting ≤ taken → taken ≤ length longer
+          → StopsIn limits (was.bytes ++ gone.more) sent longer taken
+      stops_in_it taken past few =
+          let count : ℕ = taken - length waiting in
+          let split : taken ≡ length waiting + count = omega (arith, past) in
+          let front : take taken longer ≡ waiting ++ take count (record_of gone.named) =
+          ap (take taken) gone.appended
+          ∙ ap (λ n. take n (waiting ++ record_of gone.named)) split
+          ∙ take-append-add waiting (record_of gone.named) count in
+          record {
+            number = records.records.number;
+            given = text was.normal;
+            before = before_behind gone.more;
+            read_to = gone.read_to;
+            next = record_of gone.named;
+            is_next = inr (record {
+              values = was.messages ++ gone.message ∷ [];
+              front = gone.stands.front;
+              rest = new.records.pieces.unread;
+              split = gone.stands.came;
+              accepted = gone.stands.accepted;
+              is_number =
+                  (let is = was.stands.number_is in omega
+                  (arith, is, length_push was.messages gone.message));
+              gives = record {
+                messages = was.messages ++ gone.message ∷ [];
+                accepts = gone.stands.accepted;
+                normal = was.normal ++ gone.named ∷ [];
+                is_normal = gone.stands.stands.is_normal;
+                text_is = sym added;
+              };
+            });
+            count = count;
+            within = omega (
+              arith,
+              few,
+              past,
+              ap length gone.appended,
+              length-append waiting (record_of gone.named),
+            );
+            same = ap (λ t. sent ++ t) front
+                ∙ sym (append_assoc sent waiting (take count (record_of gone.named)))
+                ∙ ap (λ t. t ++ take count (record_of gone.named)) (sym waits.text_is);
+          }
+
+      stops_earlier : IsAtHand limits records → (taken : ℕ) → taken < length waiting
+          → StopsIn limits (was.bytes ++ gone.more) sent longer taken
+      stops_earlier has taken early =
+          let stop = stops_still after gone.more None gone.came same_given has taken
+          (omega (arith, early)) in
+          let few : taken ≤ length waiting = omega (arith, early) in
+          let front : take taken longer ≡ take taken waiting =
+          ap (take taken) gone.appended
+          ∙ take-append-le taken waiting (record_of gone.named) few in
+          record {
+            number = stop.number;
+            given = stop.given;
+            before = stop.before;
+            read_to = stop.read_to;
+            next = stop.next;
+            is_next = stop.is_next;
+            count = stop.count;
+            within = stop.within;
+            same = ap (λ t. sent ++ t) front ∙ stop.same;
+          }
+
+      pub stops_behind : (taken : ℕ) → taken ≤ length longer
+          → StopsIn limits (was.bytes ++ gone.more) sent longer taken
+      stops_behind taken few =
+          ⊎_elim (λ early. ⊎_elim
+          (λ none. absurd (let long = ap length none in omega (arith, early, long)))
+          (λ has. stops_earlier has taken early) waits.at_hand)
+          (λ past. stops_in_it taken past few) (cases_lt taken (length waiting))
+
+      pub waits_on : IsAtHand limits new
+          → Waiting limits new (was.bytes ++ gone.more) (text (was.normal ++ gone.named ∷ [])) sent
+          longer
+      waits_on has = record { text_is = longer_is; stops = stops_behind; at_hand = inr has }
+
+-- ---- a write that fails
+
+module _ {R W : Type 0} (source : Source R) (sink : Sink W) (limits : Limits) (start after : R)
+    (before writer end : W) (bytes sent waiting : List ℕ) (stop : Option Stop)
+    (came : HasComeSoFar source start after bytes stop)
+    (written : AllWritten sink before writer sent)
+    (front : FrontWritten sink writer end waiting) where
+  pub failed_inside : StopsIn limits bytes sent waiting front.count
+      → HasFailedToWrite source sink limits start after before end
+  failed_inside stops =
+      let many : length sent + front.count ≡ length stops.given + stops.count =
+      omega (
+        arith,
+        ap length stops.same,
+        length-append sent (take front.count waiting),
+        length-append stops.given (take stops.count stops.next),
+        length-take-le front.count waiting front.within,
+        length-take-le stops.count stops.next stops.within,
+      ) in
+      record {
+        number = stops.number;
+        stop = stop;
+        text = stops.given;
+        to = record {
+          bytes = bytes;
+          came = came;
+          read_to = stops.read_to;
+          before = record {
+            values = stops.before.values;
+            front = stops.before.front;
+            rest = stops.before.rest;
+            split = stops.before.split;
+            accepted = stops.before.accepted;
+            is_number = stops.before.is_number;
+          };
+          gives = stops.before.gives;
+        };
+        next = stops.next;
+        is_next = elim stops.is_next [
+          | inl none ↦ inl none
+          | inr more ↦ inr (
+              record {
+                values = more.values;
+                front = more.front;
+                rest = more.rest;
+                split = more.split;
+                accepted = more.accepted;
+                is_number = more.is_number;
+              },
+              more.gives,
+            )
+        ];
+        count = stops.count;
+        within = stops.within;
+        written = subst (Appends (sink.out before) (sink.out end)) stops.same
+            (Appends-trans _ _ _ _ _ written.appended front.appended);
+        awaits = subst (AwaitFlush sink.unflushed before end) many
+            (some_of_both sink.unflushed before writer end (length sent) front.count
+            written.awaits front.awaits);
+        failure = front.failure ∙ ap (λ n. n + 1) written.no_failure;
+      }
