@@ -67,7 +67,7 @@ typed_later (held ∷ records) (f ∷ first) (n ∷ ns) (m ∷ ms) h g same smal
     let one = subst (λ s. IsTypedContentByRows first_rows s held.1 f.doc) of_n h.0.1 in
     let two = subst (λ s. IsTypedContent s held.1 m.doc) of_n g.0.1 in
     let again = content_later n.side held.1 f.doc m.doc n.doc one two
-    (sym (docs_alike f n alike)) (small_ids n.doc small.0) in
+    (sym (docs_alike f n alike)) (small_ids (ids n.doc) small.0) in
     let rest = typed_later records first ns ms h.1 g.1 (tail_of same) small.1 in (
       ((refl, again.0), rest.0),
       (
