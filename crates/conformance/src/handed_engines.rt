@@ -6,8 +6,7 @@ ghost use Rattle.dapnorm.specs.NameTables.{AreReady};
 use crate::name_tables::{indexed, plain};
 use dapnorm::{
     Checked, CompareRefused, Job, Limits, NameTable, Refused, Sink, Source, Tables, Verdict,
-    check_with, compare_with, normalise_with, run_compare_with, run_diff_with,
-    run_stream_with,
+    check_with, compare_with, normalise_with, run_compare_with, run_diff_with, run_stream_with,
 };
 use std::alloc::Global;
 use std::hash::RandomState;

@@ -1,7 +1,9 @@
 //! Ids of threads and of breakpoints: recordings that have some, their normal forms, and the golden
 //! files that were made of them before these ids were renamed.
 use crate::normalising::normalises;
-use crate::recordings::{FILLED_RESPONSE, INITIALIZE, INITIALIZE_RESPONSE, Line, THREADS, recording};
+use crate::recordings::{
+    FILLED_RESPONSE, INITIALIZE, INITIALIZE_RESPONSE, Line, THREADS, recording,
+};
 
 /// The client asks for the threads, and pauses the second.
 pub const LISTED: [Line; 5] = [
@@ -66,10 +68,7 @@ const OLD: [(&[Line], &[Line]); 2] = [
         &[INITIALIZE, FILLED_RESPONSE, THREADS, LISTED[3], LISTED[4]],
         &NORMAL_LISTED,
     ),
-    (
-        &[INITIALIZE, FILLED_RESPONSE, HIT[2], HIT[3]],
-        &NORMAL_HIT,
-    ),
+    (&[INITIALIZE, FILLED_RESPONSE, HIT[2], HIT[3]], &NORMAL_HIT),
 ];
 
 #[test]

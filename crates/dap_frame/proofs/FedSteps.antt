@@ -115,8 +115,7 @@ frame_in limits piece header_len content_len used ended short =
     let begun = rest_taken limits [] [] piece (Ok (Ended header_len content_len used)) refl ended
     in
     let content : List ℕ = take content_len (drop used piece) in
-    let behind = length-drop used piece in
-    (
+    let behind = length-drop used piece in (
       content,
       (fed_frame limits [] [] piece content header_len content_len used content_len begun
           (omega (arith, behind)) refl

@@ -162,9 +162,13 @@ impl Framer {
             × IsFrame (limits_of self.now) (take used piece.now) content) }
     {
         match take_header(self.limits, HeaderScan::start(), piece) {
-            Ok(HeaderTaken::Ended {
-                content_len, used, ..
-            }) => {
+            Ok(
+                HeaderTaken::Ended {
+                    content_len,
+                    used,
+                    ..
+                },
+            ) => {
                 if content_len <= piece.len() - used {
                     Some(used + content_len)
                 } else {

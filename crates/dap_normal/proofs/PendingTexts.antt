@@ -301,16 +301,16 @@ module _ {R W : Type 0} (source : Source R) (sink : Sink W) (limits : Limits) (s
         is_next = elim stops.is_next [
           | inl none ↦ inl none
           | inr more ↦ inr (
-              record {
-                values = more.values;
-                front = more.front;
-                rest = more.rest;
-                split = more.split;
-                accepted = more.accepted;
-                is_number = more.is_number;
-              },
-              more.gives,
-            )
+            record {
+              values = more.values;
+              front = more.front;
+              rest = more.rest;
+              split = more.split;
+              accepted = more.accepted;
+              is_number = more.is_number;
+            },
+            more.gives,
+          )
         ];
         count = stops.count;
         within = stops.within;

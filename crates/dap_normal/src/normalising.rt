@@ -58,11 +58,7 @@ fn flushed<W: Sink>(writer: &mut W, answer: Result<(), Refused>) -> Result<(), R
 
 /// Writes the text that is left, and gives the answer: where memory was refused, at once, and else
 /// once all that was written is flushed.
-fn ended<W: Sink>(
-    writer: &mut W,
-    text: &[u8],
-    answer: Result<(), Refused>,
-) -> Result<(), Refused>
+fn ended<W: Sink>(writer: &mut W, text: &[u8], answer: Result<(), Refused>) -> Result<(), Refused>
     requires { W.failures writer.old < 2 ^ 62 }
     ensures { Ends W.Sink text.now writer.old writer.new answer result }
 {
