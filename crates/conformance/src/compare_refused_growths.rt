@@ -53,7 +53,7 @@ fn asks_each_turn(rt: &impl Abort, alloc: Global, a: &[Line], b: &[Line], wanted
 fn compare_is_refused_in_turn(rt: HostRuntime) {
     let alloc = rt.alloc();
     asks_each_turn(&rt, alloc, &[], &[], Compared::Same(0));
-    asks_each_turn(&rt, alloc, &FRAMES, &EXCHANGED, Compared::Same(6));
+    asks_each_turn(&rt, alloc, &FRAMES, &EXCHANGED, Compared::Same(7));
     asks_each_turn(&rt, alloc, &FRAMES, &[], Compared::Differ(1));
     let refused = CompareRefused::Input(Which::B, Refused::Rule(3, Rule::AnsweredTwice));
     let wanted = Compared::Refused(refused);
@@ -62,7 +62,7 @@ fn compare_is_refused_in_turn(rt: HostRuntime) {
 
 /// What the program prints of recordings with exchanged frame ids.
 const PRINTED: &[u8] =
-    b"same\nclient-seq 1 1\nclient-seq 2 2\nadapter-seq 1 1\nadapter-seq 2 2\nframe 1000 1001\nframe 1001 1000\n";
+    b"same\nclient-seq 1 1\nclient-seq 2 2\nadapter-seq 1 1\nadapter-seq 2 2\nframe 1000 1001\nframe 1001 1000\nthread 1 1\n";
 
 /// Asks for what is printed of two recordings with this growth refused. Whether it was.
 fn tells_turn(rt: &impl Abort, alloc: Global, (a, b): (&[u8], &[u8]), turn: u16) -> bool {

@@ -164,7 +164,7 @@ fn same_recordings_are_carried_by_their_renaming(rt: HostRuntime) {
 }
 
 const EXCHANGED_PAIRS: &[u8] =
-    b"same\nclient-seq 1 1\nclient-seq 2 2\nadapter-seq 1 1\nadapter-seq 2 2\nframe 1000 1001\nframe 1001 1000\n";
+    b"same\nclient-seq 1 1\nclient-seq 2 2\nadapter-seq 1 1\nadapter-seq 2 2\nframe 1000 1001\nframe 1001 1000\nthread 1 1\n";
 
 #[test]
 fn exchanged_frame_ids_are_the_same(rt: HostRuntime) {
