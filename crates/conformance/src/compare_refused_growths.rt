@@ -53,7 +53,7 @@ fn asks_each_turn(rt: &impl Abort, alloc: Global, a: &[Line], b: &[Line], wanted
 fn compare_is_refused_in_turn(rt: HostRuntime) {
     let alloc = rt.alloc();
     asks_each_turn(&rt, alloc, &[], &[], Compared::Same(0));
-    asks_each_turn(&rt, alloc, &FRAMES, &EXCHANGED, Compared::Same(6));
+    asks_each_turn(&rt, alloc, &FRAMES, &EXCHANGED, Compared::Same(7));
     asks_each_turn(&rt, alloc, &FRAMES, &[], Compared::Differ(1));
     let refused = CompareRefused::Input(Which::B, Refused::Rule(3, Rule::AnsweredTwice));
     let wanted = Compared::Refused(refused);

@@ -154,7 +154,7 @@ fn compares_turn(
     if found == Compared::Refused(CompareRefused::Memory) {
         was_wanted(rt, is_refused, turn);
     } else {
-        assert!(rt; found == Compared::Same(6));
+        assert!(rt; found == Compared::Same(7));
     }
     is_refused
 }

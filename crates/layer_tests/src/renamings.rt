@@ -95,7 +95,7 @@ fn between(
     Renaming::between(alloc, from, to)
 }
 
-const PAIRS: [Pair; 6] = [
+const PAIRS: [Pair; 7] = [
     Pair {
         sort: Sort::ClientSeq,
         from: 1,
@@ -125,6 +125,11 @@ const PAIRS: [Pair; 6] = [
         sort: Sort::Frame,
         from: 1001,
         to: 1000,
+    },
+    Pair {
+        sort: Sort::Thread,
+        from: 1,
+        to: 1,
     },
 ];
 
