@@ -42,6 +42,7 @@ pub fn record_frame(
             if write_record(text, side, content.as_slice(), limits).is_err() {
                 return Err(FrameFault::Memory);
             }
+            framer.recycle(content);
             Ok(used)
         }
     }

@@ -1,8 +1,8 @@
-use Rattle.std.proofs.Common.{◌≡◌, ◌+◌, ◌≤◌, inl, inr, ◌++◌, length, take, Err, vec_len}
+use Rattle.std.proofs.Common.{◌≡◌, ◌+◌, ◌≤◌, [], inl, inr, ◌++◌, length, take, Err, vec_len}
 use Rattle.std.proofs.Common.{vec_capacity, sym, ap, ◌∙◌, subst, arith}
 use Rattle.dap_frame.specs.declared.fault.FrameFault.{FrameFault}
 use Rattle.dap_frame.specs.Frame.{IsFrame}
-use Rattle.dap_frame.specs.Reading.{limits_of}
+use Rattle.dap_frame.specs.Reading.{Stands, limits_of}
 use Rattle.dap_recording.specs.Recording.{record_text}
 use Rattle.dap_frame.specs.declared.limits.FrameLimits.{FrameLimits}
 use Rattle.dap_frame.proofs.Frames.{content_small}
@@ -66,5 +66,5 @@ returns-else-is_err-2-clause-takes c = λ rest stands.
           c.requires.same got.0;
       text = wrote ∙ ap (λ xs. c.reserve.new.self.items ++ record_text c.args.side xs) same
           ∙ ap (λ xs. xs ++ record_text c.args.side c.in-Some.content) c.reserve.ensures.items;
-      stands = got.1;
+      stands = subst (λ framer. Stands framer []) (sym c.recycle.ensures) got.1;
     })
