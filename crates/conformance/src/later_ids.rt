@@ -5,20 +5,28 @@ use crate::recordings::{
     FILLED_RESPONSE, INITIALIZE, INITIALIZE_RESPONSE, Line, THREADS, recording,
 };
 
+const THREAD_LIST: Line = (
+    "<",
+    "{\"body\":{\"threads\":[{\"id\":7,\"name\":\"m\"},{\"id\":4,\"name\":\"w\"}]},\"command\":\"threads\",\"request_seq\":2,\"seq\":2,\"success\":true,\"type\":\"response\"}",
+);
+
+const PAUSE: Line = (
+    ">",
+    "{\"arguments\":{\"threadId\":4},\"command\":\"pause\",\"seq\":3,\"type\":\"request\"}",
+);
+
+const CHANGED: Line = (
+    "<",
+    "{\"body\":{\"breakpoint\":{\"id\":9,\"verified\":true},\"reason\":\"changed\"},\"event\":\"breakpoint\",\"seq\":2,\"type\":\"event\"}",
+);
+
+const STOPPED_AT: Line = (
+    "<",
+    "{\"body\":{\"hitBreakpointIds\":[9,12],\"reason\":\"breakpoint\",\"threadId\":7},\"event\":\"stopped\",\"seq\":3,\"type\":\"event\"}",
+);
+
 /// The client asks for the threads, and pauses the second.
-pub const LISTED: [Line; 5] = [
-    INITIALIZE,
-    INITIALIZE_RESPONSE,
-    THREADS,
-    (
-        "<",
-        "{\"body\":{\"threads\":[{\"id\":7,\"name\":\"m\"},{\"id\":4,\"name\":\"w\"}]},\"command\":\"threads\",\"request_seq\":2,\"seq\":2,\"success\":true,\"type\":\"response\"}",
-    ),
-    (
-        ">",
-        "{\"arguments\":{\"threadId\":4},\"command\":\"pause\",\"seq\":3,\"type\":\"request\"}",
-    ),
-];
+pub const LISTED: [Line; 5] = [INITIALIZE, INITIALIZE_RESPONSE, THREADS, THREAD_LIST, PAUSE];
 
 pub const NORMAL_LISTED: [Line; 5] = [
     INITIALIZE,
@@ -35,18 +43,7 @@ pub const NORMAL_LISTED: [Line; 5] = [
 ];
 
 /// A breakpoint changes, and a thread stops at it and at another.
-pub const HIT: [Line; 4] = [
-    INITIALIZE,
-    INITIALIZE_RESPONSE,
-    (
-        "<",
-        "{\"body\":{\"breakpoint\":{\"id\":9,\"verified\":true},\"reason\":\"changed\"},\"event\":\"breakpoint\",\"seq\":2,\"type\":\"event\"}",
-    ),
-    (
-        "<",
-        "{\"body\":{\"hitBreakpointIds\":[9,12],\"reason\":\"breakpoint\",\"threadId\":7},\"event\":\"stopped\",\"seq\":3,\"type\":\"event\"}",
-    ),
-];
+pub const HIT: [Line; 4] = [INITIALIZE, INITIALIZE_RESPONSE, CHANGED, STOPPED_AT];
 
 pub const NORMAL_HIT: [Line; 4] = [
     INITIALIZE,
@@ -65,10 +62,13 @@ pub const NORMAL_HIT: [Line; 4] = [
 /// they came, and all other ids count already.
 const OLD: [(&[Line], &[Line]); 2] = [
     (
-        &[INITIALIZE, FILLED_RESPONSE, THREADS, LISTED[3], LISTED[4]],
+        &[INITIALIZE, FILLED_RESPONSE, THREADS, THREAD_LIST, PAUSE],
         &NORMAL_LISTED,
     ),
-    (&[INITIALIZE, FILLED_RESPONSE, HIT[2], HIT[3]], &NORMAL_HIT),
+    (
+        &[INITIALIZE, FILLED_RESPONSE, CHANGED, STOPPED_AT],
+        &NORMAL_HIT,
+    ),
 ];
 
 #[test]
