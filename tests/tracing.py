@@ -58,7 +58,7 @@ def main():
         status, lines, errors = run(["compare", os.path.join(folder, "one"), os.path.join(folder, "other")])
         told = lines.decode().splitlines()
         report.check("the two are the same", (status, told[:1], errors) == (0, ["same"], b""), repr((status, lines, errors)))
-        report.check("their frames are paired", told[-1:] == ["frame 1000 7"], repr(told))
+        report.check("their frames and their threads are paired", told[-2:] == ["frame 1000 7", "thread 1 1"], repr(told))
         report.check("their requests are paired", told[1:5] == [f"client-seq {n} {500 + n}" for n in range(1, 5)], repr(told))
     return report.close()
 
