@@ -1,4 +1,5 @@
 """Takes recordings through `compare`, by pairs: those of real adapters, and files that are not there."""
+import json
 import os
 import subprocess
 import sys
@@ -9,7 +10,7 @@ from report import PROGRAM, TOP, Report, run
 
 sys.path.insert(0, os.path.join(TOP, "scripts"))
 from compare_reference import compared
-from normalise_reference import normalised
+from normalise_reference import BREAKPOINT, MARKERS, THREAD, normalised, places, rename
 from one_direction import records
 
 CAPTURES = os.path.join(TOP, "examples", "captures")
@@ -51,6 +52,40 @@ def same_sessions(report):
         report.check(f"{one} and {other}: {differing} pairs of numbers differ", number == differing, str(number))
         back = compare(path(other), path(one))[1].decode().splitlines()
         report.check(f"{other} and {one}: the pairs go the other way", [line.split() for line in back[1:]] == [[word, y, x] for word, x, y in told[1:]])
+
+
+class AThousandMore(dict):
+    """Gives each number a name that is a thousand more."""
+
+    def setdefault(self, number, _):
+        return number + 1000
+
+
+def with_other_threads(recording):
+    """The recording with other numbers of threads and of breakpoints, as another run has them."""
+    written = b""
+    for side, _, content in records(recording):
+        message = json.loads(content)
+        sorts = {place: sort for place, sort in places(message, first_rows=False) if sort in (THREAD, BREAKPOINT)}
+        message = rename({THREAD: AThousandMore(), BREAKPOINT: AThousandMore()}, sorts, side, "", message)
+        content = json.dumps(message, separators=(",", ":"), ensure_ascii=False).encode()
+        written += b"%sContent-Length: %d\r\n\r\n%s\n" % (MARKERS[side], len(content), content)
+    return written
+
+
+def other_threads(report):
+    """Sessions that differ in the numbers of threads and of breakpoints alone are the same."""
+    with tempfile.TemporaryDirectory() as folder:
+        other = os.path.join(folder, "other")
+        for name in ("debugpy-a-basic.1.rec", "dlv-a-basic.1.rec", "lldb14-b-loop.1.rec"):
+            with open(other, "wb") as file:
+                file.write(with_other_threads(read(name)))
+            status, lines, errors = compare(path(name), other)
+            told = [line.split() for line in lines.decode().splitlines()]
+            report.check(f"{name} is the same with other threads", (status, errors, told[:1]) == (0, b"", [["same"]]), repr((status, errors, lines)))
+            moved = {word for word, x, y in told[1:] if int(y) == int(x) + 1000}
+            report.check(f"{name}: its threads and breakpoints are paired", moved == {"thread", "breakpoint"}, repr(moved))
+            report.check(f"{name}: all else has its own number", all(x == y for word, x, y in told[1:] if word not in moved))
 
 
 def different_sessions(report):
@@ -129,6 +164,7 @@ def main():
     names = sorted(name for name in os.listdir(CAPTURES) if name.endswith(".rec"))
     report.check("each recording is there", len(names) == 15, str(len(names)))
     same_sessions(report)
+    other_threads(report)
     different_sessions(report)
     every_pair(report, names)
     refused_sessions(report)
