@@ -1,183 +1,97 @@
 -- The rules that an index finds for a message are those that speak of it.
 use Rattle.std.proofs.Common.{◌≡◌, ℕ, zero, suc, Bool, true, false, cond, ◌&&◌, List, [], ◌∷◌, ◌++◌}
-use Rattle.std.proofs.Common.{length, Option, Some, None, is_some, unwrap_or, bytes_eq, refl, sym}
-use Rattle.std.proofs.Common.{◌∙◌, ap, ap₂, subst, true≢false, append_assoc}
-use Rattle.std.proofs.lemmas.Slice.Eq.{bytes_eq-Decides, slice_eq-Decides}
-use Rattle.std.specs.Bool.{Decides}
-use Rattle.std.proofs.Common.{◌<◌, ◌≤◌, arith}
-use Rattle.std.specs.List.{filter, slice_get, slice_index_or}
-use Rattle.std.specs.Option.{option_or, option_to_list}
+use Rattle.std.proofs.Common.{length, drop, Option, Some, None, unwrap_or, bytes_eq, refl, sym}
+use Rattle.std.proofs.Common.{◌∙◌, ap, ap₂, subst, true≢false, append_assoc, option_map}
+use Rattle.std.proofs.Common.{string_bytes, Vec, Global, ◌<◌, ◌≤◌, arith}
+use Rattle.std.proofs.lemmas.Slice.Eq.{bytes_eq-Decides}
+use Rattle.std.specs.BTreeMap.{IsEmpty, get_by_text, is_at}
+use Rattle.std.specs.Cmp.Lexicographic.{slice_cmp}
+use Rattle.std.specs.List.{AllByRecursion, filter, slice_get, slice_index_or}
+use Rattle.std.specs.Map.{lookup}
+use Rattle.std.specs.Option.{option_to_list}
+use Rattle.std.specs.Ordering.{nat_cmp}
 use Rattle.dap_tree.specs.Doc.{Doc, null, boolean, whole, text, list, object, id, get}
-use Rattle.dap_tree.proofs.Booleans.{and_left, and_right, and_both}
 use Rattle.dap_message.specs.Rows.{is_of_kind, name_key, is_text}
 use Rattle.dap_profile.specs.declared.profile.Kind.{Kind}
 use Rattle.dap_profile.specs.declared.profile.Kind.TheVariants.{Request, Response, Event}
 use Rattle.dap_message.proofs.Edits.{by_bool}
 use Rattle.dap_mask.specs.Index.{asks_for, may_speak, told_kind, text_told, told_name}
-use Rattle.dap_mask.specs.Index.{positions_from, positions, rules_at, Group, found_in, with_name}
-use Rattle.dap_mask.specs.Index.{with_group, groups_from, groups, group_of, groups_of, same_group}
-use Rattle.dap_mask.specs.Index.{same_groups, is_index, places_in}
-use Rattle.dap_mask.specs.Index.{masked_by, masked_at}
+use Rattle.dap_mask.specs.Index.{positions_from, positions, rules_at, masked_by, masked_at}
+use Rattle.dap_mask.specs.Index.{NamePlaces, kept_for, AreRight, AsksNot, HasAsked, AddsName}
+use Rattle.dap_mask.specs.Index.{IsIndex}
 use Rattle.dap_mask.specs.Masked.{mask_by, masked}
 use Rattle.dap_mask.specs.Rules.{Rule, rule_of, rules_of, has_name, speaks_of, same_kind, are_safe}
+use Rattle.dap_mask.specs.Rules.{is_telling_place}
 use Rattle.dap_mask.specs.declared.index.KindRules.{KindRules}
-use Rattle.dap_mask.specs.declared.index.NameRules.{NameRules}
 use Rattle.dap_mask.specs.declared.rules.MaskRule.{MaskRule}
 use Rattle.dap_mask.proofs.ByPath.{first_safe, rest_safe, spoken-mask_by}
-use Rattle.dap_mask.specs.Rules.{is_telling_place}
 use Rattle.dap_mask.proofs.Settled.{kind_alike}
 
--- ---- groups
+-- ---- names for which no rule asks
 
-found_more : (n : List ℕ) (gs : List Group) (h : Group)
-    → found_in n (gs ++ h ∷ []) ≡ option_or (found_in n gs) (cond (bytes_eq h.0 n) (Some h.1) None)
-found_more n [] h = refl
-found_more n (g ∷ gs) h = go (bytes_eq g.0 n) (found_more n gs h)
-  where
-    go : (b : Bool) → found_in n (gs ++ h ∷ [])
-        ≡ option_or (found_in n gs) (cond (bytes_eq h.0 n) (Some h.1) None)
-        → cond b (Some g.1) (found_in n (gs ++ h ∷ []))
-        ≡ option_or (cond b (Some g.1) (found_in n gs)) (cond (bytes_eq h.0 n) (Some h.1) None)
-    go true e = refl
-    go false e = e
-
--- each group has the rules of its name
-abbrev AreRight : Kind → List Rule → List Group → Type 0
-AreRight k rs gs = (n ps : List ℕ) → found_in n gs ≡ Some ps → ps ≡ positions k (Some n) rs
-
-right_name : (k : Kind) (rs : List Rule) (m : Option (List ℕ)) (gs : List Group) → AreRight k rs gs
-    → AreRight k rs (with_name k rs m gs)
-right_name k rs None gs h = h
-right_name k rs (Some m) gs h = go (is_some (found_in m gs))
-  where
-    last : (n ps : List ℕ) (o : Option (List ℕ)) (b : Bool) → found_in n gs ≡ o → bytes_eq m n ≡ b
-        → option_or o (cond b (Some (positions k (Some m) rs)) None) ≡ Some ps
-        → ps ≡ positions k (Some n) rs
-    last n ps (Some qs) b f t e = h n ps (f ∙ e)
-    last n ps None true f t e =
-        let same : positions k (Some m) rs ≡ ps = cc in
-        sym same ∙ ap (λ q. positions k (Some q) rs) ((bytes_eq-Decides m n).0 t)
-    last n ps None false f t e = cc
-
-    go : (b : Bool) → AreRight k rs (cond b gs (gs ++ (m, positions k (Some m) rs) ∷ []))
-    go true = h
-    go false = λ n ps e. last n ps (found_in n gs) (bytes_eq m n) refl refl
-        (sym (found_more n gs (m, positions k (Some m) rs)) ∙ e)
-
-right_groups : (k : Kind) (rs more : List Rule) (gs : List Group) → AreRight k rs gs
-    → AreRight k rs (groups_from k rs more gs)
-right_groups k rs [] gs h = h
-right_groups k rs (r ∷ more) gs h =
-    right_groups k rs more (with_group k rs r gs) (go (same_kind r.kind k))
-  where
-    go : (b : Bool) → AreRight k rs (cond b (with_name k rs r.name gs) gs)
-    go true = right_name k rs r.name gs h
-    go false = h
-
--- a name that has no group is none that a rule asks for
-none_name : (k : Kind) (rs : List Rule) (m : Option (List ℕ)) (gs : List Group) (n : List ℕ)
-    → found_in n (with_name k rs m gs) ≡ None
-    → (found_in n gs ≡ None) × (asks_for m (Some n) ≡ asks_for m None)
-none_name k rs None gs n h = (h, refl)
-none_name k rs (Some m) gs n h = go (found_in m gs) refl h
-  where
-    parts : (o : Option (List ℕ)) (b : Bool) → found_in n gs ≡ o → bytes_eq m n ≡ b
-        → option_or o (cond b (Some (positions k (Some m) rs)) None) ≡ None
-        → (found_in n gs ≡ None) × (bytes_eq m n ≡ false)
-    parts (Some qs) b f t e = cc
-    parts None true f t e = cc
-    parts None false f t e = (f, t)
-
-    other : (ps : List ℕ) → found_in m gs ≡ Some ps → found_in n gs ≡ None → bytes_eq m n ≡ true
-        → bytes_eq m n ≡ false
-    other ps f e t = let same : found_in m gs ≡ found_in n gs =
-        ap (λ q. found_in q gs) ((bytes_eq-Decides m n).0 t) in cc
-
-    go : (o : Option (List ℕ)) → found_in m gs ≡ o
-        → found_in n (cond (is_some o) gs (gs ++ (m, positions k (Some m) rs) ∷ [])) ≡ None
-        → (found_in n gs ≡ None) × (bytes_eq m n ≡ false)
-    go (Some ps) f e = (e, by_bool (bytes_eq m n) (other ps f e) (λ t. t))
-    go None f e =
-        parts (found_in n gs) (bytes_eq m n) refl refl
-        (sym (found_more n gs (m, positions k (Some m) rs)) ∙ e)
-
-none_group : (k : Kind) (rs : List Rule) (r : Rule) (gs : List Group) (n : List ℕ)
-    → found_in n (with_group k rs r gs) ≡ None
-    → (found_in n gs ≡ None) × (may_speak k (Some n) r ≡ may_speak k None r)
-none_group k rs r gs n h = go (same_kind r.kind k) h
-  where
-    go : (b : Bool) → found_in n (cond b (with_name k rs r.name gs) gs) ≡ None
-        → (found_in n gs ≡ None) × ((b && asks_for r.name (Some n)) ≡ (b && asks_for r.name None))
-    go true e = none_name k rs r.name gs n e
-    go false e = (e, refl)
-
-abbrev AskAlike : Kind → List ℕ → List Rule → Type 0
-AskAlike k n [] = Unit {0}
-AskAlike k n (r ∷ rs) = (may_speak k (Some n) r ≡ may_speak k None r) × AskAlike k n rs
-
-none_groups : (k : Kind) (rs more : List Rule) (gs : List Group) (n : List ℕ)
-    → found_in n (groups_from k rs more gs) ≡ None → (found_in n gs ≡ None) × AskAlike k n more
-none_groups k rs [] gs n h = (h, tt)
-none_groups k rs (r ∷ more) gs n h =
-    let later = none_groups k rs more (with_group k rs r gs) n h in
-    let one = none_group k rs r gs n later.0 in
-    (one.0, (one.1, later.1))
-
-same_positions : (k : Kind) (n : List ℕ) (i : ℕ) (rs : List Rule) → AskAlike k n rs
-    → positions_from k (Some n) i rs ≡ positions_from k None i rs
+same_positions : (k : Kind) (n : List ℕ) (i : ℕ) (rs : List Rule)
+    → AllByRecursion (AsksNot k n) rs → positions_from k (Some n) i rs ≡ positions_from k None i rs
 same_positions k n i [] h = refl
 same_positions k n i (r ∷ rs) h =
     ap₂ (λ b ps. cond b (i ∷ ps) ps) h.0 (same_positions k n (suc i) rs h.1)
 
 -- ---- an index has the places of the rules that may speak
 
-pair : List ℕ → List ℕ → Group
-pair a b = (a, b)
+pub index_made : (k : Kind) (rs : List Rule) (x : KindRules) → AreRight k rs x.named
+    → HasAsked k rs x.named → x.any.items ≡ positions k None rs → IsIndex k rs x
+index_made k rs x right asked any None = any
+index_made k rs x right asked any (Some n) = found (kept_for x.named n) refl
+  where
+    found : (o : Option (List ℕ)) → kept_for x.named n ≡ o
+        → unwrap_or o x.any.items ≡ positions k (Some n) rs
+    found (Some places) is = right n places is
+    found None is = any ∙ sym (same_positions k n 0 rs (asked n is))
 
-decides_group : (g h : Group) → Decides (same_group g h) (g ≡ h)
-unfolding pair
-decides_group g h = (
-  λ e. ap₂ pair ((bytes_eq-Decides g.0 h.0).0 (and_left (bytes_eq g.0 h.0) (bytes_eq g.1 h.1) e))
-      ((bytes_eq-Decides g.1 h.1).0 (and_right (bytes_eq g.0 h.0) (bytes_eq g.1 h.1) e)),
-  λ e. and_both _ _ ((bytes_eq-Decides g.0 h.0).1 (ap (λ x. x.0) e)) ((bytes_eq-Decides g.1 h.1).1
-      (ap (λ x. x.1) e)),
-)
+-- ---- a rule's name is added
 
-decides_groups : (xs ys : List Group) → Decides (same_groups xs ys) (xs ≡ ys)
-decides_groups xs ys = slice_eq-Decides decides_group xs ys (same_groups xs ys) refl
+pub nothing_kept : (names : NamePlaces) → IsEmpty names → (n : List ℕ) → kept_for names n ≡ None
+nothing_kept names empty n =
+    ap (λ es. option_map (λ (v : Vec ℕ Global). v.items)
+    (lookup (is_at (λ k. slice_cmp nat_cmp n (string_bytes k))) es)) empty
 
-pub index_made : (k : Kind) (rs : List Rule) (x : KindRules)
-    → groups_of x.named.items ≡ groups k rs → x.any.items ≡ positions k None rs
-    → is_index k rs x ≡ true
-index_made k rs x named any =
-    and_both _ _ ((decides_groups (groups_of x.named.items) (groups k rs)).1 named)
-    ((bytes_eq-Decides x.any.items (positions k None rs)).1 any)
+asks_for_other : (k : Kind) (r : Rule) (m n : List ℕ) → r.name ≡ Some m → bytes_eq m n ≡ false
+    → AsksNot k n r
+asks_for_other k r m n name other = rw (name, other) refl
 
-index_named : (k : Kind) (rs : List Rule) (x : KindRules) → is_index k rs x ≡ true
-    → groups_of x.named.items ≡ groups k rs
-index_named k rs x h =
-    (decides_groups (groups_of x.named.items) (groups k rs)).0
-    (and_left _ (bytes_eq x.any.items (positions k None rs)) h)
+-- the name is put in
+module _ (k : Kind) (rs : List Rule) (m : List ℕ) (old new : NamePlaces)
+    (places : Vec ℕ Global) (put : (n : List ℕ)
+    → get_by_text new n ≡ cond (bytes_eq m n) (Some places) (get_by_text old n)) where
+  kept_then : (n : List ℕ)
+      → kept_for new n ≡ cond (bytes_eq m n) (Some places.items) (kept_for old n)
+  kept_then n = ap (option_map (λ v. v.items)) (put n) ∙ by_test (bytes_eq m n)
+    where
+      by_test : (b : Bool)
+          → option_map (λ (v : Vec ℕ Global). v.items) (cond b (Some places) (get_by_text old n))
+          ≡ cond b (Some places.items) (kept_for old n)
+      by_test true = refl
+      by_test false = refl
 
-index_any : (k : Kind) (rs : List Rule) (x : KindRules) → is_index k rs x ≡ true
-    → x.any.items ≡ positions k None rs
-index_any k rs x h =
-    (bytes_eq-Decides x.any.items (positions k None rs)).0
-    (and_right (same_groups (groups_of x.named.items) (groups k rs)) _ h)
+  pub right_then : places.items ≡ positions k (Some m) rs → AreRight k rs old → AreRight k rs new
+  right_then is right n others found =
+      by_test (bytes_eq m n) refl (sym (kept_then n) ∙ found)
+    where
+      by_test : (b : Bool) → bytes_eq m n ≡ b
+          → cond b (Some places.items) (kept_for old n) ≡ Some others
+          → others ≡ positions k (Some n) rs
+      by_test true same h =
+          let these : places.items ≡ others = cc in
+          sym these ∙ is ∙ ap (λ q. positions k (Some q) rs) ((bytes_eq-Decides m n).0 same)
+      by_test false other h = right n others h
 
-found_places : (k : Kind) (rs : List Rule) (n any : List ℕ) → any ≡ positions k None rs
-    → (o : Option (List ℕ)) → found_in n (groups k rs) ≡ o
-    → unwrap_or o any ≡ positions k (Some n) rs
-found_places k rs n any e (Some ps) f = right_groups k rs rs [] (λ m qs g. cc) n ps f
-found_places k rs n any e None f =
-    e ∙ sym (same_positions k n 0 rs (none_groups k rs rs [] n f).1)
-
-pub index_places : (k : Kind) (rs : List Rule) (x : KindRules) (n : Option (List ℕ))
-    → is_index k rs x ≡ true → places_in x n ≡ positions k n rs
-index_places k rs x None h = index_any k rs x h
-index_places k rs x (Some n) h =
-    ap (λ gs. unwrap_or (found_in n gs) x.any.items) (index_named k rs x h)
-    ∙ found_places k rs n x.any.items (index_any k rs x h) (found_in n (groups k rs)) refl
+  pub added_then : (r : Rule) → r.name ≡ Some m → AddsName k r old new
+  added_then r name n none = by_test (bytes_eq m n) refl (sym (kept_then n) ∙ none)
+    where
+      by_test : (b : Bool) → bytes_eq m n ≡ b
+          → cond b (Some places.items) (kept_for old n) ≡ None
+          → (kept_for old n ≡ None) × AsksNot k n r
+      by_test true same h = cc
+      by_test false other h = (h, asks_for_other k r m n name other)
 
 -- ---- the rules at those places
 
@@ -340,7 +254,7 @@ masked_untold rs d h =
     unmasked rs d (λ r. not_both (is_of_kind r.kind d) (has_name r.kind r.name d)
     (told_none d h r.kind))
 
--- ---- the program's rules and groups
+-- ---- the program's rules
 
 pub rule_found : (xs : List MaskRule) (i : ℕ) (r : MaskRule) → i < length xs
     → r ≡ slice_index_or xs i r → slice_get (rules_of xs) i ≡ Some (rule_of r)
@@ -354,7 +268,9 @@ no_rule_found [] i h = refl
 no_rule_found (x ∷ xs) zero h = absurd (omega arith)
 no_rule_found (x ∷ xs) (suc i) h = no_rule_found xs i (omega arith)
 
-pub groups_push : (gs : List NameRules) (g : NameRules)
-    → groups_of (gs ++ g ∷ []) ≡ groups_of gs ++ group_of g ∷ []
-groups_push [] g = refl
-groups_push (h ∷ gs) g = ap (λ xs. group_of h ∷ xs) (groups_push gs g)
+-- the rules that are left behind one
+pub left_rules : (xs : List MaskRule) (i : ℕ) (r : MaskRule) → i < length xs
+    → r ≡ slice_index_or xs i r → rules_of (drop i xs) ≡ rule_of r ∷ rules_of (drop (suc i) xs)
+left_rules [] i r h e = absurd (omega arith)
+left_rules (x ∷ xs) zero r h e = ap (λ q. rule_of q ∷ rules_of xs) (sym e)
+left_rules (x ∷ xs) (suc i) r h e = left_rules xs i r (omega arith) e

@@ -13,10 +13,10 @@ use Rattle.dap_profile.specs.declared.profile.Kind.{Kind}
 use Rattle.dap_mask.specs.Rules.{Rule, of_verb, takes_parts, has_name, speaks_of}
 use Rattle.dap_mask.specs.Rules.{are_safe}
 use Rattle.dap_mask.specs.Masked.{is_below, left_by, left, masked}
-use Rattle.dap_mask.specs.Ids.{wants_id, meets, takes_id, leave_row, takes_id_of}
+use Rattle.dap_mask.specs.Ids.{meets, takes_id, leave_row, takes_id_of}
 use Rattle.dap_mask.specs.Ids.{takes_profile_id, leave_ids, KeepsIds}
 use Rattle.dap_message.specs.Marks.{top}
-use Rattle.dap_profile.specs.Profile.{profile}
+use Rattle.dap_profile.specs.Profile.{profile, wants_id}
 use Rattle.std.proofs.Common.{zero, suc, ◌<◌, length, arith}
 use Rattle.std.specs.Prelude.{Contains}
 use Rattle.std.specs.List.{slice_index_or}

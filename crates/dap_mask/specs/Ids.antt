@@ -5,25 +5,12 @@ use Rattle.dap_tree.specs.Doc.{Doc}
 use Rattle.dap_tree.specs.Path.{Step, at}
 use Rattle.dap_message.specs.Marks.{top}
 use Rattle.dap_message.specs.Places.{fits_place}
-use Rattle.dap_profile.specs.Profile.{profile}
+use Rattle.dap_profile.specs.Profile.{profile, wants_id}
 use Rattle.dap_profile.specs.ProfileRows.{ProfileRow}
 use Rattle.dap_message.specs.Rows.{is_asked}
 use Rattle.dap_profile.specs.declared.profile.Kind.{Kind}
-use Rattle.dap_profile.specs.declared.profile.Want.{Want}
-use Rattle.dap_profile.specs.declared.profile.Want.TheVariants.{OwnSeq, OtherSeq, Frame, Reference}
-use Rattle.dap_profile.specs.declared.profile.Want.TheVariants.{Thread, Breakpoint}
 use Rattle.dap_mask.specs.Rules.{Rule, same_place, same_kind, share_name}
 use Rattle.dap_mask.specs.Masked.{left}
-
--- The row wants an id, which is renamed.
-abbrev pub wants_id : Want → Bool
-wants_id OwnSeq = true
-wants_id OtherSeq = true
-wants_id Frame = true
-wants_id Reference = true
-wants_id Thread = true
-wants_id Breakpoint = true
-wants_id _ = false
 
 -- Some message may be one of the rule and of the row.
 abbrev pub meets : Rule → Option Kind → Option (List ℕ) → Bool

@@ -1,9 +1,11 @@
 -- The rules that may speak of messages of a kind and a name, by their places among all.
-use Rattle.std.specs.Prelude.{ℕ, suc, Bool, true, false, cond, ◌&&◌, List, [], ◌∷◌, ◌++◌, map}
-use Rattle.std.specs.Prelude.{Option, Some, None, is_some, unwrap_or, bytes_eq, string_bytes}
-use Rattle.std.specs.Cmp.Lexicographic.{pointwise}
-use Rattle.std.specs.List.{slice_get}
+use Rattle.std.specs.Prelude.{◌≡◌, ℕ, suc, Bool, true, false, cond, ◌&&◌, List, [], ◌∷◌, ◌++◌}
+use Rattle.std.specs.Prelude.{Option, Some, None, option_map, unwrap_or, bytes_eq, String}
+use Rattle.std.specs.BTreeMap.{BTreeMap, get_by_text}
+use Rattle.std.specs.List.{AllByRecursion, slice_get}
 use Rattle.std.specs.Option.{option_to_list}
+use Rattle.std.specs.declared.alloc.Global.{Global}
+use Rattle.std.specs.declared.vec.Vec.{Vec}
 use Rattle.dap_tree.specs.Doc.{Doc, text, get}
 use Rattle.dap_message.specs.Rows.{is_of_kind, name_key}
 use Rattle.dap_profile.specs.declared.profile.Kind.{Kind}
@@ -11,7 +13,6 @@ use Rattle.dap_profile.specs.declared.profile.Kind.TheVariants.{Request, Respons
 use Rattle.dap_mask.specs.Masked.{mask_by}
 use Rattle.dap_mask.specs.Rules.{Rule, same_kind}
 use Rattle.dap_mask.specs.declared.index.KindRules.{KindRules}
-use Rattle.dap_mask.specs.declared.index.NameRules.{NameRules}
 
 -- ---- rules and messages
 
@@ -67,54 +68,42 @@ abbrev pub masked_at : List Rule → List ℕ → Doc → Doc
 masked_at rs [] d = d
 masked_at rs (i ∷ is) d = masked_at rs is (masked_by (slice_get rs i) d)
 
--- ---- groups
+-- ---- what an index has
 
--- A name, and the places of the rules that may speak of messages of it.
-abbrev pub Group : Type 0
-Group = List ℕ × List ℕ
+-- For each name the places that are kept for it.
+abbrev pub NamePlaces : Type 0
+NamePlaces = BTreeMap (String Global) (Vec ℕ Global)
 
-abbrev pub found_in : List ℕ → List Group → Option (List ℕ)
-found_in n [] = None
-found_in n (g ∷ gs) = cond (bytes_eq g.0 n) (Some g.1) (found_in n gs)
+-- The places that are kept for a name.
+abbrev pub kept_for : NamePlaces → List ℕ → Option (List ℕ)
+kept_for names n = option_map (λ v. v.items) (get_by_text names n)
 
-abbrev pub with_name : Kind → List Rule → Option (List ℕ) → List Group → List Group
-with_name k rs None gs = gs
-with_name k rs (Some n) gs = cond (is_some (found_in n gs)) gs (gs ++ (n, positions k (Some n) rs)
-    ∷ [])
+-- What is kept for a name are the places of the rules that may speak of messages of it.
+abbrev pub AreRight : Kind → List Rule → NamePlaces → Type 0
+AreRight k rs names =
+    (n places : List ℕ) → kept_for names n ≡ Some places → places ≡ positions k (Some n) rs
 
--- The groups, with that of the rule's name, if it is of the kind and has one.
-abbrev pub with_group : Kind → List Rule → Rule → List Group → List Group
-with_group k rs r gs = cond (same_kind r.kind k) (with_name k rs r.name gs) gs
+-- The rule speaks of messages of this name only where it speaks of those of a name that no rule
+-- has.
+abbrev pub AsksNot : Kind → List ℕ → Rule → Type 0
+AsksNot k n r = may_speak k (Some n) r ≡ may_speak k None r
 
-abbrev pub groups_from : Kind → List Rule → List Rule → List Group → List Group
-groups_from k rs [] gs = gs
-groups_from k rs (r ∷ more) gs = groups_from k rs more (with_group k rs r gs)
+-- A name for which nothing is kept is one for which none of the rules asks.
+abbrev pub HasAsked : Kind → List Rule → NamePlaces → Type 0
+HasAsked k rs names = (n : List ℕ) → kept_for names n ≡ None → AllByRecursion (AsksNot k n) rs
 
--- The group of each name that a rule of the kind asks for.
-abbrev pub groups : Kind → List Rule → List Group
-groups k rs = groups_from k rs rs []
+-- Nothing that is kept for a name is lost, and a name for which nothing is kept is none for which
+-- the rule asks.
+abbrev pub AddsName : Kind → Rule → NamePlaces → NamePlaces → Type 0
+AddsName k r old new =
+    (n : List ℕ) → kept_for new n ≡ None → (kept_for old n ≡ None) × AsksNot k n r
 
--- ---- the same of the program
-
-abbrev pub group_of : NameRules → Group
-group_of g = (string_bytes g.name, g.places.items)
-
-abbrev pub groups_of : List NameRules → List Group
-groups_of gs = map group_of gs
-
-abbrev pub same_group : Group → Group → Bool
-same_group g h = bytes_eq g.0 h.0 && bytes_eq g.1 h.1
-
-abbrev pub same_groups : List Group → List Group → Bool
-same_groups = pointwise same_group
-
--- The index is that of the rules for messages of the kind.
-abbrev pub is_index : Kind → List Rule → KindRules → Bool
-is_index k rs x =
-    same_groups (groups_of x.named.items) (groups k rs)
-    && bytes_eq x.any.items (positions k None rs)
-
--- The places that an index has for a name.
+-- The places that an index has for a name, and for one that no rule has.
 abbrev pub places_in : KindRules → Option (List ℕ) → List ℕ
 places_in x None = x.any.items
-places_in x (Some n) = unwrap_or (found_in n (groups_of x.named.items)) x.any.items
+places_in x (Some n) = unwrap_or (kept_for x.named n) x.any.items
+
+-- What the index has for a name are the places of the rules that may speak of messages of the kind
+-- and that name.
+abbrev pub IsIndex : Kind → List Rule → KindRules → Type 0
+IsIndex k rs x = (n : Option (List ℕ)) → places_in x n ≡ positions k n rs

@@ -1,7 +1,7 @@
 //! The rules that may speak of a message, found by its kind and its name.
-ghost use Rattle.std.specs.Prelude.{◌≡◌, true, option_map, IfOk, OnOk};
-ghost use Rattle.dap_mask.specs.Index.{may_speak, positions, groups_of, found_in, with_group};
-ghost use Rattle.dap_mask.specs.Index.{groups, is_index, places_in};
+ghost use Rattle.std.specs.Prelude.{◌≡◌, option_map, IfOk, OnOk};
+ghost use Rattle.dap_mask.specs.Index.{may_speak, positions, AreRight, AddsName, HasAsked};
+ghost use Rattle.dap_mask.specs.Index.{IsIndex, places_in};
 ghost use Rattle.dap_mask.specs.Rules.{rule_of, rules_of};
 
 use crate::meets::{same_kind, text_of};
@@ -9,20 +9,14 @@ use crate::rule_list::RuleList;
 use crate::rules::MaskRule;
 use dap_message::Kind;
 use std::alloc::{AllocError, Global};
+use std::collections::BTreeMap;
 
-/// The rules that may speak of messages of one name, by their places among all.
-#[derive(Drop)]
-struct NameRules {
-    name: String,
-    places: Vec<usize>,
-}
-
-/// The rules that may speak of messages of one kind.
+/// The rules that may speak of messages of one kind, by their places among all.
 #[derive(Drop)]
 pub(crate) struct KindRules {
-    /// For each name that a rule asks for.
-    named: Vec<NameRules>,
-    /// Those that ask for no name, by their places among all.
+    /// For each name that a rule asks for, those that may speak of messages of that name.
+    named: BTreeMap<String, Vec<usize>>,
+    /// Those that ask for no name.
     any: Vec<usize>,
 }
 
@@ -31,11 +25,11 @@ impl KindRules {
 
     /// The index of the changes for messages of a kind.
     pub(crate) fn new(alloc: Global, list: &RuleList, kind: Kind) -> Result<KindRules, AllocError>
-        ensures { IfOk result (λ x. is_index kind (listed_changes list.now) x ≡ true) }
+        ensures { IfOk result (λ x. IsIndex kind (listed_changes list.now) x) }
     {
         let rules = list.changes();
         let any = positions(alloc, rules, kind, None)?;
-        let named = groups(alloc, rules, kind)?;
+        let named = places_by_name(alloc, rules, kind)?;
         Ok(KindRules { named, any })
     }
 
@@ -44,8 +38,8 @@ impl KindRules {
         ensures { result.now ≡ places_in self.now (option_map (λ s. s.now) name.entry) }
     {
         match name {
-            Some(name) => match found_in(&self.named, name) {
-                Some(places) => places,
+            Some(name) => match self.named.get(name) {
+                Some(places) => places.as_slice(),
                 None => self.any.as_slice(),
             },
             None => self.any.as_slice(),
@@ -53,26 +47,33 @@ impl KindRules {
     }
 }
 
-fn groups(alloc: Global, rules: &[MaskRule], kind: Kind) -> Result<Vec<NameRules>, AllocError>
-    ensures { IfOk result (λ v. groups_of v.items ≡ groups kind (rules_of rules.now)) }
+// The places for each name that a rule of the kind asks for.
+fn places_by_name(
+    alloc: Global,
+    rules: &[MaskRule],
+    kind: Kind,
+) -> Result<BTreeMap<String, Vec<usize>>, AllocError>
+    ensures right { IfOk result (λ names. AreRight kind (rules_of rules.now) names) }
+    ensures asked { IfOk result (λ names. HasAsked kind (rules_of rules.now) names) }
 {
-    let mut named = Vec::new(alloc);
+    let mut names = BTreeMap::new(alloc);
     for rule in rules {
-        add_group(alloc, rules, kind, rule, &mut named)?;
+        add_name(alloc, rules, kind, rule, &mut names)?;
     }
-    Ok(named)
+    Ok(names)
 }
 
-// The group of the rule's name, where there is none yet.
-fn add_group(
+// The places for the rule's name, where it is of the kind and asks for one that has none yet.
+fn add_name(
     alloc: Global,
     rules: &[MaskRule],
     kind: Kind,
     rule: &MaskRule,
-    named: &mut Vec<NameRules>,
+    names: &mut BTreeMap<String, Vec<usize>>,
 ) -> Result<(), AllocError>
-    ensures { OnOk result (groups_of named.new.items
-        ≡ with_group kind (rules_of rules.now) (rule_of rule.now) (groups_of named.old.items)) }
+    ensures right { AreRight kind (rules_of rules.now) names.old
+        → OnOk result (AreRight kind (rules_of rules.now) names.new) }
+    ensures adds { OnOk result (AddsName kind (rule_of rule.now) names.old names.new) }
 {
     if !same_kind(rule.kind, kind) {
         return Ok(());
@@ -80,24 +81,13 @@ fn add_group(
     let Some(name) = text_of(&rule.name) else {
         return Ok(());
     };
-    if found_in(named, name).is_some() {
+    if names.contains_key(name) {
         return Ok(());
     }
     let places = positions(alloc, rules, kind, Some(name))?;
-    let name = String::from_str(alloc, name)?;
-    named.push(NameRules { name, places })?;
+    let key = String::from_str(alloc, name)?;
+    drop(names.insert(key, places)?);
     Ok(())
-}
-
-fn found_in<'a>(named: &'a [NameRules], name: &str) -> Option<&'a [usize]>
-    ensures { option_map (λ p. p.now) result ≡ found_in name.now (groups_of named.now) }
-{
-    for group in named {
-        if group.name.as_str() == name {
-            return Some(group.places.as_slice());
-        }
-    }
-    None
 }
 
 // The places of the rules that may speak of messages of this kind and name; no name stands for one

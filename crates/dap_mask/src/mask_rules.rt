@@ -1,8 +1,8 @@
 //! The rules of a mask, with an index of them.
-ghost use Rattle.std.specs.Prelude.{◌≡◌, ◌≢◌, true, Ok, Err, map, option_map, string_bytes};
+ghost use Rattle.std.specs.Prelude.{◌≡◌, ◌≢◌, Ok, Err, map, option_map, string_bytes};
 ghost use Rattle.std.specs.Prelude.{IfOk, IfErr};
 ghost use Rattle.dap_profile.specs.declared.profile.Kind.TheVariants.{Request, Response, Event};
-ghost use Rattle.dap_mask.specs.Index.{is_index};
+ghost use Rattle.dap_mask.specs.Index.{IsIndex};
 ghost use Rattle.dap_mask.specs.ListedRules.{listed_changes};
 
 use crate::fault::{RulesCause, RulesFault};
@@ -22,9 +22,9 @@ pub struct MaskRules {
     requests: KindRules,
     responses: KindRules,
     events: KindRules,
-    ghost requests_found: { is_index Request (listed_changes list) requests ≡ true },
-    ghost responses_found: { is_index Response (listed_changes list) responses ≡ true },
-    ghost events_found: { is_index Event (listed_changes list) events ≡ true },
+    ghost requests_found: { IsIndex Request (listed_changes list) requests },
+    ghost responses_found: { IsIndex Response (listed_changes list) responses },
+    ghost events_found: { IsIndex Event (listed_changes list) events },
 }
 
 impl MaskRules {

@@ -3,12 +3,12 @@ ghost use Rattle.std.specs.Prelude.{◌≡◌, map};
 ghost use Rattle.dap_profile.specs.ProfileRows.{row_of};
 ghost use Rattle.dap_profile.specs.PlaceSteps.{steps_of};
 ghost use Rattle.dap_mask.specs.Rules.{rule_of, step_of, place_of, same_step, same_place};
-ghost use Rattle.dap_mask.specs.Ids.{wants_id, meets, takes_id, takes_id_of, takes_profile_id};
+ghost use Rattle.dap_mask.specs.Ids.{meets, takes_id, takes_id_of, takes_profile_id};
 ghost use Rattle.dap_mask.specs.RowSteps.{row_step_of, row_place_of};
 
 use crate::meets::{same_kind, share_name, text_of};
 use crate::rules::{MaskRule, Step};
-use dap_message::{PROFILE, Place, Row, Want};
+use dap_message::{PROFILE, Place, Row};
 
 /// One step of a row's place.
 #[derive(Clone, Copy, Drop)]
@@ -38,21 +38,7 @@ fn takes_id_of(rule: &MaskRule, rows: &[Row]) -> bool
 fn takes_id(rule: &MaskRule, row: &Row) -> bool
     ensures { result ≡ takes_id (rule_of rule.now) (row_of row.now) }
 {
-    wants_id(row.want) && is_at(&rule.place, row.place) && meets(rule, row)
-}
-
-fn wants_id(want: Want) -> bool
-    ensures { result ≡ wants_id want }
-{
-    match want {
-        Want::OwnSeq
-        | Want::OtherSeq
-        | Want::Frame
-        | Want::Reference
-        | Want::Thread
-        | Want::Breakpoint => true,
-        Want::Bool | Want::Whole | Want::Text | Want::Object | Want::List => false,
-    }
+    row.want.is_id() && is_at(&rule.place, row.place) && meets(rule, row)
 }
 
 fn meets(rule: &MaskRule, row: &Row) -> bool

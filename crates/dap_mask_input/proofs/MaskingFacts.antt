@@ -3,11 +3,15 @@ use Rattle.std.proofs.Common.{◌≡◌, ◌⊎◌, inl, inr, ℕ, ◌+◌, ◌�
 use Rattle.std.proofs.Common.{sym, ◌∙◌, ap, ap₂, subst, arith, append_assoc, append-nil}
 use Rattle.std.proofs.Common.{length-append}
 use Rattle.dap_message.specs.Message.{Sent, no_reading, fraction, faulty}
+use Rattle.dap_recording.proofs.Records.{readable}
 use Rattle.dap_recording.specs.Recording.{IsRecording}
+use Rattle.dap_input.specs.ItemReading.{record_items}
 use Rattle.dap_input.specs.declared.limits.Limits.{Limits}
 use Rattle.dap_input.specs.Judging.{Objection, no_message, broken, too_many_ids, grew}
+use Rattle.dap_input.proofs.InputLoop.{ReadsAs}
 use Rattle.dap_input.proofs.Runs.{Run, run_within, ValueLaws, ValueFacts, AcceptedFacts}
 use Rattle.dap_normal.specs.Accepting.{Held, Fits}
+use Rattle.dap_normal.specs.JudgingSteps.{held_of}
 use Rattle.dap_normal.proofs.NormalTexts.{fits_front, fits_or_not}
 use Rattle.dap_mask.specs.Mask.{Mask}
 use Rattle.dap_mask.proofs.LooseReading.{one_loose_reading, some_loose_reading}
@@ -189,4 +193,15 @@ module _ (limits : Limits) (mask : Mask) where
           whole = records.3;
           fits = run_fits [] messages 0 bytes run fits_none;
         };
+  }
+
+  -- A reader of records gives the records that are masked.
+  pub reads_records : ReadsAs (masking limits mask) (record_items limits.frame) held_of
+  reads_records = record {
+    records = readable limits.frame;
+    judged = value_laws;
+    accepted = accepted_facts;
+    item_of = λ bytes whole is. is;
+    fault_of = λ bytes cause ends. ends;
+    open_of = λ bytes is_open. is_open;
   }

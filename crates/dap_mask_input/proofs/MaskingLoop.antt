@@ -1,26 +1,31 @@
 -- What the loop of `mask` over the records of its input keeps, and what it may answer.
-use Rattle.std.proofs.Common.{◌≡◌, ℕ, ◌+◌, ◌-◌, ◌<◌, ◌≤◌, ◌^◌, List, [], ◌∷◌, ◌++◌, length, Option}
-use Rattle.std.proofs.Common.{Some, None, Result, Ok, Err, refl, ◌∙◌, ap, subst, arith}
+use Rattle.std.proofs.Common.{◌≡◌, inl, inr, ℕ, ◌+◌, ◌-◌, ◌<◌, List, [], ◌∷◌, ◌++◌}
+use Rattle.std.proofs.Common.{Option, Some, None, Result, Ok, Err, refl, sym, subst}
+use Rattle.std.proofs.Common.{length}
 use Rattle.dap_device.specs.declared.device.Source.{Ghosts as Source}
 use Rattle.dap_device.specs.declared.device.Sink.{Ghosts as Sink}
 use Rattle.dap_device.specs.Written.{AllWritten, FrontWritten}
+use Rattle.dap_device.proofs.Sending.{all_then_all}
 use Rattle.dap_message.specs.Message.{Sent}
-use Rattle.dap_recording.proofs.Records.{readable}
 use Rattle.dap_recording.specs.RecordReading.{RecordReading}
 use Rattle.dap_recording.specs.declared.record.Record.{Record as WholeRecord}
 use Rattle.dap_input.specs.ItemReading.{StandsForRecord, record_items}
 use Rattle.dap_input.specs.Limits.{AreSound}
 use Rattle.dap_input.specs.RecordSteps.{IsAtStart, ReadsNext}
-use Rattle.dap_input.specs.Streaming.{AnswersRefusal, Flushes, HasFailedToWrite, HasGivenUp}
-use Rattle.dap_input.specs.Streaming.{Streams}
+use Rattle.dap_input.specs.Streaming.{AnswersRefusal, HasFailedToWrite, HasGivenUp, Streams}
 use Rattle.dap_input.specs.declared.limits.Limits.{Limits}
 use Rattle.dap_input.specs.declared.records.Records.{Records}
 use Rattle.dap_input.specs.declared.refused.Refused.{Refused}
-use Rattle.dap_input.proofs.InputLoop.{ReadsAs}
+use Rattle.dap_input.specs.declared.refused.Refused.TheVariants.{Memory}
+use Rattle.dap_input.proofs.Coming.{came_on}
+use Rattle.dap_input.proofs.StreamEnds.{nothing_written}
 use Rattle.dap_input.proofs.Streams.{Streaming}
 use Rattle.dap_input.proofs.Streams as streams
+use Rattle.dap_input.proofs.WholeInputs.{Going as Judged}
+use Rattle.dap_input.proofs.WholeInputs as inputs
 use Rattle.dap_normal.specs.Accepting.{Fits}
 use Rattle.dap_normal.specs.JudgingSteps.{held_of}
+use Rattle.dap_normal.specs.Streaming.{Answers, Ends}
 use Rattle.dap_mask.specs.KeptRules.{mask_of}
 use Rattle.dap_mask.specs.Mask.{Mask}
 use Rattle.dap_mask.specs.declared.mask_rules.MaskRules.{MaskRules}
@@ -28,34 +33,29 @@ use Rattle.dap_mask_input.specs.Masking.{IsAccepted, left_of, masked_text, maski
 use Rattle.dap_mask_input.specs.MaskedRecordings.{IsMaskedTo, Masks}
 use Rattle.dap_mask_input.specs.MaskingSteps.{Masked}
 use Rattle.dap_mask_input.proofs.MaskedTexts.{masked_to}
-use Rattle.dap_mask_input.proofs.MaskingFacts.{accepted_facts, fits_none, value_laws}
+use Rattle.dap_mask_input.proofs.MaskingFacts.{fits_none, reads_records}
+use Rattle.dap_mask_input.proofs.PendingTexts.{IsAtHand, Waiting, failed_inside, longer_is}
+use Rattle.dap_mask_input.proofs.PendingTexts.{none_waiting, on, stops_before}
+use Rattle.dap_mask_input.proofs.PendingTexts.{stops_behind, waits_on}
 
--- The records before the next one are judged, and what is left of them went out, which is so long.
+-- The records before the next one are judged, and what is left of them went out or waits. The text
+-- of what is left is so long.
 pub record Going {R W : Type 0} (limits : Limits) (mask : Mask) (source : Source R) (sink : Sink W)
-    (start reader : R) (before writer : W) (records : Records RecordReading)
-    (written : ℕ) : Type 0 where
+    (start reader : R) (before writer : W) (records : Records RecordReading) (written : ℕ)
+    (waiting : List ℕ) : Type 0 where
   pub values : List Sent
-  pub stands : Streaming (masking limits mask) (StandsForRecord limits.frame) (masked_text mask)
-      source sink start reader before writer records values
+  pub judged : Judged (masking limits mask) (StandsForRecord limits.frame) source start reader
+      records values
   pub fits : Fits limits (left_of mask values)
   pub count : written ≡ length (masked_text mask values)
+  pub sent : List ℕ
+  pub went_out : AllWritten sink before writer sent
+  pub waits : Waiting limits mask records judged.bytes (masked_text mask values) sent waiting
 
-module _ (limits : Limits) (mask : Mask) where
-  -- A reader of records gives the records that are masked.
-  reads_records : ReadsAs (masking limits mask) (record_items limits.frame) held_of
-  reads_records = record {
-    records = readable limits.frame;
-    judged = value_laws limits mask;
-    accepted = accepted_facts limits mask;
-    item_of = λ bytes whole is. is;
-    fault_of = λ bytes cause ends. ends;
-    open_of = λ bytes is_open. is_open;
-  }
-
-  masks : (bytes : List ℕ) (messages : List Sent) → IsAccepted limits mask bytes messages
-      → Masks limits mask bytes (masked_text mask messages)
-  masks bytes messages accepted =
-      record { messages = messages; accepts = accepted; text_is = refl }
+masks : (limits : Limits) (mask : Mask) (bytes : List ℕ) (messages : List Sent)
+    → IsAccepted limits mask bytes messages → Masks limits mask bytes (masked_text mask messages)
+masks limits mask bytes messages accepted =
+    record { messages = messages; accepts = accepted; text_is = refl }
 
 module _ {R W : Type 0} (rules : MaskRules) (limits : Limits) (sound : AreSound limits)
     (source : Source R) (sink : Sink W) (start : R) (before : W) where
@@ -71,6 +71,11 @@ module _ {R W : Type 0} (rules : MaskRules) (limits : Limits) (sound : AreSound 
       Streams (masking limits mask) (Masks limits mask) (IsMaskedTo limits mask) source sink start
       after before end answer
 
+  abbrev pub Fails : R → W → Type 0
+  Fails after end =
+      HasFailedToWrite (masking limits mask) (Masks limits mask) (IsMaskedTo limits mask) source
+      sink start after before end
+
   -- Nothing has been read or written.
   pub given_up : HasGivenUp (masking limits mask) (Masks limits mask) (IsMaskedTo limits mask)
       source sink start start before before
@@ -79,135 +84,146 @@ module _ {R W : Type 0} (rules : MaskRules) (limits : Limits) (sound : AreSound 
       (Masks limits mask) (IsMaskedTo limits mask) (masks limits mask) promised refl source sink
       start before
 
-  abbrev pub Goes : R → W → Records RecordReading → ℕ → Type 0
-  Goes reader writer records written =
-      Going limits mask source sink start reader before writer
-      records written
+  abbrev pub Goes : R → W → Records RecordReading → ℕ → List ℕ → Type 0
+  Goes reader writer records written waiting =
+      Going limits mask source sink start reader before writer records written waiting
 
   pub none_read : (records : Records RecordReading)
       → IsAtStart (StandsForRecord limits.frame) limits.input records
-      → Goes start before records 0
-  none_read records is = record {
-    values = [];
-    stands = streams.none_written (masking limits mask) (record_items limits.frame) held_of
-        (reads_records limits mask) (StandsForRecord limits.frame) (masked_text mask)
-        (Masks limits mask) (IsMaskedTo limits mask) (masks limits mask) promised refl source sink
-        start before records is;
-    fits = fits_none limits mask;
-    count = refl;
-  }
+      → Goes start before records 0 []
+  none_read records is =
+      let judged = inputs.at_start (masking limits mask) (record_items limits.frame) held_of
+      (reads_records limits mask) (StandsForRecord limits.frame) source start records is in
+      record {
+        values = [];
+        judged = judged;
+        fits = fits_none limits mask;
+        count = refl;
+        sent = [];
+        went_out = nothing_written sink before;
+        waits = none_waiting source limits mask start start records [] judged;
+      }
 
   module _ (reader : R) (writer : W) (records : Records RecordReading) (written : ℕ)
-      (was : Goes reader writer records written) where
-    pub few_records : records.number < 2 ^ 63
-    few_records = streams.few_records (masking limits mask) (record_items limits.frame) held_of
-        (reads_records limits mask) (StandsForRecord limits.frame) (masked_text mask)
-        (Masks limits mask) (IsMaskedTo limits mask) (masks limits mask) promised refl source sink
-        start before reader writer records was.values was.stands
-        sound.input
-
-    pub few_given : source.given start < 2 ^ 62
-        → source.given reader + (records.pieces.limit - records.pieces.taken) < 2 ^ 63
-    few_given = streams.few_given (masking limits mask) (record_items limits.frame) held_of
-        (reads_records limits mask) (StandsForRecord limits.frame) (masked_text mask)
-        (Masks limits mask) (IsMaskedTo limits mask) (masks limits mask) promised refl source sink
-        start before reader writer records was.values was.stands
-        sound.input
-
-    pub few_read_failures : source.failures start < 2 ^ 62 → source.failures reader < 2 ^ 63
-    few_read_failures =
-        streams.few_read_failures (masking limits mask) (record_items limits.frame) held_of
-        (reads_records limits mask) (StandsForRecord limits.frame) (masked_text mask)
-        (Masks limits mask) (IsMaskedTo limits mask) (masks limits mask) promised refl source sink
-        start before reader writer records was.values was.stands
-
-    pub few_write_failures : sink.failures before < 2 ^ 62 → sink.failures writer < 2 ^ 63
-    few_write_failures few = let same = was.stands.written.no_failure in omega (arith, few, same)
-
-    pub short : written ≤ limits.input
-    short = let count = was.count in let most = was.fits.whole in omega (arith, count, most)
+      (waiting : List ℕ) (was : Goes reader writer records written waiting) where
+    -- where all that waits went out
+    all_out : (mid : W) → AllWritten sink writer mid waiting
+        → Streaming (masking limits mask) (StandsForRecord limits.frame) (masked_text mask) source
+        sink start reader before mid records was.values
+    all_out mid all = record {
+      going = was.judged;
+      written = subst (AllWritten sink before mid) (sym was.waits.text_is)
+          (all_then_all sink before writer mid was.sent waiting was.went_out all);
+    }
 
     module _ (new : Records RecordReading) (after : R) where
       abbrev pub Reads : Result (Option WholeRecord) Refused → Type 0
       Reads answer = ReadsNext (record_items limits.frame) (StandsForRecord limits.frame) source
           records new reader after answer
 
-      pub few_taken : (answer : Result (Option WholeRecord) Refused) → Reads answer
-          → source.given after ≤ source.given start + limits.input + 1
-      few_taken = streams.few_taken (masking limits mask) (record_items limits.frame) held_of
-          (reads_records limits mask) (StandsForRecord limits.frame) (masked_text mask)
-          (Masks limits mask) (IsMaskedTo limits mask) (masks limits mask) promised refl source sink
-          start before reader writer records was.values was.stands
-          new after
+      -- what waits did not go out, and no record is to be written behind it
+      failed : (answer : Result (Option WholeRecord) Refused) → Reads answer → (end : W)
+          → FrontWritten sink writer end waiting → Fails after end
+      failed answer read end front =
+          failed_inside source sink limits mask start after before writer end
+          (was.judged.bytes ++ read.more) was.sent waiting read.stop
+          (came_on source start reader after was.judged.bytes read.more read.stop was.judged.came
+          read.came)
+          was.went_out front
+          (stops_before source limits mask start reader records was.values was.judged was.sent
+          waiting was.waits new after answer read front.count front.within)
+
+      answered : (mid end : W) (because : Refused) (result : Result (Unit {0}) Refused)
+          → Answers sink mid end (Err because) result → AnswersRefusal sink mid end because result
+      answered mid end Memory result given = given
+      answered mid end because result given = given
 
       pub not_read : (because : Refused) → Reads (Err because) → (end : W)
           (result : Result (Unit {0}) Refused)
-          → AnswersRefusal sink writer end because result → Answer after end result
-      not_read = streams.not_read (masking limits mask) (record_items limits.frame) held_of
+          → Ends sink waiting writer end (Err because) result → Answer after end result
+      not_read because read end result (inl (mid, all, given)) =
+          streams.not_read (masking limits mask) (record_items limits.frame) held_of
           (reads_records limits mask) (StandsForRecord limits.frame) (masked_text mask)
           (Masks limits mask) (IsMaskedTo limits mask) (masks limits mask) promised refl source sink
-          start before reader writer records was.values was.stands
-          new after
+          start before reader mid records was.values (all_out mid all) new after because read end
+          result (answered mid end because result given)
+      not_read because read end result (inr (front, is)) =
+          subst (Answer after end) (sym is) (failed (Err because) read end front)
 
       pub all_masked : Reads (Ok None) → (end : W) (result : Result (Unit {0}) Refused)
-          → Flushes sink writer end (Ok tt) result → Answer after end result
-      all_masked = streams.streamed (masking limits mask) (record_items limits.frame) held_of
+          → Ends sink waiting writer end (Ok tt) result → Answer after end result
+      all_masked read end result (inl (mid, all, given)) =
+          streams.streamed (masking limits mask) (record_items limits.frame) held_of
           (reads_records limits mask) (StandsForRecord limits.frame) (masked_text mask)
           (Masks limits mask) (IsMaskedTo limits mask) (masks limits mask) promised refl source sink
-          start before reader writer records was.values was.stands
-          new after
+          start before reader mid records was.values (all_out mid all) new after read end result
+          given
+      all_masked read end result (inr (front, is)) =
+          subst (Answer after end) (sym is) (failed (Ok None) read end front)
 
       module _ (whole : WholeRecord) (read : Reads (Ok (Some whole))) where
         pub fewer : (new.pieces.limit - new.pieces.taken) + length new.pieces.unread
             < (records.pieces.limit - records.pieces.taken) + length records.pieces.unread
-        fewer = streams.fewer (masking limits mask) (record_items limits.frame) held_of
-            (reads_records limits mask) (StandsForRecord limits.frame) (masked_text mask)
-            (Masks limits mask) (IsMaskedTo limits mask) (masks limits mask) promised refl source
-            sink start before reader writer records was.values
-            was.stands new after whole read
+        fewer = inputs.fewer_left (masking limits mask) (record_items limits.frame) held_of
+            (reads_records limits mask) (StandsForRecord limits.frame) source start reader records
+            was.values was.judged new after whole read
 
-        pub not_masked : (because : Refused) (old text : List ℕ)
-            → Masked limits mask was.values (held_of whole) records.number old text (Err because)
-            → (end : W) (result : Result (Unit {0}) Refused)
-            → AnswersRefusal sink writer end because result → Answer after end result
-        not_masked because old text =
+        pub not_masked : (because : Refused) (longer : List ℕ)
+            → Masked limits mask was.values (held_of whole) records.number waiting longer
+            (Err because) → (end : W) (result : Result (Unit {0}) Refused)
+            → Ends sink waiting writer end (Err because) result → Answer after end result
+        not_masked because longer is end result (inl (mid, all, given)) =
             streams.not_taken (masking limits mask) (record_items limits.frame) held_of
             (reads_records limits mask) (StandsForRecord limits.frame) (masked_text mask)
             (Masks limits mask) (IsMaskedTo limits mask) (masks limits mask) promised refl source
-            sink start before reader writer records was.values
-            was.stands new after whole read because
+            sink start before reader mid records was.values (all_out mid all) new after whole read
+            because is end result (answered mid end because result given)
+        not_masked because longer is end result (inr (front, same)) =
+            subst (Answer after end) (sym same) (failed (Ok (Some whole)) read end front)
 
-        -- what is left of the record was made, and this is sent
-        module _ (next : ℕ) (old text sent : List ℕ)
-            (taken : Masked limits mask was.values (held_of whole) records.number old text
-            (Ok next))
-            (none : old ≡ []) (same : sent ≡ text) where
-          is_longer : sent ≡ taken.longer
-          is_longer = same ∙ taken.appended ∙ ap (λ t. t ++ taken.longer) none
+        -- what is left of the record was appended to what waits
+        module _ (next : ℕ) (longer : List ℕ)
+            (is : Masked limits mask was.values (held_of whole) records.number waiting longer
+            (Ok next)) where
+          abbrev judged_next : Judged (masking limits mask) (StandsForRecord limits.frame) source
+              start after new (was.values ++ is.message ∷ [])
+          judged_next = on source limits mask start reader records was.values was.judged was.sent
+              waiting was.waits new after whole read next longer is
 
-          pub written_on : (end : W) → AllWritten sink writer end sent
-              → Goes after end new next
+          pub written_on : (end : W) → AllWritten sink writer end longer
+              → Goes after end new next []
           written_on end all = record {
-            values = was.values ++ taken.message ∷ [];
-            stands = streams.written_on (masking limits mask) (record_items limits.frame) held_of
-                (reads_records limits mask) (StandsForRecord limits.frame) (masked_text mask)
-                (Masks limits mask) (IsMaskedTo limits mask) (masks limits mask) promised refl
-                source sink start before reader writer records was.values
-                was.stands new after whole read taken.message taken.is_next taken.longer
-                taken.text_is end
-                (subst (AllWritten sink writer end) is_longer all);
-            fits = taken.is_next.fits;
-            count = taken.count;
+            values = was.values ++ is.message ∷ [];
+            judged = judged_next;
+            fits = is.is_next.fits;
+            count = is.count;
+            sent = masked_text mask (was.values ++ is.message ∷ []);
+            went_out = subst (AllWritten sink before end)
+                (sym (longer_is source limits mask start reader records was.values was.judged
+                was.sent waiting was.waits new after whole read next longer is))
+                (all_then_all sink before writer end was.sent longer was.went_out all);
+            waits = none_waiting source limits mask start after new
+                (was.values ++ is.message ∷ []) judged_next;
           }
 
-          pub failed_to_write : (end : W) → FrontWritten sink writer end sent
-              → HasFailedToWrite (masking limits mask) (Masks limits mask) (IsMaskedTo limits mask)
-              source sink start after before end
+          pub waited_on : IsAtHand limits mask new → Goes after writer new next longer
+          waited_on has = record {
+            values = was.values ++ is.message ∷ [];
+            judged = judged_next;
+            fits = is.is_next.fits;
+            count = is.count;
+            sent = was.sent;
+            went_out = was.went_out;
+            waits = waits_on source limits mask start reader records was.values was.judged was.sent
+                waiting was.waits new after whole read next longer is has;
+          }
+
+          pub failed_to_write : (end : W) → FrontWritten sink writer end longer → Fails after end
           failed_to_write end front =
-              streams.failed_to_write (masking limits mask) (record_items limits.frame) held_of
-              (reads_records limits mask) (StandsForRecord limits.frame) (masked_text mask)
-              (Masks limits mask) (IsMaskedTo limits mask) (masks limits mask) promised refl source
-              sink start before reader writer records was.values
-              was.stands new after whole read taken.message taken.is_next taken.longer
-              taken.text_is end
-              (subst (FrontWritten sink writer end) is_longer front)
+              failed_inside source sink limits mask start after before writer end
+              (was.judged.bytes ++ read.more) was.sent longer read.stop
+              (came_on source start reader after was.judged.bytes read.more read.stop
+              was.judged.came read.came)
+              was.went_out front
+              (stops_behind source limits mask start reader records was.values was.judged was.sent
+              waiting was.waits new after whole read next longer is front.count front.within)

@@ -1,5 +1,5 @@
 //! Masks recordings.
-ghost use Rattle.std.specs.Prelude.{◌≡◌, ◌+◌, ◌<◌, ◌≤◌, ◌^◌, List, length, true};
+ghost use Rattle.std.specs.Prelude.{◌≡◌, ◌+◌, ◌<◌, ◌≤◌, ◌^◌, List, length, true, OnErr};
 ghost use Rattle.dap_tree.specs.Doc.{is_sound};
 ghost use Rattle.dap_tree.specs.View.{view};
 ghost use Rattle.dap_message.specs.Message.{Sent};
@@ -7,9 +7,10 @@ ghost use Rattle.dap_mask.specs.KeptRules.{mask_of};
 ghost use Rattle.dap_input.specs.ItemReading.{StandsForRecord};
 ghost use Rattle.dap_input.specs.Limits.{AreSound};
 ghost use Rattle.dap_input.specs.RecordSteps.{IsAtStart};
-ghost use Rattle.dap_input.specs.Streaming.{AnswersRefusal, Flushes, Streams};
+ghost use Rattle.dap_input.specs.Streaming.{Flushes, Streams};
 ghost use Rattle.dap_normal.specs.Accepting.{Fits};
 ghost use Rattle.dap_normal.specs.JudgingSteps.{held_of};
+ghost use Rattle.dap_normal.specs.Streaming.{Ends};
 ghost use Rattle.dap_mask_input.specs.Masking.{left_of, masked_text, masking};
 ghost use Rattle.dap_mask_input.specs.MaskedRecordings.{IsMaskedTo, Masks};
 ghost use Rattle.dap_mask_input.specs.MaskingSteps.{Masked, Writes};
@@ -21,6 +22,9 @@ use dap_mask::{MaskRules, read_masked};
 use dap_recording::{Record, RecordReader, Side, write_record};
 use dap_tree::{Scratch, Tree, TreeFault, write_tree_to};
 use std::alloc::Global;
+
+/// How long a text grows before it is written, though the next record is at hand.
+const PIECE: usize = 65_536;
 
 /// Room that is kept from record to record.
 #[derive(Drop)]
@@ -45,7 +49,9 @@ fn append_record(
     requires sound { AreSound limits }
     requires short { written ≤ limits.input }
     requires tree { is_sound (view tree.now) ≡ true }
-    ensures { Writes limits side (view tree.now) number written out.old.items out.new.items result }
+    ensures writes { Writes limits side (view tree.now) number written out.old.items out.new.items
+        result }
+    ensures kept { OnErr result (out.new.items ≡ out.old.items) }
 {
     content.clear();
     let Ok(()) = write_tree_to(alloc, tree, content) else {
@@ -59,13 +65,15 @@ fn append_record(
     }
     let after = written + (out.len() - before) as u64;
     if limits.input < after {
+        out.truncate(before);
         return Err(Refused::Grew(number));
     }
     Ok(after)
 }
 
 /// Appends the record of what the rules leave of a record, behind a text that has so many bytes,
-/// and answers how many it then has. Nothing is left of an event that they leave out.
+/// and answers how many it then has. Nothing is left of an event that they leave out. On an error
+/// nothing is appended.
 fn append_masked(
     alloc: Global,
     rules: &MaskRules,
@@ -78,10 +86,11 @@ fn append_masked(
 ) -> Result<u64, Refused>
     requires sound { AreSound limits }
     requires short { written ≤ limits.input }
-    ensures { (messages : List Sent) → Fits limits (left_of (mask_of rules.now) messages)
+    ensures masked { (messages : List Sent) → Fits limits (left_of (mask_of rules.now) messages)
         → written ≡ length (masked_text (mask_of rules.now) messages)
         → Masked limits (mask_of rules.now) messages (held_of whole.now) number out.old.items
         out.new.items result }
+    ensures kept { OnErr result (out.new.items ≡ out.old.items) }
 {
     match read_masked(alloc, whole.content.as_slice(), rules, &mut room.scratch) {
         Ok(Some(tree)) => {
@@ -114,18 +123,23 @@ fn flushed<W: Sink>(writer: &mut W, answer: Result<(), Refused>) -> Result<(), R
     }
 }
 
-/// Answers a refusal once all that was written is flushed; at once, where memory was refused.
-fn refused<W: Sink>(writer: &mut W, because: Refused) -> Result<(), Refused>
-    requires { W.failures writer.old < 2 ^ 63 }
-    ensures { AnswersRefusal W.Sink writer.old writer.new because result }
+/// Writes the text that waits, and gives the answer: where memory was refused, at once, and else
+/// once all that was written is flushed.
+fn ended<W: Sink>(writer: &mut W, text: &[u8], answer: Result<(), Refused>) -> Result<(), Refused>
+    requires { W.failures writer.old < 2 ^ 62 }
+    ensures { Ends W.Sink text.now writer.old writer.new answer result }
 {
-    match because {
-        Refused::Memory => Err(Refused::Memory),
-        _ => flushed(writer, Err(because)),
+    if write_all(writer, text).is_err() {
+        return Err(Refused::WriteFault);
+    }
+    match answer {
+        Err(Refused::Memory) => Err(Refused::Memory),
+        _ => flushed(writer, answer),
     }
 }
 
-/// Writes what is left of each record of an input, of which nothing has been read.
+/// Writes what is left of each record of an input, of which nothing has been read. What is left of
+/// records that came together goes out together, before more is read.
 fn mask_records<R: Source, W: Sink>(
     alloc: Global,
     rules: &MaskRules,
@@ -150,24 +164,26 @@ fn mask_records<R: Source, W: Sink>(
     };
     let mut text = Vec::new(alloc);
     let mut written = 0;
-    loop {
-        text.clear();
+    'records: loop {
         let number = records.number();
         let whole = match records.next(reader) {
             Ok(Some(whole)) => whole,
-            Ok(None) => return flushed(writer, Ok(())),
-            Err(because) => return refused(writer, because),
+            Ok(None) => return ended(writer, text.as_slice(), Ok(())),
+            Err(because) => return ended(writer, text.as_slice(), Err(because)),
         };
         written = match append_masked(
             alloc, rules, number, &whole, written, limits, &mut room, &mut text,
         ) {
             Ok(after) => after,
-            Err(because) => return refused(writer, because),
+            Err(because) => return ended(writer, text.as_slice(), Err(because)),
         };
-        if write_all(writer, text.as_slice()).is_err() {
-            return Err(Refused::WriteFault);
-        }
         records.recycle(whole);
+        if text.len() >= PIECE || !records.has_next() {
+            if write_all(writer, text.as_slice()).is_err() {
+                return Err(Refused::WriteFault);
+            }
+            text.clear();
+        }
     }
 }
 
@@ -177,10 +193,11 @@ fn mask_records<R: Source, W: Sink>(
 /// rules leave out are not written. It asks nothing of a message but that its content is JSON whose
 /// numbers are whole behind the masks.
 ///
-/// One record is read, judged and written before the next one: at most 65,536 bytes are read past
-/// it, and at most one byte past `limits.input`. Where a record is refused, what is left of those
-/// before it has been written. What was written is flushed at the end, also before a refusal is
-/// answered. Records are counted from 1 in the order of the input, those left out too.
+/// At most 65,536 bytes are read past a record before it is written, and at most one byte past
+/// `limits.input`: what is left of records that came together goes out together. Where a record is
+/// refused, what is left of those before it has been written. What was written is flushed at the
+/// end, also before a refusal is answered. Records are counted from 1 in the order of the input,
+/// those left out too.
 ///
 /// # Errors
 ///

@@ -3,11 +3,11 @@ use Rattle.dap_mask.specs.KeptRules.{mask_of}
 use Rattle.dap_mask_input.proofs.MaskingLoop.{Going}
 use Rattle.dap_mask_input.proofs.masking.mask_records.Given as goal
 
-abbrev pub invariant-loop-whole : goal.invariant-loop-whole
-invariant-loop-whole g l =
+abbrev pub invariant-records : goal.invariant-records
+invariant-records g l =
     Going l.fn.limits (mask_of l.fn.rules) g.R.Source g.W.Sink l.fn.reader l.reader l.fn.writer
-    l.writer l.records l.written
+    l.writer l.records l.written l.text.items
 
-abbrev pub decreases-loop-whole : goal.decreases-loop-whole
-decreases-loop-whole g l =
+abbrev pub decreases-records : goal.decreases-records
+decreases-records g l =
     (l.records.pieces.limit - l.records.pieces.taken) + length l.records.pieces.unread

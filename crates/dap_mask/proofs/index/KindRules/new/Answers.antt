@@ -1,5 +1,5 @@
-use Rattle.std.proofs.Common.{None, ap, ◌∙◌}
-use Rattle.dap_mask.specs.Index.{groups, positions}
+use Rattle.std.proofs.Common.{None, ap, subst, ◌∙◌}
+use Rattle.dap_mask.specs.Index.{AreRight, HasAsked, positions}
 use Rattle.dap_mask.specs.ListedRules.{listed_changes}
 use Rattle.dap_mask.specs.declared.index.KindRules.{KindRules}
 use Rattle.dap_mask.proofs.Indexed.{index_made}
@@ -10,5 +10,6 @@ returns c =
     let made : KindRules = record { named = c.in_ok-named.named; any = c.in_ok-any.any } in
     let same = c.changes-rules.ensures in
     index_made c.args.kind (listed_changes c.args.list.now) made
-    (c.in_ok-named.ensures ∙ ap (groups c.args.kind) same)
+    (subst (λ rs. AreRight c.args.kind rs made.named) same c.in_ok-named.ensures.right)
+    (subst (λ rs. HasAsked c.args.kind rs made.named) same c.in_ok-named.ensures.asked)
     (c.in_ok-any.ensures ∙ ap (positions c.args.kind None) same)

@@ -1,8 +1,6 @@
 use Rattle.std.proofs.Common.{option_map, sym, ap, ◌∙◌}
-use Rattle.dap_profile.specs.declared.profile.Kind.TheVariants.{Request, Response, Event}
 use Rattle.dap_mask.specs.Index.{positions}
 use Rattle.dap_mask.specs.KeptRules.{changes_of}
-use Rattle.dap_mask.proofs.Indexed.{index_places}
 use Rattle.dap_mask.proofs.mask_rules.MaskRules.places.Goals as goal
 
 pub returns-in-Request : goal.returns-in-Request
@@ -10,7 +8,7 @@ returns-in-Request c =
     let name = option_map (λ s. s.now) c.args.name in
     let rules = changes_of c.args.self.now in
     c.places.ensures
-    ∙ index_places Request rules c.args.self.now.requests name c.args.self.now.requests_found
+    ∙ c.args.self.now.requests_found name
     ∙ ap (λ k. positions k name rules) (sym c.in-Request.is)
 
 pub returns-in-Response : goal.returns-in-Response
@@ -18,7 +16,7 @@ returns-in-Response c =
     let name = option_map (λ s. s.now) c.args.name in
     let rules = changes_of c.args.self.now in
     c.places-in-Response.ensures
-    ∙ index_places Response rules c.args.self.now.responses name c.args.self.now.responses_found
+    ∙ c.args.self.now.responses_found name
     ∙ ap (λ k. positions k name rules) (sym c.in-Response.is)
 
 pub returns-in-Event : goal.returns-in-Event
@@ -26,5 +24,5 @@ returns-in-Event c =
     let name = option_map (λ s. s.now) c.args.name in
     let rules = changes_of c.args.self.now in
     c.places-in-Event.ensures
-    ∙ index_places Event rules c.args.self.now.events name c.args.self.now.events_found
+    ∙ c.args.self.now.events_found name
     ∙ ap (λ k. positions k name rules) (sym c.in-Event.is)
