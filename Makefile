@@ -17,7 +17,7 @@ SHELL := bash
 .SHELLFLAGS := -o pipefail -c
 
 # The crates that the program is made of, and all that they are made from.
-CRATES := $(filter-out callers first_look layer_tests conformance fault_injection,$(shell sed -n 's/^\([a-z0-9_]*\):.*/\1/p' crates.txt))
+CRATES := $(filter-out callers first_look reading_alone layer_tests conformance fault_injection,$(shell sed -n 's/^\([a-z0-9_]*\):.*/\1/p' crates.txt))
 SOURCES := crates.txt $(shell find $(addprefix crates/,$(CRATES)) -type f -not -path '*/out/*' -not -path '*/must-fail/*')
 
 .PHONY: all test try bench dist install uninstall clean need-rt need-python need-commit
@@ -48,7 +48,12 @@ test: need-rt need-python
 try: need-python $(if $(wildcard bin/dapnorm),,need-rt)
 	@python3 scripts/first_look.py $(wildcard bin/dapnorm)
 
-bench: bin/dapnorm need-python
+# What reading alone takes, beside which the figures stand.
+bin/reading_alone: $(wildcard crates/reading_alone/src/*) bin/dapnorm
+	@cd crates/reading_alone && rt run < stdin > /dev/null
+	@cp crates/reading_alone/out/reading_alone bin/reading_alone
+
+bench: bin/dapnorm bin/reading_alone need-python
 	@echo "Measures each command on generated input, beside short Python scripts: some minutes."
 	@python3 scripts/bench.py
 	@python3 scripts/costs.py

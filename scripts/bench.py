@@ -11,6 +11,7 @@ from one_direction import records
 
 TOP = os.path.dirname(os.path.dirname(os.path.abspath(__file__)))
 PROGRAM = os.path.join(TOP, "bin", "dapnorm")
+READING_ALONE = os.path.join(TOP, "bin", "reading_alone")
 SIZE = 50_000_000
 SESSION_SIZES = (1_000_000, 10_000_000, 100_000_000)
 LARGE_SIZES = (10_000_000, 100_000_000)
@@ -108,6 +109,15 @@ def measure_check(name, path, size, records, requests):
     )
 
 
+def read_alone(path, size, records):
+    """What no program can be faster than that reads such a recording: its records alone, and with each content read as JSON."""
+    for name, words in (("records alone", []), ("records and JSON", ["json"])):
+        seconds, memory, digest = measure([READING_ALONE, *words], path)
+        if digest != hashlib.sha256(f"{records}\n".encode()).hexdigest():
+            sys.exit(f"{name}: not {records} records were read")
+        print(f"{name:18} {seconds:6.2f} s {size / 1e6 / seconds:7.1f} MB/s, where the input is held and nothing is kept of it: the limit")
+
+
 def check_requests(folder):
     path = os.path.join(folder, "session")
     print(f"dapnorm check, the shortest of {ROUNDS} runs each")
@@ -120,6 +130,7 @@ def normalise_sessions(folder):
     for wanted in SESSION_SIZES:
         size, records, requests = generate_session(path, wanted)
         print(f"a session of {size / 1e6:.1f} MB in {records} records, the shortest of {ROUNDS} runs each")
+        read_alone(path, size, records)
         measure_check("dapnorm check", path, size, records, requests)
         beside_script("normalise", path, size)
 

@@ -1,0 +1,6 @@
+-- What the loop over the rest of a recording goes down by.
+use Rattle.std.proofs.Common.{length}
+use Rattle.reading_alone.proofs.count.Given as goal
+
+abbrev pub decreases-loop-rest : goal.decreases-loop-rest
+decreases-loop-rest l = length l.rest
