@@ -11,7 +11,7 @@ use crate::growths::{tells_memory_or, was_wanted};
 use crate::recordings::{ANSWERED_TWICE, Line, recording};
 use crate::runs::{Compared, comparison_of, verdict_on};
 use dap_message::{Message, MessageFault, Side, typed};
-use dap_rename::{NameFault, Names, Renaming};
+use dap_rename::{Mode, NameFault, Names, Renaming};
 use dap_tree::read_tree;
 use dapnorm::{CompareRefused, MemorySink, MemorySource, Refused, Rule, Which};
 use fault_injection::{refuse_growth, was_refused};
@@ -120,7 +120,7 @@ fn pairs_turn(rt: &impl Abort, alloc: Global, names: &Names<IndexTable>, turn: u
 
 /// The names of a request.
 fn request_names(rt: &impl Abort, alloc: Global) -> Names<IndexTable> {
-    let mut names = Names::new(alloc, index_tables(alloc, 9));
+    let mut names = Names::new(alloc, index_tables(alloc, 9), Mode::Whole);
     let request = request(alloc).expect(rt, "no message");
     assert!(rt; names.rename(request).is_ok());
     names

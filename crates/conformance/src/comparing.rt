@@ -8,6 +8,7 @@ use crate::recordings::{
 };
 use crate::runs::{Compared, asks_memory_compare, tells_both, verdict_on};
 use dap_message::{Message, MessageFault, Side, typed};
+use dap_rename::Mode;
 use dap_tree::read_tree;
 use dapnorm::{CompareRefused, Refused, Rule, Verdict, Which};
 use std::alloc::Global;
@@ -150,7 +151,7 @@ fn are_carried(rt: &impl Abort, alloc: Global, a: &[Line], b: &[Line]) {
     let to = messages(rt, alloc, b);
     match answer {
         Ok(Verdict::Same(renaming)) => {
-            assert!(rt; renaming.carries(from.as_slice(), to.as_slice()))
+            assert!(rt; renaming.carries(from.as_slice(), to.as_slice(), Mode::Whole))
         }
         _ => assert!(rt; false, "not the same"),
     }

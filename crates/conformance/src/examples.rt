@@ -53,13 +53,5 @@ pub fn index_tables(alloc: Global, ids: usize) -> Tables<IndexTable>
     requires { ids < 2 ^ 31 }
     ensures { AreEmpty index_numbers result }
 {
-    let hasher = BuildHasherDefault::new();
-    Tables {
-        client_seq: IndexNames::new(alloc, ids, hasher),
-        adapter_seq: IndexNames::new(alloc, ids, hasher),
-        frame: IndexNames::new(alloc, ids, hasher),
-        reference: IndexNames::new(alloc, ids, hasher),
-        thread: IndexNames::new(alloc, ids, hasher),
-        breakpoint: IndexNames::new(alloc, ids, hasher),
-    }
+    Tables::indexed(alloc, ids, BuildHasherDefault::new())
 }

@@ -14,14 +14,7 @@ pub fn plain(alloc: Global, limits: Limits) -> Tables<PlainNames>
     requires { AreSound limits }
     ensures { AreReady plain_numbers plain_limit limits result }
 {
-    Tables {
-        client_seq: PlainNames::new(alloc, limits.ids),
-        adapter_seq: PlainNames::new(alloc, limits.ids),
-        frame: PlainNames::new(alloc, limits.ids),
-        reference: PlainNames::new(alloc, limits.ids),
-        thread: PlainNames::new(alloc, limits.ids),
-        breakpoint: PlainNames::new(alloc, limits.ids),
-    }
+    Tables::plain(alloc, limits.ids)
 }
 
 /// Tables over index sets with that hasher.
@@ -33,12 +26,5 @@ pub fn indexed(
     requires { AreSound limits }
     ensures { AreReady index_numbers index_limit limits result }
 {
-    Tables {
-        client_seq: IndexNames::new(alloc, limits.ids, hasher),
-        adapter_seq: IndexNames::new(alloc, limits.ids, hasher),
-        frame: IndexNames::new(alloc, limits.ids, hasher),
-        reference: IndexNames::new(alloc, limits.ids, hasher),
-        thread: IndexNames::new(alloc, limits.ids, hasher),
-        breakpoint: IndexNames::new(alloc, limits.ids, hasher),
-    }
+    Tables::indexed(alloc, limits.ids, hasher)
 }

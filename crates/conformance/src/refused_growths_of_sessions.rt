@@ -13,7 +13,7 @@ use dap_message::{Message, MessageFault, Side, typed};
 use dap_recording::{
     FedRecord, Record, RecordCause, RecordReader, Recorder, RecorderFault, write_record,
 };
-use dap_rename::{NameFault, Names, SORTS};
+use dap_rename::{Mode, NameFault, Names, SORTS};
 use dap_session::{Session, SessionFault};
 use dap_tree::{Sort, read_tree};
 use fault_injection::{refuse_growth, was_refused};
@@ -270,7 +270,7 @@ fn has_content(alloc: Global, message: &Message, text: &str) -> bool {
 /// Asks for the renamed message with this growth refused, of names that are empty again where it
 /// was. Whether it was.
 fn renames(rt: &impl Abort, alloc: Global, turn: u16) -> bool {
-    let mut names = Names::new(alloc, index_tables(alloc, 4));
+    let mut names = Names::new(alloc, index_tables(alloc, 4), Mode::Whole);
     let first = message(rt, alloc, Side::Adapter, SCOPES);
     let again = message(rt, alloc, Side::Adapter, SCOPES);
     refuse_growth(alloc, turn);
@@ -292,6 +292,46 @@ fn renames(rt: &impl Abort, alloc: Global, turn: u16) -> bool {
 fn names_are_refused_in_turn(rt: HostRuntime) {
     for turn in 1..1000u16 {
         if !renames(&rt, rt.alloc(), turn) {
+            break;
+        }
+    }
+}
+
+/// An event behind which names begin again.
+const STOPPED: &str =
+    "{\"body\":{\"reason\":\"step\"},\"event\":\"stopped\",\"seq\":2,\"type\":\"event\"}";
+
+/// Whether the names have so many stops, and so many references in their present class.
+fn have_counts(names: &Names<IndexTable>, stops: u64, references: usize) -> bool {
+    names.stops() == stops && names.len(Sort::Reference) == references
+}
+
+/// Asks that a stop is renamed with this growth refused, or the names are as before. Whether it was
+/// refused.
+fn begins_again(rt: &impl Abort, alloc: Global, turn: u16) -> bool {
+    let mut names = Names::new(alloc, index_tables(alloc, 4), Mode::PerStop);
+    let scopes = message(rt, alloc, Side::Adapter, SCOPES);
+    assert!(rt; renamed(&mut names, scopes).is_ok());
+    let first = message(rt, alloc, Side::Adapter, STOPPED);
+    let again = message(rt, alloc, Side::Adapter, STOPPED);
+    refuse_growth(alloc, turn);
+    let answer = renamed(&mut names, first);
+    let is_refused = was_refused(alloc);
+    if let Err(fault) = answer {
+        assert!(rt; fault == NameFault::Memory);
+        was_wanted(rt, is_refused, turn);
+        assert!(rt; have_counts(&names, 0, 2));
+        assert!(rt; renamed(&mut names, again).is_ok());
+    }
+    assert!(rt; have_counts(&names, 1, 0));
+    assert!(rt; names.len_at(Sort::Reference, 0) == 2);
+    is_refused
+}
+
+#[test]
+fn stops_are_refused_in_turn(rt: HostRuntime) {
+    for turn in 1..1000u16 {
+        if !begins_again(&rt, rt.alloc(), turn) {
             break;
         }
     }

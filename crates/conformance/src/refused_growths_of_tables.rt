@@ -76,11 +76,13 @@ const PAIRS: [([Pair; 2], Option<PairFault>); 4] = [
         [
             Pair {
                 sort: Sort::Frame,
+                stop: 0,
                 from: 5,
                 to: 6,
             },
             Pair {
                 sort: Sort::Frame,
+                stop: 0,
                 from: 6,
                 to: 5,
             },
@@ -91,11 +93,13 @@ const PAIRS: [([Pair; 2], Option<PairFault>); 4] = [
         [
             Pair {
                 sort: Sort::Frame,
+                stop: 0,
                 from: 5,
                 to: 6,
             },
             Pair {
                 sort: Sort::Frame,
+                stop: 0,
                 from: 5,
                 to: 7,
             },
@@ -106,11 +110,13 @@ const PAIRS: [([Pair; 2], Option<PairFault>); 4] = [
         [
             Pair {
                 sort: Sort::Frame,
+                stop: 0,
                 from: 5,
                 to: 6,
             },
             Pair {
                 sort: Sort::Frame,
+                stop: 0,
                 from: 7,
                 to: 6,
             },
@@ -121,11 +127,13 @@ const PAIRS: [([Pair; 2], Option<PairFault>); 4] = [
         [
             Pair {
                 sort: Sort::Reference,
+                stop: 0,
                 from: 0,
                 to: 0,
             },
             Pair {
                 sort: Sort::Frame,
+                stop: 0,
                 from: 5,
                 to: 6,
             },

@@ -106,7 +106,7 @@ module _ (limits : Limits) where
 
   pub both_have_ended : (x y : Input) (of_x of_y : List Sent) → IsTaken (accepting limits) x of_x
       → IsTaken (accepting limits) y of_y → AreSame in_whole of_x of_y
-      → IsRecordingVerdict limits x y (are_same (equal_places of_x of_y))
+      → IsRecordingVerdict limits x y (are_same (equal_places in_whole of_x of_y))
   both_have_ended x y of_x of_y taken_x taken_y are =
       (record { of_a = of_x; of_b = of_y; taken_a = taken_x; taken_b = taken_y; same = are }, refl)
 

@@ -10,18 +10,17 @@ use Rattle.dap_device.specs.Pieces.{HasComeSoFar}
 use Rattle.dap_device.specs.declared.reading.Stop.{Stop}
 use Rattle.dap_device.specs.declared.reading.Stop.TheVariants.{End}
 use Rattle.dap_message.specs.Message.{Sent}
-use Rattle.dap_tree.specs.declared.sort.Sort.{Sort}
-use Rattle.dap_rename.specs.Messages.{AreSame, IsNormal, class_after, in_whole, equal_places}
-use Rattle.dap_rename.specs.Messages.{numbers_of_class, stops_after}
-use Rattle.dap_rename.specs.Names.{HaveEqualCounts, StandFor, numbers_in}
-use Rattle.dap_rename.proofs.AllSorts.{each_sort}
+use Rattle.dap_rename.specs.Messages.{AreSame, IsNormal, in_whole, equal_places}
+use Rattle.dap_rename.specs.Modes.{stop_in}
+use Rattle.dap_rename.specs.Names.{HaveEqualCounts, StandFor, StandWith, mode_of}
+use Rattle.dap_rename.specs.declared.mode.Mode.TheVariants.{Whole}
 use Rattle.dap_rename.specs.Pairs.{entries}
 use Rattle.dap_rename.specs.Renaming.{pairs_of}
 use Rattle.dap_rename.specs.declared.renaming.Renaming.{Renaming}
-use Rattle.dap_rename.proofs.NormalForms.{same_counts}
+use Rattle.dap_rename.proofs.NormalForms.{same_counts, same_stops, whole_is_told}
 use Rattle.dap_rename.proofs.Sameness.{normal_is_complete}
-use Rattle.dap_rename.proofs.TableContents.{no_stops}
 use Rattle.dap_input.specs.declared.limits.Limits.{Limits}
+use Rattle.dap_normal.specs.declared.judging.Judge.{Judge}
 use Rattle.dap_normal.specs.declared.normal_records.NormalRecords.{NormalRecords}
 use Rattle.dap_input.specs.declared.refused.Refused.{Refused}
 use Rattle.dap_input.specs.declared.refused.Refused.TheVariants as why
@@ -426,30 +425,49 @@ module _ {T R S : Type 0} {numbers : T → List ℤ} {table_limit : T → ℕ} (
         absurd (true≢false (sym wrong.0))
 
     module _ (end_a : Ended_a) (end_b : Ended_b) where
-      pub names_a : StandFor numbers new_a.judge.names a.messages
-      names_a = subst (λ judge. StandFor numbers judge.names a.messages) (sym end_a.judge_is)
-          a.stands.stands.names
+      pub names_a : StandFor numbers table_limit new_a.judge.names a.messages
+      names_a =
+          subst (λ judge. StandFor numbers table_limit judge.names a.messages)
+          (sym end_a.judge_is) a.stands.stands.names
 
-      pub names_b : StandFor numbers new_b.judge.names b.messages
-      names_b = subst (λ judge. StandFor numbers judge.names b.messages) (sym end_b.judge_is)
-          b.stands.stands.names
+      pub names_b : StandFor numbers table_limit new_b.judge.names b.messages
+      names_b =
+          subst (λ judge. StandFor numbers table_limit judge.names b.messages)
+          (sym end_b.judge_is) b.stands.stands.names
 
-      one_count : (s : Sort)
-          → length (numbers_in numbers new_a.judge.names s)
-          ≡ length (numbers_in numbers new_b.judge.names s)
-      one_count s =
-          ap length (names_a s)
-          ∙ ap (λ k. length (numbers_of_class in_whole (class_after k s) a.messages))
-          (no_stops a.messages ∙ sym (no_stops b.messages))
-          ∙ same_counts in_whole a.messages b.messages are
-          (class_after (stops_after in_whole 0 b.messages) s)
-          ∙ sym (ap length (names_b s))
+      mode_a : mode_of new_a.judge.names ≡ Whole
+      mode_a =
+          subst (λ (judge : Judge T). mode_of judge.names ≡ Whole) (sym end_a.judge_is)
+          a.stands.stands.mode
+
+      mode_b : mode_of new_b.judge.names ≡ Whole
+      mode_b =
+          subst (λ (judge : Judge T). mode_of judge.names ≡ Whole) (sym end_b.judge_is)
+          b.stands.stands.mode
+
+      stand_a : StandWith in_whole numbers table_limit new_a.judge.names a.messages
+      stand_a =
+          subst (λ mode. StandWith (stop_in mode) numbers table_limit new_a.judge.names a.messages)
+          mode_a names_a
+
+      stand_b : StandWith in_whole numbers table_limit new_b.judge.names b.messages
+      stand_b =
+          subst (λ mode. StandWith (stop_in mode) numbers table_limit new_b.judge.names b.messages)
+          mode_b names_b
 
       pub equal_counts : HaveEqualCounts numbers new_a.judge.names new_b.judge.names
-      equal_counts = each_sort _ one_count
+      equal_counts = record {
+        mode = mode_a ∙ sym mode_b;
+        stops = stand_a.stops ∙ same_stops in_whole whole_is_told a.messages b.messages are
+            ∙ sym stand_b.stops;
+        classes = λ c. ap length (stand_a.classes c)
+            ∙ same_counts in_whole a.messages b.messages are c
+            ∙ sym (ap length (stand_b.classes c));
+      }
 
       pub both_ended : (renaming : Renaming)
-          → entries (pairs_of renaming) ≡ equal_places a.messages b.messages
+          → entries (pairs_of renaming)
+          ≡ equal_places (stop_in (mode_of new_a.judge.names)) a.messages b.messages
           → HasCompared source_a source_b limits start_a after_a
           start_b after_b (Ok (code.Same renaming))
       both_ended renaming pairs = record {
@@ -466,7 +484,8 @@ module _ {T R S : Type 0} {numbers : T → List ℤ} {table_limit : T → ℕ} (
         read_b = subst (IsReadTo (accepting limits) (b.bytes ++ end_b.more)) one_number
             end_b.read_to;
         tells = λ x y is_x is_y.
-            subst (λ how. IsRecordingVerdict limits x y (are_same how)) (sym pairs)
+            subst (λ how. IsRecordingVerdict limits x y (are_same how))
+            (sym (pairs ∙ ap (λ mode. equal_places (stop_in mode) a.messages b.messages) mode_a))
             (both_have_ended limits x y a.messages b.messages
             (taken_in limits (a.bytes ++ end_a.more) x a.messages is_x end_a.accepted)
             (taken_in limits (b.bytes ++ end_b.more) y b.messages is_y end_b.accepted) are);

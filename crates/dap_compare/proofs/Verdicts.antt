@@ -124,14 +124,15 @@ module _ (limits : Limits) (sound : AreSound limits) where
         of_b = inputs.of_b;
         taken_a = inputs.taken_a;
         taken_b = inputs.taken_b;
-        is_renaming = equal_places_rename inputs.of_a inputs.of_b proper.0 proper.1;
-        carries = equal_places_carry inputs.of_a inputs.of_b inputs.same;
+        is_renaming = equal_places_rename in_whole inputs.of_a inputs.of_b proper.0 proper.1;
+        carries = equal_places_carry in_whole inputs.of_a inputs.of_b inputs.same;
       })
 
 pub recordings_have_one_verdict : RecordingsHaveOneVerdict
 recordings_have_one_verdict limits sound =
     has_one_verdict (accepting limits) (readable limits.frame) (value_facts limits)
-    (accepted_facts limits) (AreSame in_whole) (same_facts limits sound) equal_places
+    (accepted_facts limits) (AreSame in_whole) (same_facts limits sound)
+    (equal_places in_whole)
 
 pub same_is_told_exactly : SameIsToldExactly
 same_is_told_exactly limits sound a b of_a of_b taken_a taken_b =

@@ -27,11 +27,11 @@ use Rattle.dap_compare.specs.Comparing.{HasOneVerdict}
 -- Two recordings are the same if a renaming carries the messages of the one to those of the other,
 -- and then by the pairs of equal places.
 abbrev pub RecordingVerdict : Limits → Type 0
-RecordingVerdict limits = Verdict (accepting limits) (AreSame in_whole) equal_places
+RecordingVerdict limits = Verdict (accepting limits) (AreSame in_whole) (equal_places in_whole)
 
 abbrev pub IsRecordingVerdict : (limits : Limits) → Input → Input → RecordingVerdict limits → Type 0
 IsRecordingVerdict limits a b verdict =
-    IsVerdict (accepting limits) (AreSame in_whole) equal_places a b verdict
+    IsVerdict (accepting limits) (AreSame in_whole) (equal_places in_whole) a b verdict
 
 -- The verdict on the inputs is a refusal of the one or of the other at this record, and it is told.
 -- Memory that was refused tells nothing.
@@ -87,13 +87,13 @@ module _ {R S : Type 0} (source_a : Source R) (source_b : Source S) (limits : Li
 -- Two inputs have one verdict; where they differ, they do so at no earlier record.
 abbrev pub RecordingsHaveOneVerdict : Type 0
 RecordingsHaveOneVerdict = (limits : Limits) → AreSound limits
-    → HasOneVerdict (accepting limits) (AreSame in_whole) equal_places
+    → HasOneVerdict (accepting limits) (AreSame in_whole) (equal_places in_whole)
 
 -- Where both inputs are accepted, the verdict is that they are the same exactly where their
 -- messages are.
 pub record SameIsTold (limits : Limits) (a b : Input) (of_a of_b : List Sent) : Type 0 where
   pub if_same : AreSame in_whole of_a of_b
-      → IsRecordingVerdict limits a b (are_same (equal_places of_a of_b))
+      → IsRecordingVerdict limits a b (are_same (equal_places in_whole of_a of_b))
   pub only_if : (how : List (Class × ℤ × ℤ)) → IsRecordingVerdict limits a b (are_same how)
       → AreSame in_whole of_a of_b
 

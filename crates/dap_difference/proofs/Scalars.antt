@@ -4,27 +4,17 @@ use Rattle.std.proofs.Common.{refl, sym, ap, ap₂, ◌∙◌}
 use Rattle.std.proofs.lemmas.Bool.Decides.{Decides-int_eq}
 use Rattle.std.proofs.lemmas.Slice.Eq.{bytes_eq-Decides}
 use Rattle.std.specs.Ordering.{int_eq}
-use Rattle.dap_tree.specs.declared.sort.Sort.{Sort}
-use Rattle.dap_tree.specs.declared.sort.Sort.TheVariants.{ClientSeq, AdapterSeq, Frame, Reference}
-use Rattle.dap_tree.specs.declared.sort.Sort.TheVariants.{Thread, Breakpoint}
+use Rattle.dap_tree.specs.Sorts.{same_sort}
+use Rattle.dap_tree.proofs.Sorts.{same_sort_told, told_same_sort}
 use Rattle.dap_tree.specs.Doc.{Doc, null, boolean, whole, text, list, object, id}
 use Rattle.dap_tree.proofs.Booleans.{and_left, and_right, and_both}
 use Rattle.dap_difference.specs.Differences.{have_parts, form}
-use Rattle.dap_difference.specs.Telling.{same_boolean, same_sort, same_scalar}
+use Rattle.dap_difference.specs.Telling.{same_boolean, same_scalar}
 
 boolean_is : (a b : Bool) → same_boolean a b ≡ true → a ≡ b
 boolean_is true b h = sym h
 boolean_is false true h = absurd cc
 boolean_is false false h = refl
-
-sort_is : (s t : Sort) → same_sort s t ≡ true → s ≡ t
-sort_is ClientSeq ClientSeq h = refl
-sort_is AdapterSeq AdapterSeq h = refl
-sort_is Frame Frame h = refl
-sort_is Reference Reference h = refl
-sort_is Thread Thread h = refl
-sort_is Breakpoint Breakpoint h = refl
-sort_is s t h = absurd cc
 
 pub same_is : (d e : Doc) → same_scalar d e ≡ true → d ≡ e
 same_is null null h = refl
@@ -32,21 +22,13 @@ same_is (boolean a) (boolean b) h = ap boolean (boolean_is a b h)
 same_is (whole y) (whole z) h = ap whole ((Decides-int_eq y z).0 h)
 same_is (text s) (text t) h = ap text ((bytes_eq-Decides s t).0 h)
 same_is (id s y) (id t z) h =
-    ap₂ id (sort_is s t (and_left (same_sort s t) (int_eq y z) h))
+    ap₂ id (same_sort_told s t (and_left (same_sort s t) (int_eq y z) h))
     ((Decides-int_eq y z).0 (and_right (same_sort s t) (int_eq y z) h))
 same_is d e h = absurd cc
 
 boolean_itself : (b : Bool) → same_boolean b b ≡ true
 boolean_itself true = refl
 boolean_itself false = refl
-
-sort_itself : (s : Sort) → same_sort s s ≡ true
-sort_itself ClientSeq = refl
-sort_itself AdapterSeq = refl
-sort_itself Frame = refl
-sort_itself Reference = refl
-sort_itself Thread = refl
-sort_itself Breakpoint = refl
 
 itself : (d : Doc) → have_parts (Some d) (Some d) ≡ false → same_scalar d d ≡ true
 itself null h = refl
@@ -55,7 +37,7 @@ itself (whole z) h = (Decides-int_eq z z).1 refl
 itself (text s) h = (bytes_eq-Decides s s).1 refl
 itself (list ds) h = absurd cc
 itself (object ms) h = absurd cc
-itself (id s z) h = and_both _ _ (sort_itself s) ((Decides-int_eq z z).1 refl)
+itself (id s z) h = and_both _ _ (told_same_sort s s refl) ((Decides-int_eq z z).1 refl)
 
 pub apart_are : (d e : Doc) → have_parts (Some d) (Some e) ≡ false → same_scalar d e ≡ false
     → d ≢ e

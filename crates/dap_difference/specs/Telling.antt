@@ -3,9 +3,7 @@ use Rattle.std.specs.Prelude.{ℕ, suc, Bool, true, false, cond, ◌&&◌, List,
 use Rattle.std.specs.Prelude.{Some, None, bytes_eq}
 use Rattle.std.specs.Cmp.Lexicographic.{slice_cmp}
 use Rattle.std.specs.Ordering.{nat_cmp, match_ordering, int_eq}
-use Rattle.dap_tree.specs.declared.sort.Sort.{Sort}
-use Rattle.dap_tree.specs.declared.sort.Sort.TheVariants.{ClientSeq, AdapterSeq, Frame, Reference}
-use Rattle.dap_tree.specs.declared.sort.Sort.TheVariants.{Thread, Breakpoint}
+use Rattle.dap_tree.specs.Sorts.{same_sort}
 use Rattle.dap_tree.specs.Doc.{Doc, null, boolean, whole, text, list, object, id, Items, no_items}
 use Rattle.dap_tree.specs.Doc.{item, Members, no_members, member}
 use Rattle.dap_tree.specs.Path.{Step, name, place}
@@ -15,15 +13,6 @@ abbrev pub same_boolean : Bool → Bool → Bool
 same_boolean true b = b
 same_boolean false true = false
 same_boolean false false = true
-
-abbrev pub same_sort : Sort → Sort → Bool
-same_sort ClientSeq ClientSeq = true
-same_sort AdapterSeq AdapterSeq = true
-same_sort Frame Frame = true
-same_sort Reference Reference = true
-same_sort Thread Thread = true
-same_sort Breakpoint Breakpoint = true
-same_sort _ _ = false
 
 -- The two are the same, and have no parts.
 abbrev pub same_scalar : Doc → Doc → Bool

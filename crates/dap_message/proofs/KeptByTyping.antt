@@ -6,8 +6,7 @@ use Rattle.dap_tree.specs.Doc.{items_fit, members_fit, is_sound, is_plain, all_p
 use Rattle.dap_tree.specs.Doc.{members_plain}
 use Rattle.dap_tree.specs.declared.side.Side.{Side}
 use Rattle.dap_tree.specs.declared.sort.Sort.{Sort}
-use Rattle.dap_tree.specs.declared.sort.Sort.TheVariants.{ClientSeq, AdapterSeq, Frame, Reference}
-use Rattle.dap_tree.specs.declared.sort.Sort.TheVariants.{Thread, Breakpoint}
+use Rattle.dap_tree.specs.declared.sort.Sort.TheVariants.{Reference}
 use Rattle.dap_tree.proofs.Booleans.{and_left, and_right, and_both}
 use Rattle.dap_tree.proofs.Depths.{fits_is}
 use Rattle.dap_tree.proofs.WithoutIds.{plain_parts}
@@ -191,12 +190,8 @@ one_proper : (s : Sort) (z : ℤ) → is_proper_number s z ≡ true → Proper (
 one_proper s z h = and_both (is_proper_number s z) true h refl
 
 proper-id : (s : Sort) (z : ℤ) → is_id_of s z ≡ true → is_proper_number s z ≡ true
-proper-id ClientSeq z h = refl
-proper-id AdapterSeq z h = refl
-proper-id Frame z h = refl
 proper-id Reference z h = and_right (is_id_number z) (not (int_eq z (pos 0))) h
-proper-id Thread z h = refl
-proper-id Breakpoint z h = refl
+proper-id s z h = refl
 
 abbrev proper_test : DocTest
 proper_test =

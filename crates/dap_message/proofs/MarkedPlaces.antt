@@ -6,8 +6,7 @@ use Rattle.dap_tree.specs.Ids.{ids, items_ids, members_ids, id_count, with_ids, 
 use Rattle.dap_tree.specs.Ids.{members_with_ids, without_ids, items_without_ids}
 use Rattle.dap_tree.specs.Ids.{members_without_ids}
 use Rattle.dap_tree.specs.declared.sort.Sort.{Sort}
-use Rattle.dap_tree.specs.declared.sort.Sort.TheVariants.{ClientSeq, AdapterSeq, Frame, Reference}
-use Rattle.dap_tree.specs.declared.sort.Sort.TheVariants.{Thread, Breakpoint}
+use Rattle.dap_tree.specs.declared.sort.Sort.TheVariants.{Reference}
 use Rattle.dap_tree.proofs.Booleans.{and_left, and_right, and_both}
 use Rattle.std.proofs.Common.{◌≡◌, ℕ, ℤ, pos, negsuc, Bool, true, false, cond, not, ◌&&◌, List, []}
 use Rattle.std.proofs.Common.{◌∷◌, ◌++◌, drop, get_or, nat_cmp, refl, sym, ◌∙◌, ap, ap₂, bytes_eq}
@@ -257,21 +256,13 @@ not_zero (pos n) h =
 not_zero (negsuc n) h = cc
 
 small_id : (s : Sort) (z : ℤ) → is_small z ≡ true → is_id_of s z ≡ true
-small_id ClientSeq z h = small_number z h
-small_id AdapterSeq z h = small_number z h
-small_id Frame z h = small_number z h
 small_id Reference z h =
     and_both (is_id_number z) (not (int_eq z (pos 0))) (small_number z h) (not_zero z h)
-small_id Thread z h = small_number z h
-small_id Breakpoint z h = small_number z h
+small_id s z h = small_number z h
 
 pub id_number : (s : Sort) (z : ℤ) → is_id_of s z ≡ true → is_id_number z ≡ true
-id_number ClientSeq z h = h
-id_number AdapterSeq z h = h
-id_number Frame z h = h
 id_number Reference z h = and_left (is_id_number z) (not (int_eq z (pos 0))) h
-id_number Thread z h = h
-id_number Breakpoint z h = h
+id_number s z h = h
 
 -- places that make one number an id of a sort make every number one that may be
 edits-other : (es : Pending) (s : Sort) (z y : ℤ) → Agree es → is_id_of s y ≡ true

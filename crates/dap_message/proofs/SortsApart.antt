@@ -3,10 +3,9 @@ use Rattle.dap_tree.specs.Doc.{Doc, text, get}
 use Rattle.dap_tree.specs.declared.side.Side.{Side}
 use Rattle.dap_tree.specs.declared.side.Side.TheVariants.{Client, Adapter}
 use Rattle.dap_tree.specs.declared.sort.Sort.{Sort}
-use Rattle.dap_tree.specs.declared.sort.Sort.TheVariants.{ClientSeq, AdapterSeq, Frame as FrameSort}
-use Rattle.dap_tree.specs.declared.sort.Sort.TheVariants.{Reference as ReferenceSort}
-use Rattle.dap_tree.specs.declared.sort.Sort.TheVariants.{Thread as ThreadSort}
-use Rattle.dap_tree.specs.declared.sort.Sort.TheVariants.{Breakpoint as BreakpointSort}
+use Rattle.dap_tree.specs.declared.sort.Sort.TheVariants.{ClientSeq, AdapterSeq}
+use Rattle.dap_tree.specs.Sorts.{same_sort}
+use Rattle.dap_tree.proofs.Sorts.{same_sort_told}
 use Rattle.dap_tree.proofs.Booleans.{and_left, and_right, and_both}
 use Rattle.std.proofs.Common.{◌≡◌, ℕ, Bool, true, false, cond, not, ◌&&◌, ◌||◌, List, [], ◌∷◌}
 use Rattle.std.proofs.Common.{◌++◌}
@@ -129,17 +128,8 @@ asked_both _ n _ m d h g = refl
 
 -- ---- the table
 
-abbrev one_sort : Sort → Sort → Bool
-one_sort ClientSeq ClientSeq = true
-one_sort AdapterSeq AdapterSeq = true
-one_sort FrameSort FrameSort = true
-one_sort ReferenceSort ReferenceSort = true
-one_sort ThreadSort ThreadSort = true
-one_sort BreakpointSort BreakpointSort = true
-one_sort _ _ = false
-
 abbrev sorts_apart : Option Sort → Option Sort → Bool → Bool
-sorts_apart (Some s) (Some t) b = one_sort s t || not b
+sorts_apart (Some s) (Some t) b = same_sort s t || not b
 sorts_apart _ _ b = true
 
 -- two rows want ids of one sort, or do not meet in a message
@@ -161,10 +151,7 @@ abbrev from_side : Side → Sort → Sort
 from_side Client s = s
 from_side Adapter ClientSeq = AdapterSeq
 from_side Adapter AdapterSeq = ClientSeq
-from_side Adapter FrameSort = FrameSort
-from_side Adapter ReferenceSort = ReferenceSort
-from_side Adapter ThreadSort = ThreadSort
-from_side Adapter BreakpointSort = BreakpointSort
+from_side Adapter s = s
 
 abbrev SortFrom : Side → Want → Sort → Type 0
 SortFrom side w s = (t : Sort) × (sort_of Client w ≡ Some t) × (s ≡ from_side side t)
@@ -173,24 +160,7 @@ sort_from : (side : Side) (w : Want) (s : Sort) → sort_of side w ≡ Some s �
 sort_from Client w s h = (s, h, refl)
 sort_from Adapter OwnSeq s h = (ClientSeq, refl, cc)
 sort_from Adapter OtherSeq s h = (AdapterSeq, refl, cc)
-sort_from Adapter Frame s h = (FrameSort, refl, cc)
-sort_from Adapter Reference s h = (ReferenceSort, refl, cc)
-sort_from Adapter Thread s h = (ThreadSort, refl, cc)
-sort_from Adapter Breakpoint s h = (BreakpointSort, refl, cc)
-sort_from Adapter WantBool s h = cc
-sort_from Adapter Whole s h = cc
-sort_from Adapter Text s h = cc
-sort_from Adapter Object s h = cc
-sort_from Adapter WantList s h = cc
-
-sorts_equal : (s t : Sort) → one_sort s t ≡ true → s ≡ t
-sorts_equal ClientSeq ClientSeq h = refl
-sorts_equal AdapterSeq AdapterSeq h = refl
-sorts_equal FrameSort FrameSort h = refl
-sorts_equal ReferenceSort ReferenceSort h = refl
-sorts_equal ThreadSort ThreadSort h = refl
-sorts_equal BreakpointSort BreakpointSort h = refl
-sorts_equal _ _ h = cc
+sort_from Adapter w s h = (s, h, cc)
 
 or_false : (a b : Bool) → (a || not b) ≡ true → b ≡ true → a ≡ true
 or_false true b h g = refl
@@ -205,11 +175,11 @@ apart_sorts r q side d s t h rs qt ra qa m =
     let a = sort_from side r.want s rs in
     let b = sort_from side q.want t qt in
     let both = meet r.place q.place && both_asked r.kind r.name q.kind q.name in
-    let one : (one_sort a.0 b.0 || not both) ≡ true =
+    let one : (same_sort a.0 b.0 || not both) ≡ true =
     sym (ap₂ (λ x y. sorts_apart x y both) a.1 b.1) ∙ h in
     let equal =
-    sorts_equal a.0 b.0
-    (or_false (one_sort a.0 b.0) both one
+    same_sort_told a.0 b.0
+    (or_false (same_sort a.0 b.0) both one
     (and_both (meet r.place q.place) (both_asked r.kind r.name q.kind q.name) m
     (asked_both r.kind r.name q.kind q.name d ra qa))) in
     a.2 ∙ ap (from_side side) equal ∙ sym b.2

@@ -74,12 +74,7 @@ numbers_alike Whole b y z h g = g
 numbers_alike Text b y z h g = g
 numbers_alike Object b y z h g = g
 numbers_alike WantList b y z h g = g
-numbers_alike OwnSeq b y z h g = rw h refl
-numbers_alike OtherSeq b y z h g = rw h refl
-numbers_alike Frame b y z h g = rw h refl
-numbers_alike Reference b y z h g = rw h refl
-numbers_alike Thread b y z h g = rw h refl
-numbers_alike Breakpoint b y z h g = rw h refl
+numbers_alike w b y z h g = rw h refl
 
 abbrev Alike : Doc → Doc → Type 0
 Alike d e = (w : Want) (b : Bool) → Well w b (Some d) → Well w b (Some e)
@@ -87,30 +82,12 @@ Alike d e = (w : Want) (b : Bool) → Well w b (Some d) → Well w b (Some e)
 list_alike : (w : Want) (b : Bool) (ds es : Items)
     → cause_against w b (Some (list ds)) ≡ cause_against w b (Some (list es))
 list_alike WantBool b ds es = refl
-list_alike Whole b ds es = refl
-list_alike Text b ds es = refl
-list_alike Object b ds es = refl
-list_alike WantList b ds es = refl
-list_alike OwnSeq b ds es = refl
-list_alike OtherSeq b ds es = refl
-list_alike Frame b ds es = refl
-list_alike Reference b ds es = refl
-list_alike Thread b ds es = refl
-list_alike Breakpoint b ds es = refl
+list_alike w b ds es = refl
 
 object_alike : (w : Want) (b : Bool) (ms os : Members)
     → cause_against w b (Some (object ms)) ≡ cause_against w b (Some (object os))
 object_alike WantBool b ms os = refl
-object_alike Whole b ms os = refl
-object_alike Text b ms os = refl
-object_alike Object b ms os = refl
-object_alike WantList b ms os = refl
-object_alike OwnSeq b ms os = refl
-object_alike OtherSeq b ms os = refl
-object_alike Frame b ms os = refl
-object_alike Reference b ms os = refl
-object_alike Thread b ms os = refl
-object_alike Breakpoint b ms os = refl
+object_alike w b ms os = refl
 
 well_zeroed : (w : Want) (b : Bool) (o : Option Doc) → Well w b (option_map without_ids o)
     → Well w b (option_map without_ids (option_map skeleton o))

@@ -10,9 +10,8 @@ use Rattle.dap_profile.specs.declared.profile.Kind.{Kind}
 use Rattle.dap_profile.specs.declared.profile.Kind.TheVariants.{Request, Response, Event}
 use Rattle.dap_profile.specs.declared.profile.Want.{Want}
 use Rattle.dap_profile.specs.declared.profile.Want.TheVariants.{Bool as WantBool, Whole, Text}
-use Rattle.dap_profile.specs.declared.profile.Want.TheVariants.{Object, List as WantList, OwnSeq}
-use Rattle.dap_profile.specs.declared.profile.Want.TheVariants.{OtherSeq, Frame, Reference}
-use Rattle.dap_profile.specs.declared.profile.Want.TheVariants.{Thread, Breakpoint}
+use Rattle.dap_profile.specs.declared.profile.Want.TheVariants.{Object, List as WantList}
+use Rattle.dap_profile.specs.Profile.{wants_id}
 use Rattle.dap_message.specs.Places.{parts_at}
 use Rattle.dap_message.specs.declared.broken_rows.Cause.{Cause}
 use Rattle.dap_message.specs.declared.broken_rows.Cause.TheVariants.{Missing, WrongType}
@@ -76,12 +75,7 @@ has_type Whole (whole n) = true
 has_type Text (text s) = true
 has_type Object (object ms) = true
 has_type WantList (list ds) = true
-has_type OwnSeq (whole n) = is_id_number n
-has_type OtherSeq (whole n) = is_id_number n
-has_type Frame (whole n) = is_id_number n
-has_type Reference (whole n) = is_id_number n
-has_type Thread (whole n) = is_id_number n
-has_type Breakpoint (whole n) = is_id_number n
+has_type w (whole n) = wants_id w && is_id_number n
 has_type _ _ = false
 
 -- The document is null.

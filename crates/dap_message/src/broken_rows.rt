@@ -49,15 +49,9 @@ fn has_type(tree: &Tree, want: Want) -> bool
         (Want::Text, Tree::Text(_)) => true,
         (Want::Object, Tree::Object(_)) => true,
         (Want::List, Tree::List(_)) => true,
-        (
-            Want::OwnSeq
-            | Want::OtherSeq
-            | Want::Frame
-            | Want::Reference
-            | Want::Thread
-            | Want::Breakpoint,
-            Tree::Whole(number),
-        ) => i64::MIN as i128 <= *number && *number <= i64::MAX as i128,
+        (_, Tree::Whole(number)) => {
+            want.is_id() && i64::MIN as i128 <= *number && *number <= i64::MAX as i128
+        }
         _ => false,
     }
 }

@@ -8,7 +8,9 @@ use Rattle.dap_tree.specs.declared.sort.Sort.{Sort}
 use Rattle.dap_message.specs.Message.{Sent}
 use Rattle.dap_rename.specs.Messages.{AreProper, HasFewIds, HasTooManyIds, IsNormal, IsRenamed}
 use Rattle.dap_rename.specs.Messages.{in_whole, numbers_of_class}
-use Rattle.dap_rename.specs.Names.{StandFor, limit_in}
+use Rattle.dap_rename.specs.Modes.{stop_in}
+use Rattle.dap_rename.specs.Names.{StandFor, limit_in, mode_of}
+use Rattle.dap_rename.specs.declared.mode.Mode.TheVariants.{Whole}
 use Rattle.dap_rename.proofs.NormalForms.{normal_of_next, whole_is_told}
 use Rattle.dap_rename.proofs.Lists.{each-append}
 use Rattle.dap_session.specs.Rules.{first_broken}
@@ -31,12 +33,14 @@ text_push messages m =
 
 -- No message has been judged.
 pub none_stand : {T : Type 0} {numbers : T → List ℤ} {table_limit : T → ℕ} (judge : Judge T)
-    → Stands judge.session [] → StandFor numbers judge.names []
+    → Stands judge.session [] → StandFor numbers table_limit judge.names []
+    → mode_of judge.names ≡ Whole
     → ((s : Sort) → limit_in table_limit judge.names s ≡ judge.limits.ids) → judge.written ≡ 0
     → StandsFor numbers table_limit judge [] []
-none_stand judge session stand limits written = record {
+none_stand judge session stand mode limits written = record {
   session = session;
   names = stand;
+  mode = mode;
   name_limits = limits;
   proper = tt;
   is_normal = normal [] tt;
@@ -49,24 +53,30 @@ module _ {T : Type 0} {numbers : T → List ℤ} {table_limit : T
     (was : StandsFor numbers table_limit old messages names) (held : Held) (m : Sent)
     (is : IsMessage held m) (keeps : first_broken messages m ≡ None) where
   -- more ids than the tables take
-  pub objects_to_ids : HasTooManyIds in_whole (limit_in table_limit old.names) (messages ++ m ∷ [])
-      → Objects old.limits messages held too_many_ids
-  objects_to_ids many =
+  pub objects_to_ids :
+      HasTooManyIds (stop_in (mode_of old.names)) (limit_in table_limit old.names) (messages ++ m
+      ∷ []) → Objects old.limits messages held too_many_ids
+  objects_to_ids found =
+      let many = subst (λ mode. HasTooManyIds (stop_in mode) (limit_in table_limit old.names)
+      (messages ++ m ∷ [])) was.mode found in
       let limit = was.name_limits many.of.0 in
       let more = many.many in
       (m, is, keeps, record { of = many.of; many = omega (arith, limit, more) })
 
-  module _ (few : HasFewIds in_whole (limit_in table_limit old.names) (messages ++ m ∷ []))
-      (named : Sent) (renamed : IsRenamed in_whole messages m named) where
+  module _ (few : HasFewIds (stop_in (mode_of old.names)) (limit_in table_limit old.names)
+      (messages ++ m ∷ []))
+      (named : Sent) (renamed : IsRenamed (stop_in (mode_of old.names)) messages m named) where
     few_ids : HasFewIds in_whole (id_limit old.limits) (messages ++ m ∷ [])
     few_ids c =
         subst (λ limit. length (numbers_of_class in_whole c (messages ++ m ∷ []))
-        ≤ limit) (was.name_limits c.0) (few c)
+        ≤ limit) (was.name_limits c.0)
+        (subst (λ mode. HasFewIds (stop_in mode) (limit_in table_limit old.names)
+        (messages ++ m ∷ [])) was.mode few c)
 
     next_normal : IsNormal in_whole (messages ++ m ∷ []) (names ++ named ∷ [])
     next_normal =
         normal_of_next in_whole whole_is_told messages names m named (message_proper held m is)
-        was.is_normal renamed
+        was.is_normal (subst (λ mode. IsRenamed (stop_in mode) messages m named) was.mode renamed)
 
     next_length : length (text (names ++ named ∷ [])) ≡ old.written + length (record_of named)
     next_length = let before =
@@ -116,10 +126,12 @@ module _ {T : Type 0} {numbers : T → List ℤ} {table_limit : T
         → length (text_of named.doc) ≤ old.limits.frame.content → after ≡ before ++ record_of named
         → new.written ≡ old.written + length (record_of named) → new.written ≤ old.limits.input
         → new.limits ≡ old.limits
-        → Stands new.session (messages ++ m ∷ []) → StandFor numbers new.names (messages ++ m ∷ [])
+        → Stands new.session (messages ++ m ∷ [])
+        → StandFor numbers table_limit new.names (messages ++ m ∷ [])
+        → mode_of new.names ≡ mode_of old.names
         → ((s : Sort) → limit_in table_limit new.names s ≡ limit_in table_limit old.names s)
         → IsTaken numbers table_limit messages names held new before after
-    taken new before after content appended written short limits session stand name_limits =
+    taken new before after content appended written short limits session stand mode name_limits =
         let fits : Fits old.limits (names ++ named ∷ []) = record {
           each = each-append (λ (n : Sent). length (text_of n.doc)
               ≤ old.limits.frame.content) names (named ∷ []) was.fits.each (content, tt);
@@ -141,6 +153,7 @@ module _ {T : Type 0} {numbers : T → List ℤ} {table_limit : T
           stands = record {
             session = session;
             names = stand;
+            mode = mode ∙ was.mode;
             name_limits =
                 λ s. name_limits s ∙ was.name_limits s ∙ ap (λ (l : Limits). l.ids) (sym limits);
             proper = proper;

@@ -12,27 +12,29 @@ use Rattle.dap_names.specs.Numbering.{numbers, table}
 use Rattle.dap_rename.specs.Renamings.{IsIn}
 use Rattle.dap_rename.specs.Messages.{Class, AreProper, HasFewIds, HasTooManyIds, IsNormal}
 use Rattle.dap_rename.specs.Messages.{in_whole, normal_of, numbers_of_class, occurrences}
-use Rattle.dap_rename.specs.Messages.{same_class, whole_classes}
+use Rattle.dap_rename.specs.Messages.{all_classes, same_class, stops_after}
 use Rattle.dap_names.proofs.Additions.{by_bool}
 use Rattle.dap_rename.proofs.Lists.{at_each, each-append, each_left}
 use Rattle.dap_rename.proofs.Occurrences.{class_decides}
-use Rattle.dap_rename.proofs.Sameness.{in_any, normal_is_unique, same_as_itself, whole_occurrences}
+use Rattle.dap_rename.proofs.Classes.{all_reached}
+use Rattle.dap_rename.proofs.Sameness.{in_any, normal_is_unique, same_as_itself}
 use Rattle.dap_rename.proofs.NormalForms.{normal_of_front, some_normal, whole_is_told}
 use Rattle.dap_input.specs.declared.limits.Limits.{Limits}
 use Rattle.dap_normal.specs.Accepting.{text, Fits, NormalFits, HasGrown, id_limit}
 
 -- ---- ids are few, or too many
 
-no_numbers : (c : Class) (os : List (Class × ℤ)) → AllByRecursion (λ o. IsIn o.0 whole_classes) os
-    → list_any (same_class c) whole_classes ≡ false → numbers same_class c os ≡ []
-no_numbers c [] all none = refl
-no_numbers c (o ∷ os) all none =
+no_numbers : (cs : List Class) (c : Class) (os : List (Class × ℤ))
+    → AllByRecursion (λ o. IsIn o.0 cs) os → list_any (same_class c) cs ≡ false
+    → numbers same_class c os ≡ []
+no_numbers cs c [] all none = refl
+no_numbers cs c (o ∷ os) all none =
     by_bool (same_class c o.0)
     (λ same.
-    let among : IsIn c whole_classes =
-    subst (λ d. IsIn d whole_classes) (sym ((class_decides c o.0).0 same)) all.0 in
-    absurd (not_among c whole_classes among none))
-    (λ other. rw other (no_numbers c os all.1 none))
+    let among : IsIn c cs =
+    subst (λ d. IsIn d cs) (sym ((class_decides c o.0).0 same)) all.0 in
+    absurd (not_among c cs among none))
+    (λ other. rw other (no_numbers cs c os all.1 none))
   where
     not_among : (c : Class) (cs : List Class) → IsIn c cs → list_any (same_class c) cs ≡ false → ⊥
     not_among c [] among none = among
@@ -59,19 +61,23 @@ module _ (limits : Limits) (messages : List Sent) where
       both (inr few) (inl rest) = inl (few, rest)
       both (inr few) (inr many) = inr many
 
-  few_of_each : AllByRecursion IsFew whole_classes → HasFewIds in_whole (id_limit limits) messages
+  -- the classes that there are
+  abbrev classes : List Class
+  classes = all_classes (stops_after in_whole 0 messages)
+
+  few_of_each : AllByRecursion IsFew classes → HasFewIds in_whole (id_limit limits) messages
   unfolding table
   few_of_each each c =
-      by_bool (list_any (same_class c) whole_classes)
-      (λ among. at_each IsFew c whole_classes each (in_any c whole_classes among))
-      (λ none. let empty = no_numbers c (occurrences in_whole 0 messages)
-      (whole_occurrences messages) none in rw empty (omega arith))
+      by_bool (list_any (same_class c) classes)
+      (λ among. at_each IsFew c classes each (in_any c classes among))
+      (λ none. let empty = no_numbers classes c (occurrences in_whole 0 messages)
+      (all_reached in_whole messages) none in rw empty (omega arith))
 
   pub few_or_many : HasFewIds in_whole (id_limit limits) messages
       ⊎ HasTooManyIds in_whole (id_limit limits) messages
-  few_or_many = decide (each_few whole_classes)
+  few_or_many = decide (each_few classes)
     where
-      decide : AllByRecursion IsFew whole_classes
+      decide : AllByRecursion IsFew classes
           ⊎ HasTooManyIds in_whole (id_limit limits) messages
           → HasFewIds in_whole (id_limit limits) messages
           ⊎ HasTooManyIds in_whole (id_limit limits) messages

@@ -7,7 +7,8 @@ use Rattle.dap_message.specs.Message.{Sent}
 use Rattle.dap_recording.specs.Recording.{record_text}
 use Rattle.dap_recording.specs.declared.record.Record.{Record as WholeRecord}
 use Rattle.dap_rename.specs.Messages.{AreProper, IsNormal, in_whole}
-use Rattle.dap_rename.specs.Names.{StandFor, limit_in}
+use Rattle.dap_rename.specs.Names.{StandFor, limit_in, mode_of}
+use Rattle.dap_rename.specs.declared.mode.Mode.TheVariants.{Whole}
 use Rattle.dap_session.specs.Standing.{Stands}
 use Rattle.dap_normal.specs.declared.judging.Judge.{Judge}
 use Rattle.dap_input.specs.declared.limits.Limits.{Limits}
@@ -25,10 +26,11 @@ judge_limits judge = judge.limits
 
 module _ {T : Type 0} (numbers : T → List ℤ) (table_limit : T → ℕ) where
   -- The judge stands for these messages, with this normal form: its session and its names do, and
-  -- it knows how long the text is.
+  -- it knows how long the text is. The names are those of the whole recording.
   pub record StandsFor (judge : Judge T) (messages normal : List Sent) : Type 0 where
     pub session : Stands judge.session messages
-    pub names : StandFor numbers judge.names messages
+    pub names : StandFor numbers table_limit judge.names messages
+    pub mode : mode_of judge.names ≡ Whole
     pub name_limits : (s : Sort) → limit_in table_limit judge.names s ≡ judge.limits.ids
     pub proper : AreProper messages
     pub is_normal : IsNormal in_whole messages normal

@@ -16,13 +16,5 @@ pub fn index_tables(alloc: Global, limits: Limits) -> Tables<IndexNames<DefaultH
     requires { AreSound limits }
     ensures { AreReady index_numbers index_limit limits result }
 {
-    let hasher = BuildHasherDefault::new();
-    Tables {
-        client_seq: IndexNames::new(alloc, limits.ids, hasher),
-        adapter_seq: IndexNames::new(alloc, limits.ids, hasher),
-        frame: IndexNames::new(alloc, limits.ids, hasher),
-        reference: IndexNames::new(alloc, limits.ids, hasher),
-        thread: IndexNames::new(alloc, limits.ids, hasher),
-        breakpoint: IndexNames::new(alloc, limits.ids, hasher),
-    }
+    Tables::indexed(alloc, limits.ids, BuildHasherDefault::new())
 }

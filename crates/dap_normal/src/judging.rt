@@ -10,7 +10,7 @@ use crate::messages::{append_record, read_message};
 use dap_input::{Limits, Refused};
 use dap_message::Side;
 use dap_recording::Record;
-use dap_rename::{NameFault, NameTable, Names, Tables};
+use dap_rename::{Mode, NameFault, NameTable, Names, Tables};
 use dap_session::{Session, SessionFault};
 use dap_tree::Scratch;
 use std::alloc::Global;
@@ -43,7 +43,7 @@ impl<T: NameTable + Drop> Judge<T> {
     {
         Judge {
             session: Session::new(alloc),
-            names: Names::new(alloc, tables),
+            names: Names::new(alloc, tables, Mode::Whole),
             written: 0,
             limits,
             scratch: Scratch::new(alloc),

@@ -27,14 +27,14 @@ pub fn normal_form_stands()
 {}
 
 /// Two accepted recordings are normalised to equal texts exactly where one-to-one renamings of each
-/// side's sequence numbers, of frame ids, of variables references other than 0, of thread ids and of
-/// breakpoint ids turn the messages of the one, in order, into those of the other.
+/// side's sequence numbers, of frame ids, of variables references other than 0, of thread ids and
+/// of breakpoint ids turn the messages of the one, in order, into those of the other.
 pub fn equal_texts_tell()
     ensures { EqualTextsTell }
 {}
 
-/// A golden file that was written before thread ids and breakpoint ids were renamed is normalised to
-/// the normal text of its recording, if the recording is accepted then and now.
+/// A golden file that was written before thread ids and breakpoint ids were renamed is normalised
+/// to the normal text of its recording, if the recording is accepted then and now.
 pub fn old_golden_files()
     ensures { OldGoldenFiles }
 {}

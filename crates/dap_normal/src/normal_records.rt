@@ -3,7 +3,8 @@ ghost use Rattle.std.specs.Prelude.{◌≡◌, ◌+◌, ◌-◌, ◌<◌, ◌^�
 ghost use Rattle.std.specs.Prelude.{OnErr};
 ghost use Rattle.dap_message.specs.Message.{Sent};
 ghost use Rattle.dap_rename.specs.Messages.{equal_places};
-ghost use Rattle.dap_rename.specs.Names.{HaveEqualCounts, StandFor};
+ghost use Rattle.dap_rename.specs.Modes.{stop_in};
+ghost use Rattle.dap_rename.specs.Names.{HaveEqualCounts, StandFor, mode_of};
 ghost use Rattle.dap_rename.specs.Pairs.{entries};
 ghost use Rattle.dap_rename.specs.Renaming.{pairs_of};
 ghost use Rattle.dap_session.specs.Rules.{open_requests};
@@ -117,9 +118,10 @@ impl<T: NameTable + Drop> NormalRecords<T> {
     ) -> Result<Renaming, NameFault>
         requires { HaveEqualCounts T.numbers self.now.judge.names other.now.judge.names }
         ensures pairs { IfOk result (λ renaming. (messages others : List Sent)
-            → StandFor T.numbers self.now.judge.names messages
-            → StandFor T.numbers other.now.judge.names others
-            → entries (pairs_of renaming) ≡ equal_places messages others) }
+            → StandFor T.numbers T.limit self.now.judge.names messages
+            → StandFor T.numbers T.limit other.now.judge.names others
+            → entries (pairs_of renaming)
+            ≡ equal_places (stop_in (mode_of self.now.judge.names)) messages others) }
         ensures memory { IfErr result (λ f. f ≡ NameFault.Memory) }
     {
         Renaming::between(alloc, self.judge.names(), other.judge.names())

@@ -75,9 +75,9 @@ fn ended<W: Sink>(writer: &mut W, text: &[u8], answer: Result<(), Refused>) -> R
 /// record.
 ///
 /// At most 65,536 bytes are read past a record before it is written, and at most one byte past
-/// `limits.input`: the texts of records that came together go out together. Where a record is refused, the normal text of
-/// those before it has been written. What was written is flushed at the end, also before a refusal
-/// is answered. Records are counted from 1 in the order of the input.
+/// `limits.input`: the texts of records that came together go out together. Where a record is
+/// refused, the normal text of those before it has been written. What was written is flushed at the
+/// end, also before a refusal is answered. Records are counted from 1 in the order of the input.
 ///
 /// # Errors
 ///

@@ -13,6 +13,33 @@ use Rattle.dap_profile.specs.declared.profile.Want.TheVariants.{Object, List as 
 use Rattle.dap_profile.specs.declared.profile.Want.TheVariants.{OtherSeq, Frame, Reference}
 use Rattle.dap_profile.specs.declared.profile.Want.TheVariants.{Thread, Breakpoint}
 
+-- ---- what a row may want
+
+-- An id is wanted, which is renamed.
+abbrev pub wants_id : Want → Bool
+wants_id WantBool = false
+wants_id Whole = false
+wants_id Text = false
+wants_id Object = false
+wants_id WantList = false
+wants_id _ = true
+
+-- What is to stand at a place: a type, by its name in JSON Schema, or what an id numbers (own).
+abbrev pub want_word : Want → List ℕ
+want_word WantBool = codes "boolean"
+want_word Whole = codes "integer"
+want_word Text = codes "string"
+want_word Object = codes "object"
+want_word WantList = codes "array"
+want_word OwnSeq = codes "own-seq"
+want_word OtherSeq = codes "other-seq"
+want_word Frame = codes "frame"
+want_word Reference = codes "reference"
+want_word Thread = codes "thread"
+want_word Breakpoint = codes "breakpoint"
+
+-- ---- the rows
+
 abbrev pub row : ℕ → Option Kind → Option (List ℕ) → List PlaceStep → Want → Bool → ProfileRow
 row n k m p w b = record { number = n; kind = k; name = m; place = p; want = w; needed = b }
 

@@ -1,6 +1,6 @@
 //! The profile: which members of a message are looked at, as a flat table of numbered rows.
 ghost use Rattle.std.specs.Prelude.{◌≡◌, map};
-ghost use Rattle.dap_profile.specs.Profile.{profile};
+ghost use Rattle.dap_profile.specs.Profile.{profile, want_word, wants_id};
 ghost use Rattle.dap_profile.specs.ProfileRows.{row_of};
 
 /// What sort of message it is (DAP specification, `ProtocolMessage.type`).
@@ -13,7 +13,7 @@ pub enum Kind {
 
 /// What a row wants at its place.
 ///
-/// The last six want a number of a tree from -2^63 to 2^63-1, which is an id there.
+/// Those behind `List` want a number of a tree from -2^63 to 2^63-1, which is an id there.
 #[derive(Clone, Copy, Debug, PartialEq, Eq, Drop)]
 pub enum Want {
     Bool,
@@ -34,6 +34,37 @@ pub enum Want {
     Thread,
     /// The id of a breakpoint, 0 too.
     Breakpoint,
+}
+
+impl Want {
+    /// Whether an id is wanted.
+    pub fn is_id(self) -> bool
+        ensures { result ≡ wants_id self }
+    {
+        match self {
+            Want::Bool | Want::Whole | Want::Text | Want::Object | Want::List => false,
+            _ => true,
+        }
+    }
+
+    /// How it is written: the name of a type in JSON Schema, or what an id numbers.
+    pub fn word(self) -> &'static str
+        ensures { result.now ≡ want_word self }
+    {
+        match self {
+            Want::Bool => "boolean",
+            Want::Whole => "integer",
+            Want::Text => "string",
+            Want::Object => "object",
+            Want::List => "array",
+            Want::OwnSeq => "own-seq",
+            Want::OtherSeq => "other-seq",
+            Want::Frame => "frame",
+            Want::Reference => "reference",
+            Want::Thread => "thread",
+            Want::Breakpoint => "breakpoint",
+        }
+    }
 }
 
 /// Where in a message a row looks, by the names of the members on the way.

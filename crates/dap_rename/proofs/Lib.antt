@@ -3,8 +3,10 @@ pub mod AllSorts
 pub mod RelatedLists
 pub mod RenamingBetween
 pub mod Occurrences
+pub mod Classes
 pub mod Sameness
 pub mod NormalForms
+pub mod Stops
 pub mod ListGrowth
 pub mod TableContents
 pub mod CarriesTest

@@ -15,7 +15,8 @@ use Rattle.dap_names.specs.Table.{place, has}
 use Rattle.dap_rename.specs.Sorts.{EachSort, same_sort}
 use Rattle.dap_rename.specs.Tables.{table_of, Lists, lists, counts, added, added_all, names_from}
 use Rattle.dap_rename.specs.Tables.{Begins, AllBegin, Limits, limits, AllFit, SomeIsOver}
-use Rattle.dap_rename.proofs.AllSorts.{at_sort, each_sort, told_same_sort, table_is, tables_equal}
+use Rattle.dap_tree.proofs.Sorts.{told_same_sort}
+use Rattle.dap_rename.proofs.AllSorts.{at_sort, each_sort, table_is, tables_equal}
 
 pub added_all-push : (l : Lists) (is : List (Sort × ℤ)) (i : Sort × ℤ)
     → added_all l (is ++ i ∷ []) ≡ added (added_all l is) i.0 i.1

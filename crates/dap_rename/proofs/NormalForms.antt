@@ -14,7 +14,8 @@ use Rattle.dap_message.specs.Message.{Sent}
 use Rattle.dap_message.specs.Numbers.{is_small, has_small_ids}
 use Rattle.dap_names.specs.Numbering.{add, add_all, numbers, table, name, named, IsFresh}
 use Rattle.dap_rename.specs.Renamings.{IsIn}
-use Rattle.dap_rename.specs.Messages.{Class, AreProper, class_after, occurrence, occurrences}
+use Rattle.dap_rename.specs.Messages.{Class, AreProper, AreSame, class_after, occurrence}
+use Rattle.dap_rename.specs.Messages.{occurrences}
 use Rattle.dap_rename.specs.Messages.{message_skeleton, same_class, stops_after, IsNormal, names_of}
 use Rattle.dap_rename.specs.Messages.{normal_from, normal_of}
 use Rattle.dap_rename.specs.Laws.{IsToldBySkeleton, WholeIsTold, SomeNormal, NormalOfFront}
@@ -32,6 +33,11 @@ use Rattle.dap_rename.proofs.Sameness.{normal_is_unique, named_is_normal}
 
 pub whole_is_told : WholeIsTold
 whole_is_told m n h = refl
+
+-- lists that are the same have as many stops
+pub same_stops : (stop : Sent → ℕ) → IsToldBySkeleton stop → (ms ns : List Sent)
+    → AreSame stop ms ns → stops_after stop 0 ms ≡ stops_after stop 0 ns
+same_stops stop told ms ns s = stops_alike stop told 0 ms ns (alike stop ms ns s).skeletons
 
 -- ---- names of ids are ids
 

@@ -24,7 +24,7 @@ use Rattle.dap_rename.specs.Messages.{stops_after}
 use Rattle.dap_rename.specs.Laws.{IsToldBySkeleton}
 use Rattle.dap_rename.proofs.Lists.{same_cons, head_of, tail_of, front_told, rest_told, each-append}
 use Rattle.dap_rename.proofs.Lists.{each_left, each_right}
-use Rattle.dap_rename.proofs.AllSorts.{sort_told}
+use Rattle.dap_tree.proofs.Sorts.{sort_told}
 
 -- ---- classes
 
@@ -76,6 +76,12 @@ occurrences-push stop k ms m =
     occurrences-append stop k ms (m ∷ [])
     ∙ ap (λ t. occurrences stop k ms ++ t)
     (append-nil (map (occurrence (stops_after stop k ms)) (ids m.doc)))
+
+-- so many stops, and those of one message more
+pub stops-push : (stop : Sent → ℕ) (k : ℕ) (ms : List Sent) (m : Sent)
+    → stops_after stop k (ms ++ m ∷ []) ≡ stops_after stop k ms + stop m
+stops-push stop k [] m = refl
+stops-push stop k (n ∷ ms) m = stops-push stop (k + stop n) ms m
 
 pub stops_alike : (stop : Sent → ℕ) → IsToldBySkeleton stop → (k : ℕ) (ms ns : List Sent)
     → map message_skeleton ms ≡ map message_skeleton ns

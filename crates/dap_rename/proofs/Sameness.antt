@@ -1,37 +1,33 @@
 -- What it is to be the same: one skeleton and one list of names. From it the laws of fresh lists
 -- and of the normal form.
-use Rattle.std.proofs.Common.{◌≡◌, ℕ, suc, ℤ, pos, true, false, cond, Bool, not, ◌&&◌, List, []}
+use Rattle.std.proofs.Common.{◌≡◌, ℕ, suc, ℤ, pos, true, false, cond, List, []}
 use Rattle.std.proofs.Common.{◌∷◌, ◌++◌, map}
 use Rattle.std.proofs.Common.{length, inl, inr, refl, sym, ◌∙◌, ap, subst, arith, true≢false}
 use Rattle.std.proofs.lemmas.List.{length-map, map-append}
-use Rattle.std.proofs.lemmas.Bool.{and_parts}
 use Rattle.std.proofs.lemmas.Bool.Decides.{Decides-int_eq}
 use Rattle.std.specs.List.{list_any, AllByRecursion}
 use Rattle.std.specs.Ordering.{int_eq}
-use Rattle.dap_tree.specs.Ids.{ids}
 use Rattle.dap_tree.specs.declared.sort.Sort.{Sort}
 use Rattle.dap_tree.specs.declared.sort.Sort.TheVariants.{Reference}
-use Rattle.dap_tree.proofs.Booleans.{or_left, or_right}
 use Rattle.dap_message.specs.Message.{Sent}
 use Rattle.dap_message.specs.Numbers.{is_proper_number}
 use Rattle.dap_names.specs.Numbering.{table, name, named, IsFresh}
 use Rattle.dap_rename.specs.Renamings.{IsIn, IsRenaming, AreRelated, pairs}
-use Rattle.dap_rename.specs.Messages.{Class, IsProperId, class_after, occurrence, occurrences}
+use Rattle.dap_rename.specs.Messages.{Class, IsProperId, occurrences}
 use Rattle.dap_rename.specs.Messages.{message_skeleton, same_class, AreSame, IsNormal}
-use Rattle.dap_rename.specs.Sorts.{all_sorts}
-use Rattle.dap_rename.specs.Messages.{Carries, in_whole, whole_classes}
+use Rattle.dap_rename.specs.Messages.{Carries, stops_after, all_classes}
 use Rattle.dap_rename.specs.Laws.{SameAsItself, SameBothWays, SameAlong, SameIsProper, SameFronts}
 use Rattle.dap_rename.specs.Laws.{FreshIsUnique, NormalIsUnique, NormalIsComplete, NamedIsNormal}
 use Rattle.dap_rename.specs.Laws.{NormalIsItsOwn, EqualPlacesRename, EqualPlacesCarry}
 use Rattle.dap_names.proofs.Additions.{by_bool}
 use Rattle.dap_names.proofs.FreshLists.{IsCounted, named-fresh, fresh_named}
-use Rattle.dap_rename.proofs.AllSorts.{in_all_sorts}
-use Rattle.dap_rename.proofs.Lists.{front_told, each-append, each-more, in-map}
+use Rattle.dap_rename.proofs.Classes.{classes_differ, all_reached}
+use Rattle.dap_rename.proofs.Lists.{front_told, each-more}
 use Rattle.dap_rename.proofs.RelatedLists.{Tied, named-related, Distinct}
 use Rattle.dap_rename.proofs.RenamingBetween.{pairs_renaming, related_by_pairs}
 use Rattle.dap_rename.proofs.Occurrences.{class_decides, occurrences_alike, occurrences-append}
 use Rattle.dap_rename.proofs.Occurrences.{messages_told, seconds, seconds-occurrences}
-use Rattle.dap_rename.proofs.Occurrences.{proper_occurrences, proper_messages, first_class}
+use Rattle.dap_rename.proofs.Occurrences.{proper_occurrences, proper_messages}
 
 -- ---- the classes of a list
 
@@ -250,59 +246,17 @@ named_is_normal stop ms n p h e =
       g,
     )
 
--- ---- pairs of equal places, in the whole of a recording
-
--- classes that differ by a test
-abbrev pub all_differ : List Class → Bool
-all_differ [] = true
-all_differ (c ∷ cs) = not (list_any (same_class c) cs) && all_differ cs
-
-pub none_equal : (c : Class) (cs : List Class) → list_any (same_class c) cs ≡ false
-    → AllByRecursion (λ d. c ≡ d → ⊥) cs
-none_equal c [] h = tt
-none_equal c (d ∷ cs) h = (
-  (λ e. true≢false (sym ((class_decides c d).1 e)
-      ∙ or_left (same_class c d) (list_any (same_class c) cs) h)),
-  none_equal c cs (or_right (same_class c d) (list_any (same_class c) cs) h),
-)
-
-pub distinct_told : (cs : List Class) → all_differ cs ≡ true → Distinct cs
-distinct_told [] h = tt
-distinct_told (c ∷ cs) h =
-    let parts = and_parts (not (list_any (same_class c) cs)) (all_differ cs) h in
-    (none_equal c cs (not_true (list_any (same_class c) cs) parts.0), distinct_told cs parts.1)
-  where
-    not_true : (b : Bool) → not b ≡ true → b ≡ false
-    not_true true e = sym e
-    not_true false e = refl
-
-pub whole_distinct : Distinct whole_classes
-whole_distinct = distinct_told whole_classes refl
-
-pub whole_class : (s : Sort) → IsIn (class_after 0 s) whole_classes
-whole_class s =
-    subst (λ c. IsIn c whole_classes) (sym (first_class s))
-    (in-map (λ t. (t, 0)) s all_sorts (in_all_sorts s))
-
-pub whole_ids : (is : List (Sort × ℤ))
-    → AllByRecursion (λ o. IsIn o.0 whole_classes) (map (occurrence 0) is)
-whole_ids [] = tt
-whole_ids (i ∷ is) = (whole_class i.0, whole_ids is)
-
-pub whole_occurrences : (ms : List Sent)
-    → AllByRecursion (λ o. IsIn o.0 whole_classes) (occurrences in_whole 0 ms)
-whole_occurrences [] = tt
-whole_occurrences (m ∷ ms) =
-    each-append _ (map (occurrence 0) (ids m.doc)) (occurrences in_whole 0 ms)
-    (whole_ids (ids m.doc)) (whole_occurrences ms)
+-- ---- pairs of equal places
 
 pub equal_places_carry : EqualPlacesCarry
-equal_places_carry ms ns s =
-    (carried in_whole whole_classes ms ns whole_distinct (whole_occurrences ms)
-    (alike in_whole ms ns s)).1
+equal_places_carry stop ms ns s =
+    let cs = all_classes (stops_after stop 0 ms) in
+    (carried stop cs ms ns (classes_differ (stops_after stop 0 ms)) (all_reached stop ms)
+    (alike stop ms ns s)).1
 
 pub equal_places_rename : EqualPlacesRename
-equal_places_rename ms ns p q =
-    pairs_renaming same_class class_decides IsProperId whole_classes (occurrences in_whole 0 ms)
-    (occurrences in_whole 0 ns) whole_distinct (proper_occurrences in_whole 0 ms p)
-    (proper_occurrences in_whole 0 ns q)
+equal_places_rename stop ms ns p q =
+    let cs = all_classes (stops_after stop 0 ms) in
+    pairs_renaming same_class class_decides IsProperId cs (occurrences stop 0 ms)
+    (occurrences stop 0 ns) (classes_differ (stops_after stop 0 ms))
+    (proper_occurrences stop 0 ms p) (proper_occurrences stop 0 ns q)

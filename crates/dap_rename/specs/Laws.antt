@@ -13,6 +13,8 @@ use Rattle.dap_rename.specs.Messages.{Class, IsProperId, AreProper, same_class, 
 use Rattle.dap_rename.specs.Messages.{occurrences, numbers_of_class, HasFewIds, Carries, AreSame}
 use Rattle.dap_rename.specs.Messages.{AreFresh, IsNormal, IsRenamed, normal_of, in_whole}
 use Rattle.dap_rename.specs.Messages.{equal_places}
+use Rattle.dap_rename.specs.Modes.{stop_in}
+use Rattle.dap_rename.specs.declared.mode.Mode.{Mode}
 
 -- Messages that differ at most in the numbers of their ids are stops alike.
 abbrev pub IsToldBySkeleton : (Sent → ℕ) → Type 0
@@ -21,6 +23,10 @@ IsToldBySkeleton stop = (m n : Sent) → message_skeleton m ≡ message_skeleton
 -- So it is where no message is one.
 abbrev pub WholeIsTold : Type 0
 WholeIsTold = IsToldBySkeleton in_whole
+
+-- So it is in each mode of names.
+abbrev pub ModeIsTold : Type 0
+ModeIsTold = (mode : Mode) → IsToldBySkeleton (stop_in mode)
 
 -- ---- what it is to be the same
 
@@ -139,12 +145,12 @@ NamesAreSmall = (stop : Sent → ℕ) (limit : Sort → ℕ) (ms n : List Sent)
 
 -- ---- renamings
 
--- In the whole of a recording the pairs of equal places are a renaming, whatever the two lists are.
+-- The pairs of equal places are a renaming, whatever the two lists are.
 abbrev pub EqualPlacesRename : Type 0
-EqualPlacesRename = (ms ns : List Sent) → AreProper ms → AreProper ns
-    → IsRenaming IsProperId (equal_places ms ns)
+EqualPlacesRename = (stop : Sent → ℕ) (ms ns : List Sent) → AreProper ms → AreProper ns
+    → IsRenaming IsProperId (equal_places stop ms ns)
 
 -- They carry the one list to the other, if the two are the same.
 abbrev pub EqualPlacesCarry : Type 0
-EqualPlacesCarry = (ms ns : List Sent) → AreSame in_whole ms ns
-    → Carries in_whole (equal_places ms ns) ms ns
+EqualPlacesCarry = (stop : Sent → ℕ) (ms ns : List Sent) → AreSame stop ms ns
+    → Carries stop (equal_places stop ms ns) ms ns

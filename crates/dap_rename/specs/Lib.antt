@@ -1,6 +1,7 @@
 pub mod Renamings
-pub mod Sorts
+pub use Rattle.dap_tree.specs.Sorts
 pub mod Messages
+pub mod Modes
 pub mod Tables
 pub mod Names
 pub mod Pairs

@@ -1,8 +1,9 @@
 -- Lists of messages: their ids, what it is that one list is a renaming of another, and the normal
 -- form.
-use Rattle.std.specs.Prelude.{◌≡◌, ℕ, ◌+◌, ◌<◌, ◌≤◌, ℤ, Bool, true, ◌&&◌, eqb, List, [], ◌∷◌, ◌++◌}
+use Rattle.std.specs.Prelude.{◌≡◌, ℕ, zero, suc, ◌+◌, ◌<◌, ◌≤◌, ℤ, Bool, true, ◌&&◌, eqb, List}
+use Rattle.std.specs.Prelude.{[], ◌∷◌, ◌++◌}
 use Rattle.std.specs.Prelude.{length, map}
-use Rattle.std.specs.List.{AllByRecursion}
+use Rattle.std.specs.List.{AllByRecursion, flat_map}
 use Rattle.dap_tree.specs.Ids.{ids, skeleton, with_ids}
 use Rattle.dap_tree.specs.declared.sort.Sort.{Sort}
 use Rattle.dap_tree.specs.declared.sort.Sort.TheVariants.{Frame, Reference}
@@ -125,11 +126,24 @@ module _ (stop : Sent → ℕ) where
   abbrev pub normal_of : List Sent → List Sent
   normal_of ms = normal_from [] 0 ms
 
--- The classes of whole recordings, in the order of the sorts.
-abbrev pub whole_classes : List Class
-whole_classes = map (λ s. (s, 0)) all_sorts
+-- ---- the classes, one after the other
 
--- Sort by sort, the i-th distinct number of the one list with the i-th of the other (own).
-abbrev pub equal_places : List Sent → List Sent → List (Class × ℤ × ℤ)
-equal_places ms ns =
-    pairs same_class whole_classes (occurrences in_whole 0 ms) (occurrences in_whole 0 ns)
+-- The first classes of a sort, so many of them.
+abbrev pub first_classes : Sort → ℕ → List Class
+first_classes s zero = []
+first_classes s (suc n) = first_classes s n ++ (s, n) ∷ []
+
+-- The classes of a sort where there are so many stops: those behind each of them, and the one
+-- before them all.
+abbrev pub classes_of_sort : ℕ → Sort → List Class
+classes_of_sort stops s = first_classes s (suc (class_after stops s).1)
+
+-- All classes where there are so many stops, sort by sort, and then stop by stop.
+abbrev pub all_classes : ℕ → List Class
+all_classes stops = flat_map (classes_of_sort stops) all_sorts
+
+-- Class by class, the i-th distinct number of the one list with the i-th of the other (own).
+abbrev pub equal_places : (Sent → ℕ) → List Sent → List Sent → List (Class × ℤ × ℤ)
+equal_places stop ms ns =
+    pairs same_class (all_classes (stops_after stop 0 ms)) (occurrences stop 0 ms)
+    (occurrences stop 0 ns)

@@ -1,48 +1,64 @@
 -- Pairs of numbers as the entries of a renaming, and why pairs are none.
-use Rattle.std.specs.Prelude.{◌≡◌, suc, ℤ, Bool, true, false, ◌&&◌, List, [], ◌∷◌, ◌++◌}
+use Rattle.std.specs.Prelude.{◌≡◌, ℕ, suc, ℤ, Bool, true, false, ◌&&◌, eqb, List, [], ◌∷◌, ◌++◌}
 use Rattle.std.specs.Prelude.{length, map}
-use Rattle.std.specs.List.{list_any}
+use Rattle.std.specs.List.{list_any, AllByRecursion}
 use Rattle.std.specs.Ordering.{int_eq}
-use Rattle.dap_tree.specs.declared.sort.Sort.{Sort}
 use Rattle.dap_message.specs.Numbers.{is_proper_number}
-use Rattle.dap_rename.specs.Messages.{Class, IsProperId}
+use Rattle.dap_rename.specs.Messages.{Class, IsProperId, class_after, same_class, all_classes}
 use Rattle.dap_rename.specs.Renamings.{IsRenaming, pairs_of_class}
-use Rattle.dap_rename.specs.Sorts.{all_sorts, same_sort}
 use Rattle.dap_rename.specs.declared.pair.Pair.{Pair}
 use Rattle.dap_rename.specs.declared.pair.PairFault.{PairFault}
-use Rattle.dap_rename.specs.declared.pair.PairFault.TheVariants.{ZeroReference, FromTwice, ToTwice}
-use Rattle.dap_rename.specs.declared.pair.PairFault.TheVariants.{Memory}
+use Rattle.dap_rename.specs.declared.pair.PairFault.TheVariants.{BadStop, ZeroReference}
+use Rattle.dap_rename.specs.declared.pair.PairFault.TheVariants.{FromTwice, ToTwice, Memory}
 
--- The entry that a pair is, in the whole of a recording.
+-- The class of a pair.
+abbrev pub class_of : Pair → Class
+class_of p = (p.sort, p.stop)
+
+-- The entry that a pair is.
 abbrev pub entry : Pair → Class × ℤ × ℤ
-entry p = ((p.sort, 0), p.from, p.to)
+entry p = (class_of p, p.from, p.to)
 
 abbrev pub entries : List Pair → List (Class × ℤ × ℤ)
 entries ps = map entry ps
+
+-- There is such a class: only frames and references have one behind a stop.
+abbrev pub has_class : Pair → Bool
+has_class p = eqb (class_after p.stop p.sort).1 p.stop
 
 -- Neither number is a variables reference of 0.
 abbrev pub is_proper_pair : Pair → Bool
 is_proper_pair p = is_proper_number p.sort p.from && is_proper_number p.sort p.to
 
--- Some earlier pair of the sort takes the same number, or gives the same.
+-- Some earlier pair of the class takes the same number, or gives the same.
 abbrev pub is_taken : List Pair → Pair → Bool
-is_taken before p = list_any (λ q. same_sort q.sort p.sort && int_eq q.from p.from) before
+is_taken before p =
+    list_any (λ q. same_class (class_of q) (class_of p) && int_eq q.from p.from) before
 
 abbrev pub is_given : List Pair → Pair → Bool
-is_given before p = list_any (λ q. same_sort q.sort p.sort && int_eq q.to p.to) before
+is_given before p =
+    list_any (λ q. same_class (class_of q) (class_of p) && int_eq q.to p.to) before
+
+-- The pairs are a renaming (own): there are their classes, and none of them takes a number twice or
+-- gives one twice, or takes or gives a variables reference of 0.
+pub record AreRenaming (ps : List Pair) : Type 0 where
+  pub classes : AllByRecursion (λ p. has_class p ≡ true) ps
+  pub renaming : IsRenaming IsProperId (entries ps)
 
 -- The pair may stand behind these.
 abbrev pub MayFollow : List Pair → Pair → Type 0
-MayFollow before p = (is_proper_pair p ≡ true) × (is_taken before p ≡ false)
-    × (is_given before p ≡ false)
+MayFollow before p = (has_class p ≡ true) × (is_proper_pair p ≡ true)
+    × (is_taken before p ≡ false) × (is_given before p ≡ false)
 
 -- Behind these pairs the pair has that fault (own).
 abbrev pub PairFails : List Pair → Pair → PairFault → Type 0
-PairFails before p (ZeroReference n) = (n ≡ suc (length before)) × (is_proper_pair p ≡ false)
-PairFails before p (FromTwice n) = (n ≡ suc (length before)) × (is_proper_pair p ≡ true)
-    × (is_taken before p ≡ true)
-PairFails before p (ToTwice n) = (n ≡ suc (length before)) × (is_proper_pair p ≡ true)
-    × (is_taken before p ≡ false) × (is_given before p ≡ true)
+PairFails before p (BadStop n) = (n ≡ suc (length before)) × (has_class p ≡ false)
+PairFails before p (ZeroReference n) = (n ≡ suc (length before)) × (has_class p ≡ true)
+    × (is_proper_pair p ≡ false)
+PairFails before p (FromTwice n) = (n ≡ suc (length before)) × (has_class p ≡ true)
+    × (is_proper_pair p ≡ true) × (is_taken before p ≡ true)
+PairFails before p (ToTwice n) = (n ≡ suc (length before)) × (has_class p ≡ true)
+    × (is_proper_pair p ≡ true) × (is_taken before p ≡ false) × (is_given before p ≡ true)
 PairFails before p Memory = ⊥
 
 -- The fault is that of the first pair that may not stand behind those before it: they are a
@@ -52,22 +68,24 @@ pub record FailsFirst (ps : List Pair) (f : PairFault) : Type 0 where
   pub pair : Pair
   pub after : List Pair
   pub split : ps ≡ before ++ pair ∷ after
-  pub renaming : IsRenaming IsProperId (entries before)
+  pub renaming : AreRenaming before
   pub fails : PairFails before pair f
 
 -- Why pairs are refused. Memory is answered of a renaming alone, since the pairs are judged before
 -- any growth.
 abbrev pub RefusesPairs : List Pair → PairFault → Type 0
+RefusesPairs ps (BadStop n) = FailsFirst ps (BadStop n)
 RefusesPairs ps (ZeroReference n) = FailsFirst ps (ZeroReference n)
 RefusesPairs ps (FromTwice n) = FailsFirst ps (FromTwice n)
 RefusesPairs ps (ToTwice n) = FailsFirst ps (ToTwice n)
-RefusesPairs ps Memory = IsRenaming IsProperId (entries ps)
+RefusesPairs ps Memory = AreRenaming ps
 
--- Sort by sort, the entries of the i-th number of the one with the i-th of the other (own).
-abbrev pub names_of_sorts : List Sort → (Sort → List ℤ) → (Sort → List ℤ) → List (Class × ℤ × ℤ)
-names_of_sorts [] f g = []
-names_of_sorts (s ∷ ss) f g = pairs_of_class (s, 0) (f s) (g s) ++ names_of_sorts ss f g
+-- Class by class, the entries of the i-th number of the one with the i-th of the other (own).
+abbrev pub names_of_classes : List Class → (Class → List ℤ) → (Class → List ℤ)
+    → List (Class × ℤ × ℤ)
+names_of_classes [] f g = []
+names_of_classes (c ∷ cs) f g = pairs_of_class c (f c) (g c) ++ names_of_classes cs f g
 
--- So it is for all sorts, in their order.
-abbrev pub equal_names : (Sort → List ℤ) → (Sort → List ℤ) → List (Class × ℤ × ℤ)
-equal_names f g = names_of_sorts all_sorts f g
+-- So it is for all classes where there are so many stops, in their order.
+abbrev pub equal_names : ℕ → (Class → List ℤ) → (Class → List ℤ) → List (Class × ℤ × ℤ)
+equal_names stops f g = names_of_classes (all_classes stops) f g

@@ -1,6 +1,7 @@
 //! Theorems on renamings and on the normal form, which hold of all lists of messages. Each function
 //! does nothing: a call of it gives its clauses to a proof.
-ghost use Rattle.dap_rename.specs.Laws.{WholeIsTold, SameAsItself, SameBothWays, SameAlong};
+ghost use Rattle.dap_rename.specs.Laws.{WholeIsTold, ModeIsTold, SameAsItself, SameBothWays};
+ghost use Rattle.dap_rename.specs.Laws.{SameAlong};
 ghost use Rattle.dap_rename.specs.Laws.{SameIsProper, SameFronts, SameCounts, FrontHasFewIds};
 ghost use Rattle.dap_rename.specs.Laws.{FreshIsUnique, NormalIsUnique, NormalIsComplete};
 ghost use Rattle.dap_rename.specs.Laws.{NamedIsNormal, SomeNormal, NormalIsItsOwn, NormalOfFront};
@@ -40,6 +41,7 @@ pub fn some_normal_form()
     ensures named { NamedIsNormal }
     ensures some { SomeNormal }
     ensures told { WholeIsTold }
+    ensures told_in_mode { ModeIsTold }
 {}
 
 /// The normal form grows message by message.

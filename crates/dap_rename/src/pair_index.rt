@@ -1,27 +1,26 @@
-//! Pairs found by their sort and number, in the time of a look-up.
+//! Pairs found by their class and number, in the time of a look-up.
 ghost use Rattle.std.specs.Prelude.{◌≡◌, suc, List, [], ◌∷◌, ◌++◌, length, MatchOption};
 ghost use Rattle.std.specs.Prelude.{MatchResult, IfOk};
-ghost use Rattle.dap_rename.specs.Messages.{IsProperId};
 ghost use Rattle.dap_rename.specs.PairIndex.{key};
-ghost use Rattle.dap_rename.specs.Pairs.{entries, is_proper_pair, MayFollow, PairFails, FailsFirst};
-ghost use Rattle.dap_rename.specs.Renamings.{IsRenaming};
+ghost use Rattle.dap_rename.specs.Pairs.{AreRenaming, class_of, has_class, is_proper_pair};
+ghost use Rattle.dap_rename.specs.Pairs.{MayFollow, PairFails, FailsFirst};
 
 use crate::pair::{Pair, PairFault};
 use dap_tree::Sort;
 use std::alloc::{AllocError, Global};
 use std::collections::{BTreeMap, BTreeSet};
 
-/// What pairs give for each number of a sort that they take.
+/// What pairs give for each number of a class that they take.
 #[derive(Drop)]
 pub(crate) struct PairIndex {
-    images: BTreeMap<(u8, i64), i64>,
+    images: BTreeMap<((u8, u64), i64), i64>,
 }
 
 // Pairs so far, and beside their index the numbers that they give.
 #[derive(Drop)]
 struct SeenPairs {
     index: PairIndex,
-    given: BTreeSet<(u8, i64)>,
+    given: BTreeSet<((u8, u64), i64)>,
 }
 
 impl PairIndex {
@@ -34,7 +33,7 @@ impl PairIndex {
         pairs: &[Pair],
     ) -> Result<Result<PairIndex, PairFault>, AllocError>
         ensures { IfOk result (λ told. MatchResult told
-            (λ index. IsIndexOf pairs.now index × IsRenaming IsProperId (entries pairs.now))
+            (λ index. IsIndexOf pairs.now index × AreRenaming pairs.now)
             (FailsFirst pairs.now)) }
     {
         let mut seen = SeenPairs {
@@ -53,9 +52,9 @@ impl PairIndex {
 
     /// Whether the index has the pair.
     pub(crate) fn has(&self, pair: &Pair) -> bool
-        ensures { result ≡ finds self.now pair.now.sort pair.now.from pair.now.to }
+        ensures { result ≡ finds self.now (class_of pair.now) pair.now.from pair.now.to }
     {
-        match self.images.get(&key(pair.sort, pair.from)) {
+        match self.images.get(&key(pair, pair.from)) {
             Some(to) => *to == pair.to,
             None => false,
         }
@@ -73,14 +72,17 @@ impl SeenPairs {
             (MayFollow before pair.now × HasSeen self.new (before ++ pair.now ∷ []))
             (PairFails before pair.now)) }
     {
+        if !has_class(pair) {
+            return Ok(Some(PairFault::BadStop(place)));
+        }
         if !is_proper(pair) {
             return Ok(Some(PairFault::ZeroReference(place)));
         }
-        let from = key(pair.sort, pair.from);
+        let from = key(pair, pair.from);
         if self.index.images.insert(from, pair.to)?.is_some() {
             return Ok(Some(PairFault::FromTwice(place)));
         }
-        let to = key(pair.sort, pair.to);
+        let to = key(pair, pair.to);
         if !self.given.insert(to)? {
             return Ok(Some(PairFault::ToTwice(place)));
         }
@@ -88,19 +90,21 @@ impl SeenPairs {
     }
 }
 
-// What a number of a sort is found by.
-fn key(sort: Sort, number: i64) -> (u8, i64)
-    ensures { result ≡ key sort number }
+// What a number of the class of a pair is found by.
+fn key(pair: &Pair, number: i64) -> ((u8, u64), i64)
+    ensures { result ≡ key (class_of pair.now) number }
 {
-    let place = match sort {
-        Sort::ClientSeq => 0,
-        Sort::AdapterSeq => 1,
-        Sort::Frame => 2,
-        Sort::Reference => 3,
-        Sort::Thread => 4,
-        Sort::Breakpoint => 5,
-    };
-    (place, number)
+    ((pair.sort as u8, pair.stop), number)
+}
+
+/// Whether there is the class of the pair: only frames and references have one behind a stop.
+pub(crate) fn has_class(pair: &Pair) -> bool
+    ensures { result ≡ has_class pair.now }
+{
+    match pair.sort {
+        Sort::Frame | Sort::Reference => true,
+        _ => pair.stop == 0,
+    }
 }
 
 /// Whether neither number of the pair is a variables reference of 0.

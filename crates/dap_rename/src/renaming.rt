@@ -4,30 +4,31 @@ ghost use Rattle.std.specs.Prelude.{IfErr, OnOk, ◌&&◌};
 ghost use Rattle.std.specs.Option.{ForSome};
 ghost use Rattle.std.specs.Ordering.{int_eq};
 ghost use Rattle.dap_message.specs.Message.{Sent, sent};
-ghost use Rattle.dap_rename.specs.Messages.{IsProperId, Carries, equal_places, in_whole};
-ghost use Rattle.dap_rename.specs.Names.{StandFor, HaveEqualCounts, numbers_in};
+ghost use Rattle.dap_rename.specs.Messages.{Carries, classes_of_sort, equal_places, same_class};
+ghost use Rattle.dap_rename.specs.Modes.{stop_in};
+ghost use Rattle.dap_rename.specs.Names.{StandFor, HaveEqualCounts, mode_of, stops_of, numbers_at};
 ghost use Rattle.dap_rename.specs.Carrying.{has_pair};
 ghost use Rattle.dap_rename.specs.PairIndex.{IsIndexOf};
-ghost use Rattle.dap_rename.specs.Pairs.{entries, is_taken, is_given, MayFollow};
-ghost use Rattle.dap_rename.specs.Sorts.{same_sort};
-ghost use Rattle.dap_rename.specs.Pairs.{PairFails, FailsFirst, RefusesPairs, equal_names};
-ghost use Rattle.dap_rename.specs.Renamings.{IsRenaming, pairs_of_class};
+ghost use Rattle.dap_rename.specs.Pairs.{AreRenaming, class_of, entries, is_taken, is_given};
+ghost use Rattle.dap_rename.specs.Pairs.{MayFollow, PairFails, FailsFirst, RefusesPairs};
+ghost use Rattle.dap_rename.specs.Pairs.{equal_names, names_of_classes};
+ghost use Rattle.dap_rename.specs.Renamings.{pairs_of_class};
 
 use crate::carries::carries_list;
+use crate::mode::Mode;
 use crate::names::Names;
 use crate::pair::{Pair, PairFault};
-use crate::pair_index::{PairIndex, is_proper};
-use crate::sorts::SORTS;
+use crate::pair_index::{PairIndex, has_class, is_proper};
 use dap_message::Message;
 use dap_names::{NameFault, NameTable};
-use dap_tree::Sort;
+use dap_tree::{SORTS, Sort};
 use std::alloc::{AllocError, Global};
 
-/// Pairs of numbers that put other ids in the place of the ids of messages, sort by sort.
+/// Pairs of numbers that put other ids in the place of the ids of messages, class by class.
 #[derive(Drop)]
 pub struct Renaming {
     pairs: Vec<Pair>,
-    // The pairs of `new` by their sort and number. Those of two tables have none: it would take
+    // The pairs of `new` by their class and number. Those of two tables have none: it would take
     // memory and time, and `compare` only shows the pairs.
     index: Option<PairIndex>,
     ghost indexed: { ForSome index (IsIndexOf pairs.items) },
@@ -36,11 +37,11 @@ pub struct Renaming {
 impl Renaming {
     ghost use Rattle.dap_rename.specs.Renaming.{pairs_of};
 
-    /// The renaming of these pairs. It is refused if they are none: if some sort has one number
-    /// twice on either side, or a variables reference is 0.
+    /// The renaming of these pairs. It is refused if they are none: if there is no such class, or
+    /// some class has one number twice on either side, or a variables reference is 0.
     pub fn new(alloc: Global, pairs: &[Pair]) -> Result<Renaming, PairFault>
         ensures pairs { IfOk result (λ r. pairs_of r ≡ pairs.now) }
-        ensures renaming { OnOk result (IsRenaming IsProperId (entries pairs.now)) }
+        ensures renaming { OnOk result (AreRenaming pairs.now) }
         ensures refused { IfErr result (RefusesPairs pairs.now) }
     {
         match PairIndex::new(alloc, pairs) {
@@ -63,7 +64,8 @@ impl Renaming {
         self.pairs.as_slice()
     }
 
-    /// The pairs of numbers with equal names, in the order of the sorts, and then of the names.
+    /// The pairs of numbers with equal names, in the order of the sorts, then of the stops, and
+    /// then of the names.
     ///
     /// The only fault is `Memory`.
     pub fn between<T: NameTable>(
@@ -72,34 +74,34 @@ impl Renaming {
         to: &Names<T>,
     ) -> Result<Renaming, NameFault>
         requires { HaveEqualCounts T.numbers from.now to.now }
-        ensures pairs { IfOk result (λ r. entries (pairs_of r)
-            ≡ equal_names (numbers_in T.numbers from.now) (numbers_in T.numbers to.now)) }
+        ensures pairs { IfOk result (λ r. entries (pairs_of r) ≡ equal_names (stops_of from.now)
+            (numbers_at T.numbers from.now) (numbers_at T.numbers to.now)) }
         ensures stand { IfOk result (λ r. (ms ns : List Sent)
-            → StandFor T.numbers from.now ms → StandFor T.numbers to.now ns
-            → entries (pairs_of r) ≡ equal_places ms ns) }
+            → StandFor T.numbers T.limit from.now ms → StandFor T.numbers T.limit to.now ns
+            → entries (pairs_of r) ≡ equal_places (stop_in (mode_of from.now)) ms ns) }
         ensures memory { IfErr result (λ f. f ≡ NameFault.Memory) }
     {
         let mut pairs = Vec::new(alloc);
         for sort in SORTS {
-            let (from, to) = (from.tables.table(sort), to.tables.table(sort));
-            add_pairs(&mut pairs, sort, from, to)?;
+            add_sort(&mut pairs, sort, from, to)?;
         }
         Ok(Renaming { pairs, index: None })
     }
 
     /// Whether the pairs carry the one list to the other: the messages are equal but for the
-    /// numbers of their ids, and for each id there is a pair of its sort with its number in the one
-    /// and in the other. Takes no memory.
-    pub fn carries(&self, from: &[Message], to: &[Message]) -> bool
-        ensures { IsTrue result
-            ↔ Carries in_whole (entries (pairs_of self.now)) (map sent from.now) (map sent to.now) }
+    /// numbers of their ids, and for each id there is a pair of its class, which the mode tells,
+    /// with its number in the one and in the other. Takes no memory.
+    pub fn carries(&self, from: &[Message], to: &[Message], mode: Mode) -> bool
+        ensures { IsTrue result ↔ Carries (stop_in mode) (entries (pairs_of self.now))
+            (map sent from.now) (map sent to.now) }
     {
-        carries_list(self, from, to)
+        carries_list(self, from, to, mode)
     }
 
     /// Whether some pair is equal to this one.
     pub(crate) fn has(&self, pair: &Pair) -> bool
-        ensures { result ≡ has_pair (pairs_of self.now) pair.now.sort pair.now.from pair.now.to }
+        ensures { result
+            ≡ has_pair (pairs_of self.now) (class_of pair.now) pair.now.from pair.now.to }
     {
         match &self.index {
             Some(index) => index.has(pair),
@@ -109,10 +111,17 @@ impl Renaming {
 }
 
 fn is_equal(pair: &Pair, other: &Pair) -> bool
-    ensures { result ≡ (same_sort pair.now.sort other.now.sort
+    ensures { result ≡ (same_class (class_of pair.now) (class_of other.now)
         && (int_eq pair.now.from other.now.from && int_eq pair.now.to other.now.to)) }
 {
-    pair.sort == other.sort && pair.from == other.from && pair.to == other.to
+    is_of_class(pair, other) && pair.from == other.from && pair.to == other.to
+}
+
+// Whether the two are of one class.
+fn is_of_class(pair: &Pair, other: &Pair) -> bool
+    ensures { result ≡ same_class (class_of pair.now) (class_of other.now) }
+{
+    pair.sort == other.sort && pair.stop == other.stop
 }
 
 // The fault of the first pair that fails, found without memory and so by going through the earlier
@@ -128,7 +137,7 @@ fn fault_or_memory(pairs: &[Pair]) -> PairFault
 
 fn first_fault(pairs: &[Pair]) -> Option<PairFault>
     ensures { MatchOption result
-        (IsRenaming IsProperId (entries pairs.now)) (FailsFirst pairs.now) }
+        (AreRenaming pairs.now) (FailsFirst pairs.now) }
 {
     for (index, pair) in pairs.iter().enumerate() {
         let fault = fault_behind(&pairs[..index], pair);
@@ -143,7 +152,9 @@ fn fault_behind(before: &[Pair], pair: &Pair) -> Option<PairFault>
     ensures { MatchOption result (MayFollow before.now pair.now) (PairFails before.now pair.now) }
 {
     let place = before.len() + 1;
-    if !is_proper(pair) {
+    if !has_class(pair) {
+        Some(PairFault::BadStop(place))
+    } else if !is_proper(pair) {
         Some(PairFault::ZeroReference(place))
     } else if is_taken(before, pair) {
         Some(PairFault::FromTwice(place))
@@ -157,31 +168,52 @@ fn fault_behind(before: &[Pair], pair: &Pair) -> Option<PairFault>
 fn is_taken(before: &[Pair], pair: &Pair) -> bool
     ensures { result ≡ is_taken before.now pair.now }
 {
-    before.iter().any(|earlier| earlier.sort == pair.sort && earlier.from == pair.from)
+    before.iter().any(|earlier| is_of_class(earlier, pair) && earlier.from == pair.from)
 }
 
 fn is_given(before: &[Pair], pair: &Pair) -> bool
     ensures { result ≡ is_given before.now pair.now }
 {
-    before.iter().any(|earlier| earlier.sort == pair.sort && earlier.to == pair.to)
+    before.iter().any(|earlier| is_of_class(earlier, pair) && earlier.to == pair.to)
 }
 
-fn add_pairs<T: NameTable>(
+// Adds the pairs of each class of the sort.
+fn add_sort<T: NameTable>(
     pairs: &mut Vec<Pair>,
     sort: Sort,
-    from: &T,
-    to: &T,
+    from: &Names<T>,
+    to: &Names<T>,
 ) -> Result<(), AllocError>
-    requires { length (T.numbers from.now) ≡ length (T.numbers to.now) }
+    requires { HaveEqualCounts T.numbers from.now to.now }
     ensures { OnOk result (entries pairs.new.items ≡ entries pairs.old.items
-        ++ pairs_of_class (sort, 0) (T.numbers from.now) (T.numbers to.now)) }
+        ++ names_of_classes (classes_of_sort (stops_of from.now) sort)
+        (numbers_at T.numbers from.now) (numbers_at T.numbers to.now)) }
 {
-    for index in 0..from.len() {
-        let place = index as i64 + 1;
+    let last = from.last(sort);
+    for stop in 0..last {
+        add_class(pairs, (sort, stop), from, to)?;
+    }
+    add_class(pairs, (sort, last), from, to)
+}
+
+fn add_class<T: NameTable>(
+    pairs: &mut Vec<Pair>,
+    class: (Sort, u64),
+    from: &Names<T>,
+    to: &Names<T>,
+) -> Result<(), AllocError>
+    requires { HaveEqualCounts T.numbers from.now to.now }
+    ensures { OnOk result (entries pairs.new.items ≡ entries pairs.old.items
+        ++ pairs_of_class class (numbers_at T.numbers from.now class)
+        (numbers_at T.numbers to.now class)) }
+{
+    let (sort, stop) = class;
+    for index in 0..from.len_at(sort, stop) {
         pairs.push(Pair {
             sort,
-            from: from.at(place),
-            to: to.at(place),
+            stop,
+            from: from.number_at(sort, stop, index),
+            to: to.number_at(sort, stop, index),
         })?;
     }
     Ok(())

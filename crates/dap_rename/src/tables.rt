@@ -1,13 +1,18 @@
 //! A table of names for each sort of ids.
-ghost use Rattle.std.specs.Prelude.{◌≡◌, ◌≤◌, false, Err, IfOk, OnOk, OnErr, length, take};
+ghost use Rattle.std.specs.Prelude.{◌≡◌, ◌<◌, ◌≤◌, ◌^◌, false, Err, IfOk, OnOk, OnErr, length};
+ghost use Rattle.std.specs.Prelude.{take};
+ghost use Rattle.dap_names.specs.IndexNames.{index_limit, index_numbers};
+ghost use Rattle.dap_names.specs.PlainNames.{plain_limit, plain_numbers};
 ghost use Rattle.dap_names.specs.Table.{has, place};
+ghost use Rattle.dap_rename.specs.Names.{AreEmpty};
 ghost use Rattle.dap_rename.specs.Sorts.{EachSort};
 ghost use Rattle.dap_rename.specs.Tables.{table_of, lists, counts, added, added_all, names_from};
 ghost use Rattle.dap_rename.specs.Tables.{AllBegin, limits, AllFit, SomeIsOver};
 
-use dap_names::{NameFault, NameTable};
+use dap_names::{IndexNames, NameFault, NameTable, PlainNames};
 use dap_tree::Sort;
 use std::alloc::Global;
+use std::hash::BuildHasher;
 
 /// A table for each sort of ids.
 #[derive(Drop)]
@@ -32,6 +37,44 @@ impl<T> Tables<T> {
             Sort::Reference => &self.reference,
             Sort::Thread => &self.thread,
             Sort::Breakpoint => &self.breakpoint,
+        }
+    }
+}
+
+impl Tables<PlainNames> {
+    /// Empty tables that look for a number from their front, each for at most `limit` names. Takes
+    /// no memory.
+    pub fn plain(alloc: Global, limit: usize) -> Tables<PlainNames>
+        requires { limit < 2 ^ 31 }
+        ensures empty { AreEmpty plain_numbers result }
+        ensures limits { (s : Sort) → plain_limit (table_of result s) ≡ limit }
+    {
+        Tables {
+            client_seq: PlainNames::new(alloc, limit),
+            adapter_seq: PlainNames::new(alloc, limit),
+            frame: PlainNames::new(alloc, limit),
+            reference: PlainNames::new(alloc, limit),
+            thread: PlainNames::new(alloc, limit),
+            breakpoint: PlainNames::new(alloc, limit),
+        }
+    }
+}
+
+impl<S: BuildHasher + Copy + Drop> Tables<IndexNames<S>> {
+    /// Empty tables that look for a number by its hash, each for at most `limit` names. Takes no
+    /// memory.
+    pub fn indexed(alloc: Global, limit: usize, hasher: S) -> Tables<IndexNames<S>>
+        requires { limit < 2 ^ 31 }
+        ensures empty { AreEmpty index_numbers result }
+        ensures limits { (s : Sort) → index_limit (table_of result s) ≡ limit }
+    {
+        Tables {
+            client_seq: IndexNames::new(alloc, limit, hasher),
+            adapter_seq: IndexNames::new(alloc, limit, hasher),
+            frame: IndexNames::new(alloc, limit, hasher),
+            reference: IndexNames::new(alloc, limit, hasher),
+            thread: IndexNames::new(alloc, limit, hasher),
+            breakpoint: IndexNames::new(alloc, limit, hasher),
         }
     }
 }
@@ -104,8 +147,8 @@ impl<T: NameTable> Tables<T> {
         }
     }
 
-    // How many names each table has.
-    fn lengths(&self) -> Tables<usize>
+    /// How many names each table has.
+    pub(crate) fn lengths(&self) -> Tables<usize>
         ensures { result ≡ counts T.numbers self.now }
     {
         Tables {
@@ -118,8 +161,8 @@ impl<T: NameTable> Tables<T> {
         }
     }
 
-    // Each table with its first names, so many as are said.
-    fn cut(&mut self, lengths: Tables<usize>)
+    /// Each table with its first names, so many as are said.
+    pub(crate) fn cut(&mut self, lengths: Tables<usize>)
         requires { EachSort (λ s. table_of lengths s ≤ length (T.numbers (table_of self.old s))) }
         ensures cut { EachSort (λ s. T.numbers (table_of self.new s)
             ≡ take (table_of lengths s) (T.numbers (table_of self.old s))) }

@@ -6,12 +6,10 @@ use Rattle.std.specs.List.{flat_map}
 use Rattle.std.specs.Option.{option_map_or}
 use Rattle.std.specs.Str.{bytes_eq}
 use Rattle.dap_profile.specs.PlaceSteps.{PlaceStep, named, each}
-use Rattle.dap_profile.specs.Profile.{profile}
+use Rattle.dap_profile.specs.Profile.{profile, want_word}
 use Rattle.dap_profile.specs.ProfileRows.{ProfileRow}
 use Rattle.dap_profile.specs.declared.profile.Kind.{Kind}
 use Rattle.dap_profile.specs.declared.profile.Kind.TheVariants.{Request, Response, Event}
-use Rattle.dap_profile.specs.declared.profile.Want.{Want}
-use Rattle.dap_profile.specs.declared.profile.Want.TheVariants as want
 
 -- the kind of message that a row is asked of; `*` is any
 abbrev pub kind_word : Option Kind → List ℕ
@@ -39,20 +37,6 @@ place_words steps = further_words steps
 abbrev pub need_word : Bool → List ℕ
 need_word true = codes " needed "
 need_word false = codes " optional "
-
--- what is to stand at the place: a type, or what an id numbers
-abbrev pub want_word : Want → List ℕ
-want_word want.Bool = codes "boolean"
-want_word want.Whole = codes "integer"
-want_word want.Text = codes "string"
-want_word want.Object = codes "object"
-want_word want.List = codes "array"
-want_word want.OwnSeq = codes "own-seq"
-want_word want.OtherSeq = codes "other-seq"
-want_word want.Frame = codes "frame"
-want_word want.Reference = codes "reference"
-want_word want.Thread = codes "thread"
-want_word want.Breakpoint = codes "breakpoint"
 
 -- the line of a row
 abbrev pub row_line : ProfileRow → List ℕ

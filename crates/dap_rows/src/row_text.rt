@@ -4,9 +4,9 @@ ghost use Rattle.dap_profile.specs.PlaceSteps.{steps_of};
 ghost use Rattle.dap_profile.specs.ProfileRows.{row_of};
 ghost use Rattle.dap_rows.specs.RowLines.{asked_line, has_number, kind_word, lines_of};
 ghost use Rattle.dap_rows.specs.RowLines.{messages_words};
-ghost use Rattle.dap_rows.specs.RowLines.{need_word, place_words, row_line, want_word};
+ghost use Rattle.dap_rows.specs.RowLines.{need_word, place_words, row_line};
 
-use dap_profile::{Kind, Place, Row, Want, profile_rows};
+use dap_profile::{Kind, Place, Row, profile_rows};
 use itoa::Buffer;
 use std::alloc::{AllocError, Global};
 
@@ -19,25 +19,6 @@ fn kind_word(kind: Option<Kind>) -> &'static str
         Some(Kind::Request) => "request",
         Some(Kind::Response) => "response",
         Some(Kind::Event) => "event",
-    }
-}
-
-/// The word for what is to stand at a place.
-fn want_word(want: Want) -> &'static str
-    ensures { result.now ≡ want_word want }
-{
-    match want {
-        Want::Bool => "boolean",
-        Want::Whole => "integer",
-        Want::Text => "string",
-        Want::Object => "object",
-        Want::List => "array",
-        Want::OwnSeq => "own-seq",
-        Want::OtherSeq => "other-seq",
-        Want::Frame => "frame",
-        Want::Reference => "reference",
-        Want::Thread => "thread",
-        Want::Breakpoint => "breakpoint",
     }
 }
 
@@ -105,7 +86,7 @@ fn push_row(out: &mut String, row: &Row) -> Result<(), AllocError>
     out.push_str(" ")?;
     push_place(out, row.place)?;
     out.push_str(need_word(row.needed))?;
-    out.push_str(want_word(row.want))?;
+    out.push_str(row.want.word())?;
     out.push_str("\n")
 }
 

@@ -18,3 +18,4 @@ pub mod Strings
 pub mod Tokens
 pub mod Utf8
 pub mod IdPaths
+pub mod Sorts

@@ -9,3 +9,4 @@ pub mod LentChildren
 pub mod ReadTokens
 pub mod WrittenTokens
 pub mod Rows
+pub mod Sorts

@@ -20,6 +20,6 @@ pub use fault::TreeFault;
 pub use json::Scratch;
 pub use read::{read_tree, read_tree_with};
 pub use side::Side;
-pub use sort::Sort;
+pub use sort::{SORTS, Sort};
 pub use tree::Tree;
 pub use write::{write_tree, write_tree_to};

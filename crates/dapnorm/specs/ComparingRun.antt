@@ -4,9 +4,7 @@ use Rattle.std.specs.Fmt.{signed_decimal}
 use Rattle.std.specs.List.{flat_map}
 use Rattle.dap_device.specs.declared.device.Source.{Ghosts as Source}
 use Rattle.dap_device.specs.declared.device.Sink.{Ghosts as Sink}
-use Rattle.dap_tree.specs.declared.sort.Sort.{Sort}
-use Rattle.dap_tree.specs.declared.sort.Sort.TheVariants.{ClientSeq, AdapterSeq, Frame, Reference}
-use Rattle.dap_tree.specs.declared.sort.Sort.TheVariants.{Thread, Breakpoint}
+use Rattle.dap_tree.specs.Sorts.{sort_word}
 use Rattle.dap_rename.specs.declared.pair.Pair.{Pair}
 use Rattle.dap_rename.specs.Renaming.{pairs_of}
 use Rattle.dap_input.specs.declared.limits.Limits.{Limits}
@@ -19,15 +17,6 @@ use Rattle.dap_device.specs.Written.{AllSent, FrontWritten}
 use Rattle.dapnorm.specs.FaultLine.{compare_refused_text, fault_line, refused_text}
 use Rattle.dapnorm.specs.Run.{HasSent, refused_status}
 use Rattle.dap_compare.specs.Verdicts.{Compares}
-
--- how a sort is written
-abbrev pub sort_word : Sort → List ℕ
-sort_word ClientSeq = codes "client-seq"
-sort_word AdapterSeq = codes "adapter-seq"
-sort_word Frame = codes "frame"
-sort_word Reference = codes "reference"
-sort_word Thread = codes "thread"
-sort_word Breakpoint = codes "breakpoint"
 
 -- the line of a pair
 abbrev pub pair_line : Pair → List ℕ

@@ -2,7 +2,7 @@
 ghost use Rattle.std.specs.Prelude.{◌≡◌, ◌+◌, ◌<◌, ◌≤◌, ◌^◌};
 ghost use Rattle.std.specs.List.{flat_map};
 ghost use Rattle.dapnorm.specs.ComparingRun.{CompareIsTold, differ_line, first_line, pair_line};
-ghost use Rattle.dapnorm.specs.ComparingRun.{pairs_in, refusal_status, same_line, sort_word};
+ghost use Rattle.dapnorm.specs.ComparingRun.{pairs_in, refusal_status, same_line};
 ghost use Rattle.dapnorm.specs.ComparingRun.{verdict_status, verdict_text};
 ghost use Rattle.dap_device.specs.Written.{HasSentAll, HasWrittenAll};
 ghost use Rattle.dap_input.specs.Limits.{AreSound};
@@ -16,23 +16,8 @@ use dap_device::{DeviceFault, Sink, Source, write_all};
 use dap_input::{Limits, Refused};
 use dap_normal::index_tables;
 use dap_rename::{NameTable, Pair, Tables};
-use dap_tree::Sort;
 use itoa::Buffer;
 use std::alloc::Global;
-
-/// How a sort is written.
-fn word(sort: Sort) -> &'static str
-    ensures { result.now ≡ sort_word sort }
-{
-    match sort {
-        Sort::ClientSeq => "client-seq",
-        Sort::AdapterSeq => "adapter-seq",
-        Sort::Frame => "frame",
-        Sort::Reference => "reference",
-        Sort::Thread => "thread",
-        Sort::Breakpoint => "breakpoint",
-    }
-}
 
 /// The line of a pair, with its LF.
 fn line_of(pair: Pair) -> ArrayString<LINE>
@@ -40,7 +25,7 @@ fn line_of(pair: Pair) -> ArrayString<LINE>
 {
     let mut number = Buffer::new();
     let mut line = ArrayString::new();
-    line.push_str(word(pair.sort));
+    line.push_str(pair.sort.word());
     line.push_str(" ");
     line.push_str(number.format(pair.from));
     line.push_str(" ");

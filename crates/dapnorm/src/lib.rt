@@ -26,7 +26,7 @@ pub use dap_normal::{
     Checked, Normalised, check, check_with, normalise, normalise_bytes, normalise_with,
 };
 pub use dap_recording::{RecordCause, RecorderFault, TraceCause};
-pub use dap_rename::{IndexNames, NameTable, Pair, Renaming, Tables};
+pub use dap_rename::{IndexNames, Mode, NameTable, Pair, Renaming, Tables};
 pub use dap_session::Rule;
 pub use dap_show::show;
 pub use dap_trace::record;

@@ -44,14 +44,7 @@ fn tables(alloc: Global, limits: Limits, hasher: RandomState) -> Tables<IndexNam
     requires { AreSound limits }
     ensures { AreReady index_numbers index_limit limits result }
 {
-    Tables {
-        client_seq: IndexNames::new(alloc, limits.ids, hasher),
-        adapter_seq: IndexNames::new(alloc, limits.ids, hasher),
-        frame: IndexNames::new(alloc, limits.ids, hasher),
-        reference: IndexNames::new(alloc, limits.ids, hasher),
-        thread: IndexNames::new(alloc, limits.ids, hasher),
-        breakpoint: IndexNames::new(alloc, limits.ids, hasher),
-    }
+    Tables::indexed(alloc, limits.ids, hasher)
 }
 
 /// Does the job over the standard streams.
@@ -83,14 +76,15 @@ fn open_input(rt: &HostRuntime, path: &str, which: &str) -> Result<File, u8> {
     }
 }
 
+/// Opens the files of two inputs that are compared.
+fn open_both(rt: &HostRuntime, a: &str, b: &str) -> Result<(File, File), u8> {
+    Ok((open_input(rt, a, "A")?, open_input(rt, b, "B")?))
+}
+
 /// Compares the recordings of two files.
 fn compare_files(rt: &HostRuntime, a: &str, b: &str, hasher: RandomState) -> u8 {
-    let file_a = match open_input(rt, a, "A") {
-        Ok(file) => file,
-        Err(status) => return status,
-    };
-    let file_b = match open_input(rt, b, "B") {
-        Ok(file) => file,
+    let (file_a, file_b) = match open_both(rt, a, b) {
+        Ok(files) => files,
         Err(status) => return status,
     };
     let mut reader_a = StdSource::new(file_a);
@@ -111,12 +105,8 @@ fn compare_files(rt: &HostRuntime, a: &str, b: &str, hasher: RandomState) -> u8 
 
 /// Tells how the recordings of two files differ.
 fn diff_files(rt: &HostRuntime, a: &str, b: &str, hasher: RandomState) -> u8 {
-    let file_a = match open_input(rt, a, "A") {
-        Ok(file) => file,
-        Err(status) => return status,
-    };
-    let file_b = match open_input(rt, b, "B") {
-        Ok(file) => file,
+    let (file_a, file_b) = match open_both(rt, a, b) {
+        Ok(files) => files,
         Err(status) => return status,
     };
     let mut reader_a = StdSource::new(file_a);

@@ -104,19 +104,64 @@ impl io::Write for Writer {
 
 const FAULT: DeviceFault = DeviceFault {};
 
+/// What a read of four bytes answers, what it leaves of them, and what the source tells then.
+#[derive(Clone, Copy, Debug, PartialEq, Eq)]
+struct Seen {
+    answer: Result<usize, DeviceFault>,
+    bytes: [u8; 4],
+    given: u64,
+    failures: u64,
+}
+
+/// What is seen of the next read; none where the source has given too much for one more.
+fn next_read<R: Source>(source: &mut R) -> Option<Seen> {
+    if source.given() >= 1_000 || source.failures() >= 1_000 {
+        return None;
+    }
+    let mut bytes = [0; 4];
+    let answer = source.read(&mut bytes);
+    Some(Seen {
+        answer,
+        bytes,
+        given: source.given(),
+        failures: source.failures(),
+    })
+}
+
+/// Asks for what is seen of the reads of a source over a reader that does this.
+fn reads(rt: &impl Abort, steps: &'static [Read], wanted: &[Seen]) {
+    let mut source = StdSource::new(Reader(steps));
+    for seen in wanted {
+        assert_eq!(rt; next_read(&mut source), Some(*seen));
+    }
+}
+
+/// Reads that are interrupted before bytes come.
+const INTERRUPTED_READS: [Read; 3] = [
+    Read::Fails(ErrorKind::Interrupted),
+    Read::Fails(ErrorKind::Interrupted),
+    Read::Gives(b"ab"),
+];
+
+/// Two bytes come, and then the end.
+const TWO_BYTES: [Seen; 2] = [
+    Seen {
+        answer: Ok(2),
+        bytes: [b'a', b'b', 0, 0],
+        given: 2,
+        failures: 0,
+    },
+    Seen {
+        answer: Ok(0),
+        bytes: [0; 4],
+        given: 2,
+        failures: 0,
+    },
+];
+
 #[test]
 fn an_interrupted_read_is_made_again(rt: HostRuntime) {
-    let mut source = StdSource::new(Reader(&[
-        Read::Fails(ErrorKind::Interrupted),
-        Read::Fails(ErrorKind::Interrupted),
-        Read::Gives(b"ab"),
-    ]));
-    let mut buffer = [0; 4];
-    assert_eq!(rt; source.read(&mut buffer), Ok(2));
-    assert_eq!(rt; &buffer[..2], b"ab".as_slice());
-    assert_eq!(rt; source.read(&mut buffer), Ok(0));
-    assert_eq!(rt; source.given(), 2);
-    assert_eq!(rt; source.failures(), 0);
+    reads(&rt, &INTERRUPTED_READS, &TWO_BYTES);
 }
 
 /// Reads that fail, each with another error, before bytes come.
@@ -127,17 +172,26 @@ const FAILED_READS: [&[Read]; 4] = [
     &[Read::Fails(ErrorKind::BrokenPipe), Read::Gives(b"ab")],
 ];
 
+/// A read fails, and two bytes come at the next.
+const FAILED_AND_TWO_BYTES: [Seen; 2] = [
+    Seen {
+        answer: Err(FAULT),
+        bytes: [0; 4],
+        given: 0,
+        failures: 1,
+    },
+    Seen {
+        answer: Ok(2),
+        bytes: [b'a', b'b', 0, 0],
+        given: 2,
+        failures: 1,
+    },
+];
+
 #[test]
 fn an_error_of_a_read_is_no_end(rt: HostRuntime) {
-    for reads in FAILED_READS {
-        let mut source = StdSource::new(Reader(reads));
-        let mut buffer = [0; 4];
-        assert_eq!(rt; source.read(&mut buffer), Err(FAULT));
-        assert_eq!(rt; source.given(), 0);
-        assert_eq!(rt; source.failures(), 1);
-        assert_eq!(rt; source.read(&mut buffer), Ok(2));
-        assert_eq!(rt; source.given(), 2);
-        assert_eq!(rt; source.failures(), 1);
+    for steps in &FAILED_READS {
+        reads(&rt, steps, &FAILED_AND_TWO_BYTES);
     }
 }
 
@@ -169,7 +223,7 @@ struct Written {
 }
 
 /// Writes and flushes, and asks for all that it leaves.
-fn writes(rt: &impl Abort, alloc: Global, written: Written) {
+fn writes(rt: &impl Abort, alloc: Global, written: &Written) {
     let mut writer = Writer::new(alloc, written.steps, written.failing_flushes);
     let mut sink = StdSink::new(&mut writer);
     let answer = write_and_flush(&mut sink, b"abcd");
@@ -240,16 +294,18 @@ const INTERRUPTED_FLUSH: Written = Written {
     ..NOT_FLUSHED
 };
 
+const WRITTEN: [Written; 6] = [
+    ONE_BYTE_AT_A_TIME,
+    INTERRUPTED,
+    FULL,
+    TAKES_NOTHING,
+    NOT_FLUSHED,
+    INTERRUPTED_FLUSH,
+];
+
 #[test]
 fn a_text_is_written_and_flushed(rt: HostRuntime) {
-    for written in [
-        ONE_BYTE_AT_A_TIME,
-        INTERRUPTED,
-        FULL,
-        TAKES_NOTHING,
-        NOT_FLUSHED,
-        INTERRUPTED_FLUSH,
-    ] {
+    for written in &WRITTEN {
         writes(&rt, rt.alloc(), written);
     }
 }

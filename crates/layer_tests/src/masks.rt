@@ -54,17 +54,20 @@ const BAD_RULES: [BadRules; 17] = [
 /// One line feed too many.
 static LONG: [u8; 65_537] = [b'\n'; 65_537];
 
+/// Why a file of rules is refused.
+fn fault_of(alloc: Global, text: &[u8]) -> Option<RulesFault> {
+    MaskRules::read(alloc, text).err()
+}
+
+/// Whether a file of rules is refused so.
+fn is_bad(alloc: Global, (text, line, cause): BadRules) -> bool {
+    fault_of(alloc, text) == Some(RulesFault { line, cause })
+}
+
 #[test]
 fn bad_rules(rt: HostRuntime) {
-    for (text, line, cause) in &BAD_RULES {
-        let fault = RulesFault {
-            line: *line,
-            cause: *cause,
-        };
-        assert!(rt;
-            MaskRules::read(rt.alloc(), text).err() == Some(fault),
-            "{line} {cause}"
-        );
+    for bad in &BAD_RULES {
+        assert!(rt; is_bad(rt.alloc(), *bad), "{} {}", bad.1, bad.2);
     }
 }
 
@@ -80,7 +83,7 @@ fn rules_of(alloc: Global, count: usize) -> Result<Vec<u8>, AllocError> {
 
 fn is_refused(alloc: Global, count: usize) -> Option<Option<RulesFault>> {
     match rules_of(alloc, count) {
-        Ok(text) => Some(MaskRules::read(alloc, &text).err()),
+        Ok(text) => Some(fault_of(alloc, text.as_slice())),
         Err(_) => None,
     }
 }
@@ -164,18 +167,25 @@ fn masked(alloc: Global, rules: &MaskRules, content: &[u8]) -> Result<String, Tr
     }
 }
 
+/// Whether a content is masked so.
+fn is_masked(alloc: Global, rules: &MaskRules, (content, wanted): Masking) -> bool {
+    match (masked(alloc, rules, content), wanted) {
+        (Ok(text), Ok(wanted)) => text.as_str() == wanted,
+        (Err(fault), Err(wanted)) => fault == wanted,
+        _ => false,
+    }
+}
+
+/// The rules of that file.
+fn read_rules(rt: &impl Abort, alloc: Global) -> MaskRules {
+    MaskRules::read(alloc, RULES).ok().expect(rt, "no rules")
+}
+
 #[test]
 fn masked_contents(rt: HostRuntime) {
-    let Ok(rules) = MaskRules::read(rt.alloc(), RULES) else {
-        assert!(rt; false);
-        return;
-    };
-    for (content, wanted) in &MASKINGS {
-        match (masked(rt.alloc(), &rules, content), wanted) {
-            (Ok(text), Ok(wanted)) => assert!(rt; text.as_str() == *wanted, "{wanted}"),
-            (Err(fault), Err(wanted)) => assert_eq!(rt; fault, *wanted),
-            _ => assert!(rt; false, "{wanted:?}"),
-        }
+    let rules = read_rules(&rt, rt.alloc());
+    for masking in &MASKINGS {
+        assert!(rt; is_masked(rt.alloc(), &rules, *masking), "{:?}", masking.1);
     }
 }
 
@@ -210,21 +220,31 @@ const RECORDINGS: [Recorded; 4] = [
     ),
 ];
 
+/// What `mask` answers of a recording, and what goes out of it.
+fn outcome_of(
+    rt: &impl Abort,
+    alloc: Global,
+    rules: &MaskRules,
+    bytes: &[u8],
+) -> (Result<(), Refused>, MemorySink) {
+    let mut reader = MemorySource::new(bytes);
+    let mut writer = MemorySink::new(alloc, 1000).expect(rt, "no memory");
+    let answer = mask(alloc, rules, &mut reader, &mut writer, LIMITS);
+    (answer, writer)
+}
+
+/// Asks for the answer and for what goes out.
+fn masks(rt: &impl Abort, alloc: Global, rules: &MaskRules, recorded: Recorded) {
+    let (bytes, wanted, answer) = recorded;
+    let (given, writer) = outcome_of(rt, alloc, rules, bytes);
+    assert!(rt; given == answer);
+    assert!(rt; writer.bytes() == wanted);
+}
+
 #[test]
 fn masked_recordings(rt: HostRuntime) {
-    let alloc = rt.alloc();
-    let Ok(rules) = MaskRules::read(alloc, RULES) else {
-        assert!(rt; false);
-        return;
-    };
-    for (bytes, wanted, answer) in &RECORDINGS {
-        let mut reader = MemorySource::new(bytes);
-        let Ok(mut writer) = MemorySink::new(alloc, 1000) else {
-            assert!(rt; false);
-            return;
-        };
-        let given = mask(alloc, &rules, &mut reader, &mut writer, LIMITS);
-        assert!(rt; given == *answer);
-        assert!(rt; writer.bytes() == *wanted);
+    let rules = read_rules(&rt, rt.alloc());
+    for recorded in &RECORDINGS {
+        masks(&rt, rt.alloc(), &rules, *recorded);
     }
 }

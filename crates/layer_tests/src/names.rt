@@ -1,24 +1,23 @@
 //! Names for the ids of messages.
-use crate::lines::{INITIALIZE, INITIALIZE_RESPONSE, Line, THREADS, message};
+use crate::lines::{INITIALIZE, INITIALIZE_RESPONSE, Line, STOPPED, THREADS, message};
 use crate::texts::is_printed;
 use dap_message::Message;
-use dap_rename::{NameFault, Names, PairFault, PlainNames, Tables, laws};
+use dap_rename::{Mode, NameFault, Names, PairFault, PlainNames, Tables, laws};
 use dap_tree::Side::{Adapter, Client};
 use dap_tree::Sort;
 use std::alloc::Global;
 use std::process::Abort;
 
-/// Names in plain tables of that limit.
+/// Names of whole recordings in plain tables of that limit.
 pub fn plain_names(alloc: Global, limit: u8) -> Names<PlainNames> {
-    let tables = Tables {
-        client_seq: PlainNames::new(alloc, limit as usize),
-        adapter_seq: PlainNames::new(alloc, limit as usize),
-        frame: PlainNames::new(alloc, limit as usize),
-        reference: PlainNames::new(alloc, limit as usize),
-        thread: PlainNames::new(alloc, limit as usize),
-        breakpoint: PlainNames::new(alloc, limit as usize),
-    };
-    Names::new(alloc, tables)
+    names_of_mode(alloc, (limit, limit), Mode::Whole)
+}
+
+/// Names in plain tables of these limits, of which the second is that of the frames.
+pub fn names_of_mode(alloc: Global, (limit, frames): (u8, u8), mode: Mode) -> Names<PlainNames> {
+    let mut tables = Tables::plain(alloc, limit as usize);
+    tables.frame = PlainNames::new(alloc, frames as usize);
+    Names::new(alloc, tables, mode)
 }
 
 /// The renamed message of a line.
@@ -44,6 +43,10 @@ enum Step {
     Full(Line),
     /// No line: there are so many names of a sort.
     Count(Sort, usize),
+    /// No line: so many stops were renamed.
+    Stops(u64),
+    /// No line: there are so many names of a sort in its class behind so many stops.
+    CountAt(Sort, u64, usize),
 }
 
 fn becomes(alloc: Global, names: &mut Names<PlainNames>, line: Line, text: &str) -> bool {
@@ -70,14 +73,21 @@ fn answers(alloc: Global, names: &mut Names<PlainNames>, step: Step) -> bool {
         Step::Ids(line, ids) => gets_ids(alloc, names, line, ids),
         Step::Full(line) => is_full(alloc, names, line),
         Step::Count(sort, count) => names.len(sort) == count,
+        Step::Stops(count) => names.stops() == count,
+        Step::CountAt(sort, stop, count) => names.len_at(sort, stop) == count,
     }
 }
 
 /// Asks that new names of that limit answer so.
 fn answers_all(rt: &impl Abort, alloc: Global, limit: u8, steps: &[Step]) {
     let mut names = plain_names(alloc, limit);
+    names_answer(rt, alloc, &mut names, steps);
+}
+
+/// Asks that the names answer so.
+fn names_answer(rt: &impl Abort, alloc: Global, names: &mut Names<PlainNames>, steps: &[Step]) {
     for step in steps {
-        assert!(rt; answers(alloc, &mut names, *step), "{step:?}");
+        assert!(rt; answers(alloc, names, *step), "{step:?}");
     }
 }
 
@@ -215,12 +225,71 @@ fn frames_apart_from_references(rt: HostRuntime) {
     answers_all(&rt, rt.alloc(), 100, &APART);
 }
 
+/// A frame of a stop, and one of the next.
+pub const FRAME: Line = (
+    Adapter,
+    "{\"body\":{\"stackFrames\":[{\"column\":1,\"id\":1000,\"line\":3,\"name\":\"f\"}]},\"command\":\"stackTrace\",\"request_seq\":2,\"seq\":3,\"success\":true,\"type\":\"response\"}",
+);
+
+pub const NEXT_FRAME: Line = (
+    Adapter,
+    "{\"body\":{\"stackFrames\":[{\"column\":1,\"id\":1002,\"line\":3,\"name\":\"f\"}]},\"command\":\"stackTrace\",\"request_seq\":2,\"seq\":3,\"success\":true,\"type\":\"response\"}",
+);
+
+const FRAME_IDS: &[(Sort, i64)] = &[
+    (Sort::Frame, 1),
+    (Sort::ClientSeq, 1),
+    (Sort::AdapterSeq, 1),
+];
+
+/// Behind the stop the first frame gets the first name again; the other sorts go on.
+const BEGIN_AGAIN: [Step; 13] = [
+    Step::Ids(FRAME, FRAME_IDS),
+    Step::Stops(0),
+    Step::Ids(STOPPED, &[(Sort::AdapterSeq, 2)]),
+    Step::Stops(1),
+    Step::Count(Sort::Frame, 0),
+    Step::Ids(NEXT_FRAME, FRAME_IDS),
+    Step::Stops(1),
+    Step::CountAt(Sort::Frame, 0, 1),
+    Step::CountAt(Sort::Frame, 1, 1),
+    Step::CountAt(Sort::Frame, 2, 0),
+    Step::CountAt(Sort::AdapterSeq, 0, 2),
+    Step::CountAt(Sort::AdapterSeq, 1, 0),
+    Step::CountAt(Sort::Reference, 1, 0),
+];
+
+#[test]
+fn frames_begin_again_behind_a_stop(rt: HostRuntime) {
+    let mut names = names_of_mode(rt.alloc(), (100, 1), Mode::PerStop);
+    assert!(rt; names.mode() == Mode::PerStop);
+    names_answer(&rt, rt.alloc(), &mut names, &BEGIN_AGAIN);
+}
+
+/// In a whole recording the second frame is one too many.
+const GO_ON: [Step; 6] = [
+    Step::Ids(FRAME, FRAME_IDS),
+    Step::Ids(STOPPED, &[(Sort::AdapterSeq, 2)]),
+    Step::Stops(0),
+    Step::Full(NEXT_FRAME),
+    Step::CountAt(Sort::Frame, 0, 1),
+    Step::CountAt(Sort::Frame, 1, 0),
+];
+
+#[test]
+fn frames_go_on_behind_a_stop(rt: HostRuntime) {
+    let mut names = names_of_mode(rt.alloc(), (100, 1), Mode::Whole);
+    assert!(rt; names.mode() == Mode::Whole);
+    names_answer(&rt, rt.alloc(), &mut names, &GO_ON);
+}
+
 const NAME_FAULTS: [(NameFault, &str); 2] = [
     (NameFault::Full, "Full"),
     (NameFault::Memory, "Memory"),
 ];
 
-const PAIR_FAULTS: [(PairFault, &str); 4] = [
+const PAIR_FAULTS: [(PairFault, &str); 5] = [
+    (PairFault::BadStop(4), "BadStop 4"),
     (PairFault::ZeroReference(1), "ZeroReference 1"),
     (PairFault::FromTwice(2), "FromTwice 2"),
     (PairFault::ToTwice(3), "ToTwice 3"),

@@ -1,15 +1,26 @@
 //! Renamings: pairs that are one, the pairs between names, and the messages that one carries.
-use crate::lines::{INITIALIZE, INITIALIZE_RESPONSE, Line, THREADS, message};
-use crate::names::{FRAMES_EXCHANGED, STACK_TRACE, TWO_FRAMES, plain_names, renamed};
+use crate::lines::{INITIALIZE, INITIALIZE_RESPONSE, Line, STOPPED, THREADS, message};
+use crate::names::{
+    FRAME, FRAMES_EXCHANGED, NEXT_FRAME, STACK_TRACE, TWO_FRAMES, names_of_mode, renamed,
+};
 use dap_message::Message;
-use dap_rename::{NameFault, Names, Pair, PairFault, PlainNames, Renaming};
+use dap_rename::{Mode, NameFault, Names, Pair, PairFault, PlainNames, Renaming};
 use dap_tree::Side::{Adapter, Client};
 use dap_tree::Sort;
 use std::alloc::Global;
 use std::process::Abort;
 
 const fn pair(sort: Sort, from: i64, to: i64) -> Pair {
-    Pair { sort, from, to }
+    pair_at(sort, 0, from, to)
+}
+
+const fn pair_at(sort: Sort, stop: u64, from: i64, to: i64) -> Pair {
+    Pair {
+        sort,
+        stop,
+        from,
+        to,
+    }
 }
 
 /// Whether the pairs are a renaming, or why they are none.
@@ -31,6 +42,8 @@ fn pairs_that_are_a_renaming(rt: HostRuntime) {
     ];
     assert!(rt; is_renaming(rt.alloc(), &of_two_sorts, Ok(())));
     assert!(rt; is_renaming(rt.alloc(), &[], Ok(())));
+    let of_two_stops = [pair_at(Sort::Frame, 1, 5, 6), pair_at(Sort::Frame, 2, 5, 7)];
+    assert!(rt; is_renaming(rt.alloc(), &of_two_stops, Ok(())));
 }
 
 #[test]
@@ -50,6 +63,14 @@ fn pairs_that_are_none(rt: HostRuntime) {
         ([first, first].as_slice(), PairFault::FromTwice(2)),
         ([zero].as_slice(), PairFault::ZeroReference(1)),
         (
+            [pair_at(Sort::ClientSeq, 1, 1, 1)].as_slice(),
+            PairFault::BadStop(1),
+        ),
+        (
+            [pair_at(Sort::Frame, 1, 5, 6), pair_at(Sort::Frame, 1, 7, 6)].as_slice(),
+            PairFault::ToTwice(2),
+        ),
+        (
             [first, to_zero, first].as_slice(),
             PairFault::ZeroReference(2),
         ),
@@ -68,74 +89,77 @@ fn session(rt: &impl Abort, alloc: Global, frames: Line) -> Vec<Message> {
     messages
 }
 
-/// The names of the messages of a session with those frames.
-fn session_names(rt: &impl Abort, alloc: Global, frames: Line) -> Names<PlainNames> {
-    let mut names = plain_names(alloc, 100);
-    for line in [INITIALIZE, INITIALIZE_RESPONSE, STACK_TRACE, frames] {
-        assert!(rt; renamed(alloc, &mut names, line).is_ok());
-    }
-    names
+/// The pairs of names with themselves.
+fn own_pairs(alloc: Global, names: &Names<PlainNames>) -> Result<Renaming, NameFault> {
+    Renaming::between(alloc, names, names)
 }
 
-/// The renaming between names, where there are as many of each sort.
-fn between(
-    alloc: Global,
-    from: &Names<PlainNames>,
-    to: &Names<PlainNames>,
-) -> Result<Renaming, NameFault> {
-    if from.len(Sort::ClientSeq) != to.len(Sort::ClientSeq)
-        || from.len(Sort::AdapterSeq) != to.len(Sort::AdapterSeq)
-        || from.len(Sort::Frame) != to.len(Sort::Frame)
-        || from.len(Sort::Reference) != to.len(Sort::Reference)
-        || from.len(Sort::Thread) != to.len(Sort::Thread)
-        || from.len(Sort::Breakpoint) != to.len(Sort::Breakpoint)
-    {
-        return Err(NameFault::Full);
+/// The pairs of a session with a frame before a stop and one behind it, with itself, where the
+/// second frame is of this stop.
+fn pairs_of_two_frames(stop: u64) -> [Pair; 5] {
+    [
+        pair(Sort::ClientSeq, 2, 2),
+        pair(Sort::AdapterSeq, 3, 3),
+        pair(Sort::AdapterSeq, 2, 2),
+        pair_at(Sort::Frame, 0, 1000, 1000),
+        pair_at(Sort::Frame, stop, 1002, 1002),
+    ]
+}
+
+#[test]
+fn renaming_between_names_with_a_stop(rt: HostRuntime) {
+    let mut names = names_of_mode(rt.alloc(), (100, 1), Mode::PerStop);
+    for line in [FRAME, STOPPED, NEXT_FRAME] {
+        assert!(rt; renamed(rt.alloc(), &mut names, line).is_ok());
     }
-    Renaming::between(alloc, from, to)
+    let renaming = own_pairs(rt.alloc(), &names).expect(&rt, "no renaming");
+    assert!(rt; renaming.pairs() == pairs_of_two_frames(1).as_slice());
 }
 
 const PAIRS: [Pair; 7] = [
     Pair {
         sort: Sort::ClientSeq,
+        stop: 0,
         from: 1,
         to: 1,
     },
     Pair {
         sort: Sort::ClientSeq,
+        stop: 0,
         from: 2,
         to: 2,
     },
     Pair {
         sort: Sort::AdapterSeq,
+        stop: 0,
         from: 1,
         to: 1,
     },
     Pair {
         sort: Sort::AdapterSeq,
+        stop: 0,
         from: 2,
         to: 2,
     },
     Pair {
         sort: Sort::Frame,
+        stop: 0,
         from: 1000,
         to: 1001,
     },
     Pair {
         sort: Sort::Frame,
+        stop: 0,
         from: 1001,
         to: 1000,
     },
     Pair {
         sort: Sort::Thread,
+        stop: 0,
         from: 1,
         to: 1,
     },
 ];
-
-fn has_pairs(renaming: &Renaming) -> bool {
-    renaming.pairs() == PAIRS.as_slice()
-}
 
 /// Asks whether the renaming carries so many messages to so many.
 fn carries_fronts(
@@ -146,7 +170,7 @@ fn carries_fronts(
 ) -> bool {
     let messages = messages.get(..count).expect(rt, "too many");
     let others = others.get(..other_count).expect(rt, "too many");
-    renaming.carries(messages, others)
+    renaming.carries(messages, others, Mode::Whole)
 }
 
 /// How many messages are carried to how many, and whether they are.
@@ -159,11 +183,8 @@ const FRONTS: [(usize, usize, bool); 5] = [
 ];
 
 #[test]
-fn renaming_between_sessions(rt: HostRuntime) {
-    let from = session_names(&rt, rt.alloc(), TWO_FRAMES);
-    let to = session_names(&rt, rt.alloc(), FRAMES_EXCHANGED);
-    let renaming = between(rt.alloc(), &from, &to).expect(&rt, "no renaming");
-    assert!(rt; has_pairs(&renaming));
+fn fronts_that_are_carried(rt: HostRuntime) {
+    let renaming = Renaming::new(rt.alloc(), &PAIRS).expect(&rt, "no renaming");
     let messages = session(&rt, rt.alloc(), TWO_FRAMES);
     let others = session(&rt, rt.alloc(), FRAMES_EXCHANGED);
     let (messages, others) = (messages.as_slice(), others.as_slice());
@@ -171,18 +192,20 @@ fn renaming_between_sessions(rt: HostRuntime) {
         let (front, other) = ((messages, *count), (others, *other_count));
         assert!(rt; carries_fronts(&rt, &renaming, front, other) == *carries);
     }
-    assert!(rt; !renaming.carries(messages, messages));
+    assert!(rt; !renaming.carries(messages, messages, Mode::Whole));
 }
 
 /// The pairs of two sequence numbers.
 const SEVENS: [Pair; 2] = [
     Pair {
         sort: Sort::ClientSeq,
+        stop: 0,
         from: 2,
         to: 7,
     },
     Pair {
         sort: Sort::AdapterSeq,
+        stop: 0,
         from: 2,
         to: 7,
     },
@@ -225,7 +248,31 @@ fn carries(rt: &impl Abort, alloc: Global, from: Line, to: Line) -> bool {
     let renaming = Renaming::new(alloc, &SEVENS).expect(rt, "no renaming");
     let from = [message(alloc, from).expect(rt, "no message")];
     let to = [message(alloc, to).expect(rt, "no message")];
-    renaming.carries(&from, &to)
+    renaming.carries(&from, &to, Mode::Whole)
+}
+
+/// Whether pairs carry the frames before a stop and behind it, in that mode.
+fn carries_frames(rt: &impl Abort, alloc: Global, pairs: &[Pair], mode: Mode) -> bool {
+    let renaming = Renaming::new(alloc, pairs).expect(rt, "no renaming");
+    let mut messages = Vec::new(alloc);
+    for line in [FRAME, STOPPED, NEXT_FRAME] {
+        let message = message(alloc, line).expect(rt, "no message");
+        messages.push(message).expect(rt, "no memory");
+    }
+    renaming.carries(messages.as_slice(), messages.as_slice(), mode)
+}
+
+#[test]
+fn carried_by_the_pairs_of_each_stop(rt: HostRuntime) {
+    for (stop, mode, carries) in [
+        (1, Mode::PerStop, true),
+        (1, Mode::Whole, false),
+        (0, Mode::Whole, true),
+        (0, Mode::PerStop, false),
+    ] {
+        let pairs = pairs_of_two_frames(stop);
+        assert!(rt; carries_frames(&rt, rt.alloc(), &pairs, mode) == carries);
+    }
 }
 
 #[test]

@@ -38,4 +38,5 @@ returns-clause-judges g c = λ messages normal stands.
     (c.in-Ok-rename.ensures.few messages stands.names) (sent c.in-Ok-rename.renamed)
     (c.in-Ok-rename.ensures.renamed messages stands.names)
     _ c.args.out.now.items c.append_record.new.out.items wrote.0 wrote.1 wrote.2 wrote.3 refl says.1
-    (c.in-Ok-rename.ensures.stand messages stands.names) c.in-Ok-rename.ensures.limits
+    (c.in-Ok-rename.ensures.stand messages stands.names) c.in-Ok-rename.ensures.mode
+    c.in-Ok-rename.ensures.limits

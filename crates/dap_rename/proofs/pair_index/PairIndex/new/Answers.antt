@@ -1,9 +1,10 @@
 use Rattle.std.proofs.Common.{rules, ◌≡◌, ◌≤◌, length, None}
+use Rattle.dap_rename.proofs.PairFaults.{no_pairs}
 use Rattle.dap_rename.proofs.PairIndexing.{nothing_seen, fault_found, next_seen, all_seen}
 use Rattle.dap_rename.proofs.pair_index.PairIndex.new.Goals as goal
 
 pub loop-index-init : goal.loop-index-init
-loop-index-init c = (nothing_seen _ c.new.ensures.empty c.new-2.ensures.empty, tt)
+loop-index-init c = (nothing_seen _ c.new.ensures.empty c.new-2.ensures.empty, no_pairs)
 
 pub returns-in-Some : goal.returns-in-Some
 returns-in-Some c =

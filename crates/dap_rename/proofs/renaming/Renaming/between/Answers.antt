@@ -1,5 +1,6 @@
-use Rattle.std.proofs.Common.{rules, ◌≡◌, ◌≤◌, ◌<◌, ◌∙◌, ap, length}
-use Rattle.dap_rename.specs.Names.{numbers_in}
+use Rattle.std.proofs.Common.{rules, ◌≡◌, ◌≤◌, ◌<◌, ◌∙◌, sym, subst, length}
+use Rattle.dap_rename.specs.Modes.{stop_in}
+use Rattle.dap_rename.specs.Names.{StandWith, mode_of, numbers_at, stops_of}
 use Rattle.dap_rename.specs.Pairs.{entries, equal_names}
 use Rattle.dap_rename.specs.Sorts.{all_sorts}
 use Rattle.dap_rename.proofs.PairFaults.{sort_step, sorts_ended, places_equal}
@@ -9,20 +10,23 @@ pub loop-sort-preserved : goal.loop-sort-preserved
 loop-sort-preserved g c =
     let numbers = g.T.NameTable.numbers in
     let within : c.loop-sort.sort-index < length all_sorts = search rules in
-    sort_step all_sorts c.loop-sort.sort-index _ (numbers_in numbers c.args.from.now)
-    (numbers_in numbers c.args.to.now) (numbers c.table-from.result.now)
-    (numbers c.table-to.result.now) (entries c.loop-sort.pairs.items)
-    (entries c.add_pairs.new.pairs.items) within c.loop-sort.invariant
-    (ap numbers c.table-from.ensures) (ap numbers c.table-to.ensures) c.in_ok-add_pairs.ensures
+    sort_step (stops_of c.args.from.now) all_sorts c.loop-sort.sort-index _
+    (numbers_at numbers c.args.from.now) (numbers_at numbers c.args.to.now)
+    (entries c.loop-sort.pairs.items) (entries c.add_sort.new.pairs.items) within
+    c.loop-sort.invariant c.in_ok-add_sort.ensures
 
 pub returns-clause-stand : goal.returns-clause-stand
 returns-clause-stand g c ms ns h k =
     let numbers = g.T.NameTable.numbers in
+    let limit = g.T.NameTable.limit in
+    let from = c.args.from.now in
+    let to = c.args.to.now in
     let ended : length all_sorts ≤ c.loop-sort.sort-index = search rules in
     let e : entries c.loop-sort.pairs.items
-    ≡ equal_names (numbers_in numbers c.args.from.now) (numbers_in numbers c.args.to.now) =
-    sorts_ended all_sorts c.loop-sort.sort-index (numbers_in numbers c.args.from.now)
-    (numbers_in numbers c.args.to.now) (entries c.loop-sort.pairs.items) ended
-    c.loop-sort.invariant in
-    e ∙ places_equal numbers g.T.NameTable.limit c.args.from.now.tables c.args.to.now.tables ms ns h
-    k
+    ≡ equal_names (stops_of from) (numbers_at numbers from) (numbers_at numbers to) =
+    sorts_ended (stops_of from) all_sorts c.loop-sort.sort-index (numbers_at numbers from)
+    (numbers_at numbers to) (entries c.loop-sort.pairs.items) ended c.loop-sort.invariant in
+    let other : StandWith (stop_in (mode_of from)) numbers limit to ns =
+    subst (λ m. StandWith (stop_in m) numbers limit to ns) (sym c.requires.mode) k in
+    e ∙ places_equal (stop_in (mode_of from)) (stops_of from) ms ns (numbers_at numbers from)
+    (numbers_at numbers to) h.stops h.classes other.classes

@@ -1,5 +1,5 @@
 -- The sorts of ids, one after the other. What holds of each sort is said of this list.
-use Rattle.std.specs.Prelude.{ℕ, Bool, eqb, List, [], ◌∷◌}
+use Rattle.std.specs.Prelude.{ℕ, Bool, eqb, List, [], ◌∷◌, codes}
 use Rattle.std.specs.List.{AllByRecursion}
 use Rattle.dap_tree.specs.declared.sort.Sort.{Sort}
 use Rattle.dap_tree.specs.declared.sort.Sort.TheVariants.{ClientSeq, AdapterSeq, Frame, Reference}
@@ -24,3 +24,12 @@ sort_number Breakpoint = 5
 
 abbrev pub same_sort : Sort → Sort → Bool
 same_sort s t = eqb (sort_number s) (sort_number t)
+
+-- How a sort is written (own).
+abbrev pub sort_word : Sort → List ℕ
+sort_word ClientSeq = codes "client-seq"
+sort_word AdapterSeq = codes "adapter-seq"
+sort_word Frame = codes "frame"
+sort_word Reference = codes "reference"
+sort_word Thread = codes "thread"
+sort_word Breakpoint = codes "breakpoint"
