@@ -13,9 +13,9 @@ use dap_message::{Message, MessageFault, Side, typed};
 use dap_recording::{
     FedRecord, Record, RecordCause, RecordReader, Recorder, RecorderFault, write_record,
 };
-use dap_rename::{Mode, NameFault, Names, SORTS};
+use dap_rename::{Mode, NameFault, Names};
 use dap_session::{Session, SessionFault};
-use dap_tree::{Sort, read_tree};
+use dap_tree::{SORTS, Sort, read_tree};
 use fault_injection::{refuse_growth, was_refused};
 use std::alloc::Global;
 use std::process::Abort;
