@@ -3,7 +3,8 @@
 //! [`typed`] turns a JSON tree into a [`Message`], or tells the first row of the [`PROFILE`] that
 //! the tree breaks. In a message the numbers that the protocol hands out (sequence numbers, frame
 //! ids, variables references, thread ids, breakpoint ids) are marked as ids, and the capabilities
-//! that an adapter left out are false. `specs/` says what that means, and [`laws`] has the theorems.
+//! that an adapter left out are false. `specs/` says what that means, and [`laws`] has the
+//! theorems.
 #![tactic(auto)]
 
 mod asked_rows;
