@@ -7,12 +7,14 @@ _dapnorm() {
         words='record check normalise compare diff show compact mask rows help -h --help -V --version'
     else
         case $command in
-            check) words='--complete -h --help' ;;
-            record | normalise | show | compact | rows) words='-h --help' ;;
+            check) words='--complete --per-stop -h --help' ;;
+            normalise) words='--per-stop -h --help' ;;
+            record | show | compact | rows) words='-h --help' ;;
             help) ((COMP_CWORD == 2)) && words='record check normalise compare diff show compact mask rows help' ;;
             compare | diff | mask)
                 if [[ $word == -* ]]; then
                     words='-h --help'
+                    [[ $command == mask ]] || words+=' --per-stop'
                 else
                     mapfile -t COMPREPLY < <(compgen -f -- "$word")
                     return

@@ -14,5 +14,6 @@ complete -c dapnorm -n __fish_use_subcommand -a mask -d 'Take away what changes 
 complete -c dapnorm -n __fish_use_subcommand -a rows -d 'Print the rows of the profile'
 complete -c dapnorm -n __fish_use_subcommand -a help -d 'Print the help of the program or of a command'
 complete -c dapnorm -n '__fish_seen_subcommand_from check' -l complete -d 'Refuse a recording in which some request has no response'
+complete -c dapnorm -n '__fish_seen_subcommand_from normalise check compare diff' -l per-stop -d 'Number frame ids and references anew behind each stop'
 complete -c dapnorm -n '__fish_seen_subcommand_from compare diff mask' -F
 complete -c dapnorm -n '__fish_seen_subcommand_from help' -a 'record check normalise compare diff show compact mask rows help'

@@ -133,6 +133,9 @@ def normalise_sessions(folder):
         read_alone(path, size, records)
         measure_check("dapnorm check", path, size, records, requests)
         beside_script("normalise", path, size)
+        if wanted == LARGE_SIZES[0]:
+            print("the same with --per-stop")
+            beside_script("normalise", path, size, ["--per-stop"])
 
 
 def run(arguments, source, out):

@@ -10,27 +10,36 @@ WORDS = [
 ]
 
 
-def compared(a, b):
+def numbers(names, sort):
+    """The numbers of a sort in the order of their lines, each with the stops before its class."""
+    classes = [*names.get(("past", sort), []), names.get(sort, {})]
+    return [(stops, number) for stops, named in enumerate(classes) for number in named]
+
+
+def compared(a, b, per_stop=False):
     """The lines that tell how two recordings that are accepted are the same, or where they differ."""
     names_a, names_b = {}, {}
-    pairs = zip_longest(normal_records(names_a, a), normal_records(names_b, b))
+    pairs = zip_longest(normal_records(names_a, a, per_stop=per_stop), normal_records(names_b, b, per_stop=per_stop))
     for number, (one, other) in enumerate(pairs, 1):
         if one != other:
             return f"differ {number}\n"
     lines = ["same\n"]
     for sort, word in WORDS:
-        lines += [f"{word} {one} {other}\n" for one, other in zip(names_a.get(sort, {}), names_b.get(sort, {}))]
+        for (stops, one), (_, other) in zip(numbers(names_a, sort), numbers(names_b, sort)):
+            at = f"@{stops}" if per_stop and sort in (FRAME, REFERENCE) else ""
+            lines.append(f"{word}{at} {one} {other}\n")
     return "".join(lines)
 
 
 def main():
-    if len(sys.argv) != 3:
-        sys.exit("usage: compare_reference.py A B")
+    files = [word for word in sys.argv[1:] if word != "--per-stop"]
+    if len(files) != 2:
+        sys.exit("usage: compare_reference.py [--per-stop] A B")
     texts = []
-    for path in sys.argv[1:]:
+    for path in files:
         with open(path, "rb") as file:
             texts.append(file.read())
-    sys.stdout.write(compared(*texts))
+    sys.stdout.write(compared(*texts, per_stop="--per-stop" in sys.argv[1:]))
 
 
 if __name__ == "__main__":

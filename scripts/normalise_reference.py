@@ -108,20 +108,29 @@ def rename(names, sorts, side, path, value):
     return table.setdefault(value, len(table) + 1)
 
 
-def normal_records(names, recording, first_rows=False):
-    """The records of the normal text of a recording that is accepted, one by one. `names` gets the names of its ids, by sort."""
+def begin_again(names):
+    """Puts by the names of frames and of references: those behind a stop are others."""
+    for sort in (FRAME, REFERENCE):
+        names.setdefault(("past", sort), []).append(names.pop(sort, {}))
+
+
+def normal_records(names, recording, first_rows=False, per_stop=False):
+    """The records of the normal text of a recording that is accepted, one by one. `names` gets the names of its ids, by sort; with `per_stop`
+    those of frames and of references begin again behind each stop, and those before it are put by."""
     for side, _, content in records(recording):
         message = json.loads(content)
         fill(side, message)
         message = rename(names, dict(places(message, first_rows)), side, "", message)
         content = json.dumps(message, separators=(",", ":"), ensure_ascii=False).encode()
         yield b"%sContent-Length: %d\r\n\r\n%s\n" % (MARKERS[side], len(content), content)
+        if per_stop and message["type"] == "event" and message["event"] == "stopped":
+            begin_again(names)
 
 
-def normalised(recording, first_rows=False):
-    """The normal text of a recording that is accepted; or what it was by the first rows of the profile alone."""
-    return b"".join(normal_records({}, recording, first_rows))
+def normalised(recording, first_rows=False, per_stop=False):
+    """The normal text of a recording that is accepted; or what it was by the first rows of the profile alone; or that with names per stop."""
+    return b"".join(normal_records({}, recording, first_rows, per_stop))
 
 
 if __name__ == "__main__":
-    sys.stdout.buffer.write(normalised(sys.stdin.buffer.read()))
+    sys.stdout.buffer.write(normalised(sys.stdin.buffer.read(), per_stop=sys.argv[1:] == ["--per-stop"]))

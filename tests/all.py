@@ -48,6 +48,7 @@ def main():
             ("their messages typed", "typed_recordings.py"),
             ("the normal form", "normal_form.py"),
             ("recordings compared", "comparing.py"),
+            ("names that begin again at each stop", "per_stop.py"),
             ("what differs told", "differing.py"),
             ("recordings of fresh runs masked", "masks.py"),
             ("recordings shown", "showing.py"),

@@ -29,10 +29,15 @@ def code():
     """The commands, with the long options of each, and the statuses, as the code has them. `help` is clap's own."""
     text = read("crates", "dapnorm", "src", "command_line.rt")
     commands = {name: [] for name in [*re.findall(r'^ {8}"(\w+)" =>', text, re.MULTILINE), "help"]}
-    for function in text.split("\nfn "):
-        made = re.search(r'Command::new\(alloc, "(\w+)"\)', function)
-        if made and made[1] in commands:
-            commands[made[1]] += re.findall(r'\.long\("([\w-]+)"\)', function)
+    functions = {function.split("<")[0].split("(")[0]: function for function in text.split("\nfn ")[1:]}
+    for name, function in functions.items():
+        # A command is named where it is made, or where the function that makes it is called.
+        made = re.findall(r'Command::new\(alloc, "(\w+)"\)', function)
+        if "Command::new(alloc, name)" in function:
+            made = re.findall(rf'\b{name}\(\s*alloc,\s*"(\w+)"', text)
+        flags = [functions[flag] for flag in re.findall(r"\.arg\((\w+)\(alloc\)\)", function)]
+        for command in set(made) & commands.keys():
+            commands[command] += [option for part in (function, *flags) for option in re.findall(r'\.long\("([\w-]+)"\)', part)]
     statuses = re.findall(r"^pub\(crate\) const \w+: u8 = (\d+);", read("crates", "dapnorm", "src", "status.rt"), re.MULTILINE)
     return commands, statuses
 

@@ -26,9 +26,9 @@ def read(*path):
         return file.read()
 
 
-def leading(recording, count):
+def leading(recording, count, per_stop=False):
     """The normal form of so many leading records, as the script has it."""
-    return b"".join(itertools.islice(normal_records({}, recording), count))
+    return b"".join(itertools.islice(normal_records({}, recording, per_stop=per_stop), count))
 
 
 def captures(report):

@@ -268,6 +268,20 @@ DIFFERENCES = {
     "a fault behind a difference": LOWER_SEQ,
 }
 
+# The same with `--per-stop`: normal forms of sessions above, and what `compare` prints of two.
+NORMAL_PER_STOP = [*NORMAL_STOPS, FRAME % (1, 3, 5)]
+PER_STOP = {"two stops": NORMAL_PER_STOP, "a new frame": NORMAL_PER_STOP, "frames": SESSIONS["frames"][1]}
+STOP_PAIRS = (
+    b"same\nclient-seq 1 1\nclient-seq 2 2\nclient-seq 3 3\nadapter-seq 1 1\nadapter-seq 2 2\nadapter-seq 3 3\nadapter-seq 4 4\n"
+    b"adapter-seq 5 5\nframe@1 1000 1000\nframe@2 1000 1002\nthread 1 1\n"
+)
+COMPARED_PER_STOP = {
+    "frames exchanged": (0, FRAME_PAIRS.replace(b"frame ", b"frame@0 "), b""),
+    "a stale frame": (0, STOP_PAIRS, b""),
+    "an end": (1, b"differ 5\n", b""),
+    "a refusal of the second": (2, b"", refusal("B: record 3: AnsweredTwice")),
+}
+
 SHOWN_BEGUN = '1 > request "initialize" seq=1\n2 < response "initialize" seq=1 request_seq=1 ok\n'
 SHOWN_STACK = SHOWN_BEGUN + '3 > request "stackTrace" seq=2\n4 < response "stackTrace" seq=2 request_seq=2 '
 
@@ -349,6 +363,24 @@ def of_others():
         yield stream(name, ["diff", "a", "b"], b"", (status, DIFFERENCES.get(name, printed), told), {"a": a, "b": b})
 
 
+def of_stops():
+    """The same sessions and pairs with `--per-stop`."""
+    for name, normal in PER_STOP.items():
+        lines, whole, _ = SESSIONS[name]
+        told = b"accepted records=%d open=0,0\n" % len(lines)
+        yield stream(name, ["normalise", "--per-stop"], recording(lines), (0, recording(normal), b""))
+        yield stream(f"{name}, normal", ["normalise", "--per-stop"], recording(normal), (0, recording(normal), b""))
+        yield stream(f"{name}, with the names of the whole, normal", ["normalise", "--per-stop"], recording(whole), (0, recording(normal), b""))
+        yield stream(name, ["check", "--per-stop"], recording(lines), (0, told, b""))
+        yield stream(name, ["check", "--complete", "--per-stop"], recording(lines), (0, told, b""))
+    for name, answer in COMPARED_PER_STOP.items():
+        a, b, _ = COMPARED[name]
+        status, printed, told = answer
+        of_diff = b"same\n" if status == 0 else DIFFERENCES.get(name, printed)
+        yield stream(name, ["compare", "--per-stop", "a", "b"], b"", answer, {"a": a, "b": b})
+        yield stream(name, ["diff", "a", "b", "--per-stop"], b"", (status, of_diff, told), {"a": a, "b": b})
+
+
 def of_rules():
     for name, (rules, told) in REFUSED_RULES.items():
         yield stream(name, ["mask", "rules"], recording(CONFIGURED), (2, b"", refusal(f"rules: {told}")), {"rules": rules})
@@ -357,6 +389,6 @@ def of_rules():
 
 def all_runs():
     """Each run, by its name."""
-    runs = [*of_sessions(), *of_refusals(), *of_others(), *of_rules()]
+    runs = [*of_sessions(), *of_refusals(), *of_others(), *of_stops(), *of_rules()]
     assert len({run.name for run in runs}) == len(runs)
     return runs

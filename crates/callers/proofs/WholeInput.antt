@@ -6,6 +6,7 @@ use Rattle.dap_device.specs.declared.device.Source.{Ghosts as Source}
 use Rattle.dap_device.specs.Pieces.{HasPaused}
 use Rattle.dap_device.specs.declared.reading.Stop.{Stop}
 use Rattle.dap_device.specs.declared.reading.Stop.TheVariants.{End, Full, Failed}
+use Rattle.dap_rename.specs.declared.mode.Mode.{Mode}
 use Rattle.dap_input.specs.declared.limits.Limits.{Limits}
 use Rattle.dap_input.specs.declared.refused.Refused.{Refused}
 use Rattle.dap_input.specs.declared.refused.Refused.TheVariants.{Incomplete, Memory, WriteFault}
@@ -33,12 +34,12 @@ abbrev TellsCut : Option (ℕ × Reason) → Type 0
 TellsCut (Some (n, cut)) = Unit {0}
 TellsCut told = ⊥
 
-module _ (limits : Limits) (old new : Arriving) where
-  pub judged : (checked : Checked) → HasChecked arriving limits false old new checked
-      → IsJudged limits (bytes_left old) checked
+module _ (limits : Limits) (mode : Mode) (old new : Arriving) where
+  pub judged : (checked : Checked) → HasChecked arriving limits mode false old new checked
+      → IsJudged limits mode (bytes_left old) checked
   judged checked has = record {
     messages = has.messages;
-    accepts = subst (λ bytes. IsAccepted limits bytes has.messages)
+    accepts = subst (λ bytes. IsAccepted limits mode bytes has.messages)
         (sym (has.accepts.came.came ∙ ap (λ rest. has.accepts.whole ++ rest)
         has.accepts.came.stopped.0 ∙ append-nil has.accepts.whole)) has.accepts.gives;
     counted = has.counted;
@@ -61,46 +62,47 @@ module _ (limits : Limits) (old new : Arriving) where
   all_came bytes (Some Failed) paused end split = absurd (let e = end in cc)
 
   module _ (sound : AreSound limits) (stays : RecordingRefusalStays) (because : Refused)
-      (text : List ℕ) (next : RefusesNext arriving limits old new because text) where
+      (text : List ℕ) (next : RefusesNext arriving limits mode old new because text) where
     is_refused : (why : Reason) → Tells because next.number (refused why)
-        → IsFirstRefusal (accepting limits) next.to.bytes next.number why
-        → IsRefused (accepting limits) (bytes_left old) because
+        → IsFirstRefusal (accepting limits mode) next.to.bytes next.number why
+        → IsRefused (accepting limits mode) (bytes_left old) because
     is_refused cut tells is =
-        subst (λ bytes. IsRefused (accepting limits) bytes because)
+        subst (λ bytes. IsRefused (accepting limits mode) bytes because)
         (all_came next.to.bytes next.stop next.to.came.paused
         (next.cut next.number (cut_told because next.number tells)) next.to.came.came)
-        (refused_as (accepting limits) next.to.bytes because next.number cut tells is)
+        (refused_as (accepting limits mode) next.to.bytes because next.number cut tells is)
     is_refused why tells is =
-        subst (λ bytes. IsRefused (accepting limits) bytes because) (sym next.to.came.came)
-        (stays limits sound next.to.bytes (bytes_left new) because
+        subst (λ bytes. IsRefused (accepting limits mode) bytes because) (sym next.to.came.came)
+        (stays limits mode sound next.to.bytes (bytes_left new) because
         (λ n same. subst TellsCut (sym (ap reason_of same) ∙ tells) tt)
-        (refused_as (accepting limits) next.to.bytes because next.number why tells is))
+        (refused_as (accepting limits mode) next.to.bytes because next.number why tells is))
 
     told : (fault : Fault) → Tells because next.number fault
-        → IsRefusedAt (accepting limits) (so_far next.to.bytes next.stop) next.number fault
-        → IsRefused (accepting limits) (bytes_left old) because
+        → IsRefusedAt (accepting limits mode) (so_far next.to.bytes next.stop) next.number fault
+        → IsRefused (accepting limits mode) (bytes_left old) because
     told (refused why) tells is = is_refused why tells is.0
     told read_fault tells is = absurd (good next.stop next.to.came.paused is.0)
 
-    refuses_next : IsRefused (accepting limits) (bytes_left old) because
+    refuses_next : IsRefused (accepting limits mode) (bytes_left old) because
     refuses_next = told next.refuses.fault next.refuses.tells next.refuses.is_refused
 
   pub refuses : AreSound limits → RecordingRefusalStays → (because : Refused)
-      → Checks arriving limits false old new (Err because)
-      → RefusesBytes limits (bytes_left old) because
+      → Checks arriving limits mode false old new (Err because)
+      → RefusesBytes limits mode (bytes_left old) because
   refuses sound stays Memory answer = tt
   refuses sound stays WriteFault answer = absurd answer
   refuses sound stays (Incomplete client adapter) answer = absurd (true≢false (sym answer.asked))
   refuses sound stays because answer = refuses_next sound stays because answer.0 answer.1
 
   -- The same of whatever is answered.
-  pub answered : (result : Result Checked Refused) → Checks arriving limits false old new result
-      → IfOk result (IsJudged limits (bytes_left old))
+  pub answered : (result : Result Checked Refused) → Checks arriving limits mode false old new
+      result
+      → IfOk result (IsJudged limits mode (bytes_left old))
   answered (Ok checked) has = judged checked has
   answered (Err because) has = tt
 
   pub refused_whole : AreSound limits → RecordingRefusalStays → (result : Result Checked Refused)
-      → Checks arriving limits false old new result
-      → IfErr result (RefusesBytes limits (bytes_left old))
+      → Checks arriving limits mode false old new result
+      → IfErr result (RefusesBytes limits mode (bytes_left old))
   refused_whole sound stays (Ok checked) has = tt
   refused_whole sound stays (Err because) has = refuses sound stays because has

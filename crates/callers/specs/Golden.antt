@@ -3,24 +3,27 @@ use Rattle.std.specs.Prelude.{◌≡◌, ◌↔◌, ℕ, Bool, true, List, Resul
 use Rattle.dap_device.specs.declared.device.Sink.{Ghosts as Sink}
 use Rattle.dap_device.specs.Written.{AllSent, FrontWritten}
 use Rattle.dap_message.specs.Message.{Sent}
-use Rattle.dap_rename.specs.Messages.{AreSame, in_whole}
+use Rattle.dap_rename.specs.Messages.{AreSame}
+use Rattle.dap_rename.specs.Modes.{stop_in}
+use Rattle.dap_rename.specs.declared.mode.Mode.{Mode}
 use Rattle.dap_input.specs.declared.limits.Limits.{Limits}
 use Rattle.dap_input.specs.declared.refused.Refused.{Refused}
 use Rattle.dap_input.specs.declared.refused.Refused.TheVariants.{WriteFault}
 use Rattle.dap_normal.specs.Accepting.{IsAccepted}
 use Rattle.dap_normal.specs.Normalising.{IsCanonical, Normalises, RefusesBytes}
 
-module _ {W : Type 0} (sink : Sink W) (limits : Limits) (recording : List ℕ) (old new : W) where
+module _ {W : Type 0} (sink : Sink W) (limits : Limits) (mode : Mode) (recording : List ℕ)
+    (old new : W) where
   -- The golden file of the recording went out as a whole, and was flushed.
   pub record HasMade : Type 0 where
     pub golden : List ℕ
-    pub canonical : IsCanonical limits recording golden
+    pub canonical : IsCanonical limits mode recording golden
     pub written : AllSent sink old new golden
 
   -- The file could not be written: a front of its text went out, perhaps all of it.
   pub record HasNotMade : Type 0 where
     pub golden : List ℕ
-    pub canonical : IsCanonical limits recording golden
+    pub canonical : IsCanonical limits mode recording golden
     pub written : FrontWritten sink old new golden
 
   -- The file is made; or it could not be written; or the recording is refused, and nothing was
@@ -28,14 +31,15 @@ module _ {W : Type 0} (sink : Sink W) (limits : Limits) (recording : List ℕ) (
   abbrev pub Makes : {U : Type 0} → Result U Refused → Type 0
   Makes (Ok done) = HasMade
   Makes (Err WriteFault) = HasNotMade
-  Makes (Err refused) = RefusesBytes limits recording refused × (new ≡ old)
+  Makes (Err refused) = RefusesBytes limits mode recording refused × (new ≡ old)
 
 -- The later recording is accepted, and the answer is true exactly where the golden file is its
 -- normal text. If the file was made of some recording, that is where a one-to-one renaming of ids
 -- carries the messages of the later one, in order, to those of that recording.
-pub record IsHeldTo (limits : Limits) (golden later : List ℕ) (held : Bool) : Type 0 where
-  pub messages : List Sent
-  pub accepts : IsAccepted limits later messages
-  pub exact : (held ≡ true) ↔ Normalises limits later golden
-  pub tells : (recording : List ℕ) (made : Normalises limits recording golden)
-      → (held ≡ true) ↔ AreSame in_whole messages made.messages
+pub record IsHeldTo (limits : Limits) (mode : Mode) (golden later : List ℕ) (held : Bool) : Type 0
+  where
+    pub messages : List Sent
+    pub accepts : IsAccepted limits mode later messages
+    pub exact : (held ≡ true) ↔ Normalises limits mode later golden
+    pub tells : (recording : List ℕ) (made : Normalises limits mode recording golden)
+        → (held ≡ true) ↔ AreSame (stop_in mode) messages made.messages

@@ -3,6 +3,7 @@ use Rattle.std.specs.Prelude.{ℕ, List}
 use Rattle.std.specs.Borrow.{Bor}
 use Rattle.std.specs.List.{flat_map}
 use Rattle.dap_message.specs.Message.{Sent}
+use Rattle.dap_rename.specs.declared.mode.Mode.{Mode}
 use Rattle.dap_input.specs.declared.limits.Limits.{Limits}
 use Rattle.dap_normal.specs.Accepting.{IsAccepted}
 use Rattle.dap_normal.specs.Checking.{AreCounted}
@@ -13,7 +14,8 @@ abbrev pub joined : List (Bor (List ℕ)) → List ℕ
 joined pieces = flat_map (λ piece. piece.now) pieces
 
 -- The bytes are an accepted recording, of which these are the numbers.
-pub record IsJudged (limits : Limits) (bytes : List ℕ) (checked : Checked) : Type 0 where
-  pub messages : List Sent
-  pub accepts : IsAccepted limits bytes messages
-  pub counted : AreCounted checked messages
+pub record IsJudged (limits : Limits) (mode : Mode) (bytes : List ℕ) (checked : Checked) : Type 0
+  where
+    pub messages : List Sent
+    pub accepts : IsAccepted limits mode bytes messages
+    pub counted : AreCounted checked messages

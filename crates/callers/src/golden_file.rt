@@ -5,7 +5,7 @@ ghost use Rattle.dap_normal.specs.Normalising.{RefusesBytes};
 ghost use Rattle.callers.specs.Golden.{IsHeldTo, Makes};
 
 use dap_device::write_and_flush;
-use dapnorm::{Limits, Refused, Sink, laws, normalise_bytes};
+use dapnorm::{Limits, Mode, Refused, Sink, laws, normalise_bytes};
 use std::alloc::Global;
 
 /// Writes the golden file of a recording. Of a recording that is refused it writes nothing.
@@ -14,12 +14,13 @@ pub fn make_golden<W: Sink>(
     recording: &[u8],
     file: &mut W,
     limits: Limits,
+    mode: Mode,
 ) -> Result<(), Refused>
     requires limits { AreSound limits }
     requires failures { W.failures file.old < 2 ^ 63 }
-    ensures { Makes W.Sink limits recording.now file.old file.new result }
+    ensures { Makes W.Sink limits mode recording.now file.old file.new result }
 {
-    let golden = normalise_bytes(alloc, recording, limits)?;
+    let golden = normalise_bytes(alloc, recording, limits, mode)?;
     match write_and_flush(file, golden.bytes()) {
         Ok(()) => Ok(()),
         Err(_) => Err(Refused::WriteFault),
@@ -27,15 +28,21 @@ pub fn make_golden<W: Sink>(
 }
 
 /// Whether a later recording is as the golden file says: the same session, but for its ids.
-pub fn holds_to(alloc: Global, golden: &[u8], later: &[u8], limits: Limits) -> Result<bool, Refused>
+pub fn holds_to(
+    alloc: Global,
+    golden: &[u8],
+    later: &[u8],
+    limits: Limits,
+    mode: Mode,
+) -> Result<bool, Refused>
     requires { AreSound limits }
 
     // Of whatever recording the golden file was made, true exactly where a renaming of ids carries
     // the messages of the later one to those of it.
-    ensures held { IfOk result (IsHeldTo limits golden.now later.now) }
-    ensures refused { IfErr result (RefusesBytes limits later.now) }
+    ensures held { IfOk result (IsHeldTo limits mode golden.now later.now) }
+    ensures refused { IfErr result (RefusesBytes limits mode later.now) }
 {
     laws::normal_form_stands();
-    let normal = normalise_bytes(alloc, later, limits)?;
+    let normal = normalise_bytes(alloc, later, limits, mode)?;
     Ok(normal.bytes() == golden)
 }

@@ -4,7 +4,7 @@ ghost use Rattle.dap_input.specs.Limits.{AreSound};
 ghost use Rattle.dap_normal.specs.Normalising.{RefusesBytes};
 ghost use Rattle.callers.specs.Pieces.{IsJudged, joined};
 
-use dapnorm::{Checked, DeviceFault, Limits, Refused, Source, check, laws};
+use dapnorm::{Checked, DeviceFault, Limits, Mode, Refused, Source, check, laws};
 use std::alloc::Global;
 
 /// An input that comes in pieces: which piece is the present one, and how many bytes of it have
@@ -84,12 +84,17 @@ impl Source for Arriving<'_, '_> {
 }
 
 /// Judges a recording that comes in these pieces, wherever they are cut.
-pub fn judge(alloc: Global, pieces: &[&[u8]], limits: Limits) -> Result<Checked, Refused>
+pub fn judge(
+    alloc: Global,
+    pieces: &[&[u8]],
+    limits: Limits,
+    mode: Mode,
+) -> Result<Checked, Refused>
     requires { AreSound limits }
-    ensures accepted { IfOk result (IsJudged limits (joined pieces.now)) }
-    ensures refused { IfErr result (RefusesBytes limits (joined pieces.now)) }
+    ensures accepted { IfOk result (IsJudged limits mode (joined pieces.now)) }
+    ensures refused { IfErr result (RefusesBytes limits mode (joined pieces.now)) }
 {
     laws::recording_has_one_outcome();
     let mut input = Arriving::new(pieces);
-    check(alloc, &mut input, limits, false)
+    check(alloc, &mut input, limits, false, mode)
 }

@@ -1,50 +1,54 @@
 //! The callers of the library, run.
-use crate::comparing::{EXCHANGED, FRAMES};
+use crate::comparing::{EXCHANGED, FRAMES, NEW_FRAME, STALE_FRAME};
 use crate::examples::LIMITS;
 use crate::recordings::{ANSWERED_TWICE, CONFIGURED, Line, recording};
 use callers::{are_same, holds_to, judge, make_golden, tell_frames, write_and_read};
 use dap_frame::{FrameFault, FrameLimits};
-use dapnorm::{MemorySink, Refused, Rule};
+use dapnorm::{MemorySink, Mode, Refused, Rule};
 use std::alloc::Global;
 use std::process::Abort;
 
-/// Two recordings, and whether they are of one session.
-const PAIRS: [(&[Line], &[Line], Result<bool, Refused>); 4] = [
-    (&FRAMES, &EXCHANGED, Ok(true)),
-    (&FRAMES, &CONFIGURED, Ok(false)),
-    (&[], &[], Ok(true)),
+/// Two recordings, the mode of names, and whether they are of one session.
+const PAIRS: [(&[Line], &[Line], Mode, Result<bool, Refused>); 6] = [
+    (&FRAMES, &EXCHANGED, Mode::Whole, Ok(true)),
+    (&FRAMES, &CONFIGURED, Mode::Whole, Ok(false)),
+    // The frame of a second stop has the id of the first one, or one of its own.
+    (&STALE_FRAME, &NEW_FRAME, Mode::Whole, Ok(false)),
+    (&STALE_FRAME, &NEW_FRAME, Mode::PerStop, Ok(true)),
+    (&[], &[], Mode::Whole, Ok(true)),
     (
         &FRAMES,
         &ANSWERED_TWICE,
+        Mode::Whole,
         Err(Refused::Rule(3, Rule::AnsweredTwice)),
     ),
 ];
 
 /// Whether a recording holds to the golden file of another.
-fn held(alloc: Global, recording: &[u8], later: &[u8]) -> Result<bool, Refused> {
+fn held(alloc: Global, recording: &[u8], later: &[u8], mode: Mode) -> Result<bool, Refused> {
     let Ok(mut file) = MemorySink::new(alloc, 8192) else {
         return Err(Refused::Memory);
     };
-    make_golden(alloc, recording, &mut file, LIMITS)?;
-    holds_to(alloc, file.bytes(), later, LIMITS)
+    make_golden(alloc, recording, &mut file, LIMITS, mode)?;
+    holds_to(alloc, file.bytes(), later, LIMITS, mode)
 }
 
 #[test]
 fn callers_tell_whether_sessions_are_the_same(rt: HostRuntime) {
-    for (lines, others, same) in &PAIRS {
+    for (lines, others, mode, same) in &PAIRS {
         let a = recording(&rt, rt.alloc(), lines);
         let b = recording(&rt, rt.alloc(), others);
         let (a, b) = (a.as_slice(), b.as_slice());
-        assert!(rt; are_same(rt.alloc(), a, b, LIMITS) == *same);
-        assert!(rt; held(rt.alloc(), a, b) == *same);
+        assert!(rt; are_same(rt.alloc(), a, b, LIMITS, *mode) == *same);
+        assert!(rt; held(rt.alloc(), a, b, *mode) == *same);
     }
 }
 
 /// The records and the open requests of a client that are told of a recording in three pieces, the
 /// middle one empty.
-fn judged(alloc: Global, bytes: &[u8], at: usize) -> Option<(u64, usize)> {
+fn judged(alloc: Global, bytes: &[u8], at: usize, mode: Mode) -> Option<(u64, usize)> {
     let (front, rest) = bytes.split_at(at.min(bytes.len()));
-    match judge(alloc, &[front, b"", rest], LIMITS) {
+    match judge(alloc, &[front, b"", rest], LIMITS, mode) {
         Ok(checked) => Some((checked.records, checked.client_open)),
         Err(_) => None,
     }
@@ -54,9 +58,14 @@ fn judged(alloc: Global, bytes: &[u8], at: usize) -> Option<(u64, usize)> {
 fn callers_judge_what_comes_in_pieces(rt: HostRuntime) {
     let configured = recording(&rt, rt.alloc(), &CONFIGURED);
     let twice = recording(&rt, rt.alloc(), &ANSWERED_TWICE);
-    for at in [0, 1, 120, 473] {
-        assert!(rt; judged(rt.alloc(), configured.as_slice(), at) == Some((5, 0)));
-        assert!(rt; judged(rt.alloc(), twice.as_slice(), at) == None);
+    for (at, mode) in [
+        (0, Mode::Whole),
+        (1, Mode::Whole),
+        (120, Mode::PerStop),
+        (473, Mode::Whole),
+    ] {
+        assert!(rt; judged(rt.alloc(), configured.as_slice(), at, mode) == Some((5, 0)));
+        assert!(rt; judged(rt.alloc(), twice.as_slice(), at, mode) == None);
     }
 }
 

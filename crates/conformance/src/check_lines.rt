@@ -31,7 +31,10 @@ fn checks(
     line: &[u8],
 ) {
     let bytes = recording(rt, alloc, lines);
-    let job = Job::Check { complete };
+    let job = Job::Check {
+        complete,
+        per_stop: false,
+    };
     let run = (&job, bytes.as_slice(), 4096);
     tells_memory(rt, alloc, run, wanted, printed, line);
 }
@@ -62,7 +65,13 @@ fn a_refused_recording_is_told_in_one_line(rt: HostRuntime) {
 fn check_to(text: &[u8], output: Output) -> JobRun<'_> {
     JobRun {
         output,
-        ..job_on(Job::Check { complete: true }, text)
+        ..job_on(
+            Job::Check {
+                complete: true,
+                per_stop: false,
+            },
+            text,
+        )
     }
 }
 

@@ -52,6 +52,9 @@ fn check_is_refused_in_turn(rt: HostRuntime) {
 fn check_prints_its_line_or_wants_memory(rt: HostRuntime) {
     let bytes = recording(&rt, rt.alloc(), &CONFIGURED);
     let line = b"accepted records=5 open=0,0\n";
-    let job = Job::Check { complete: true };
+    let job = Job::Check {
+        complete: true,
+        per_stop: false,
+    };
     tells_each_turn(&rt, rt.alloc(), &job, bytes.as_slice(), line);
 }

@@ -6,10 +6,13 @@ use std::alloc::Global;
 use std::process::Abort;
 
 /// Words, and the job that they are.
-const JOBS: [(&[&str], Job<'static>); 11] = [
+const JOBS: [(&[&str], Job<'static>); 16] = [
     (&["dapnorm", "compact"], Job::Compact),
     (&["dapnorm", "record"], Job::Record),
-    (&["dapnorm", "normalise"], Job::Normalise),
+    (
+        &["dapnorm", "normalise"],
+        Job::Normalise { per_stop: false },
+    ),
     (&["dapnorm", "show"], Job::Show),
     (
         &["dapnorm", "mask", "lldb.mask"],
@@ -17,16 +20,26 @@ const JOBS: [(&[&str], Job<'static>); 11] = [
     ),
     (&["dapnorm", "rows"], Job::Rows { number: None }),
     (&["dapnorm", "rows", "62"], Job::Rows { number: Some("62") }),
-    (&["dapnorm", "check"], Job::Check { complete: false }),
+    (
+        &["dapnorm", "check"],
+        Job::Check {
+            complete: false,
+            per_stop: false,
+        },
+    ),
     (
         &["dapnorm", "check", "--complete"],
-        Job::Check { complete: true },
+        Job::Check {
+            complete: true,
+            per_stop: false,
+        },
     ),
     (
         &["dapnorm", "compare", "a.rec", "b.rec"],
         Job::Compare {
             a: "a.rec",
             b: "b.rec",
+            per_stop: false,
         },
     ),
     (
@@ -34,6 +47,41 @@ const JOBS: [(&[&str], Job<'static>); 11] = [
         Job::Diff {
             a: "a.rec",
             b: "b.rec",
+            per_stop: false,
+        },
+    ),
+    (
+        &["dapnorm", "normalise", "--per-stop"],
+        Job::Normalise { per_stop: true },
+    ),
+    (
+        &["dapnorm", "check", "--per-stop"],
+        Job::Check {
+            complete: false,
+            per_stop: true,
+        },
+    ),
+    (
+        &["dapnorm", "check", "--per-stop", "--complete"],
+        Job::Check {
+            complete: true,
+            per_stop: true,
+        },
+    ),
+    (
+        &["dapnorm", "compare", "a.rec", "b.rec", "--per-stop"],
+        Job::Compare {
+            a: "a.rec",
+            b: "b.rec",
+            per_stop: true,
+        },
+    ),
+    (
+        &["dapnorm", "diff", "--per-stop", "a.rec", "b.rec"],
+        Job::Diff {
+            a: "a.rec",
+            b: "b.rec",
+            per_stop: true,
         },
     ),
 ];
@@ -82,7 +130,7 @@ fn fault_of(rt: &impl Abort, alloc: Global, words: &[&str]) -> UsageFault {
 }
 
 /// No subcommand, wrong ones, and words that one does not take.
-const NO_JOBS: [&[&str]; 8] = [
+const NO_JOBS: [&[&str]; 11] = [
     &["dapnorm"],
     &["dapnorm", "compacted"],
     &["dapnorm", "compact", "file"],
@@ -91,6 +139,9 @@ const NO_JOBS: [&[&str]; 8] = [
     &["dapnorm", "check", "file"],
     &["dapnorm", "compare", "a.rec"],
     &["dapnorm", "mask"],
+    &["dapnorm", "--per-stop"],
+    &["dapnorm", "show", "--per-stop"],
+    &["dapnorm", "normalise", "--per-stop", "--per-stop"],
 ];
 
 /// Whether these are lines that tell of an error.
@@ -110,7 +161,7 @@ fn words_that_are_no_job(rt: HostRuntime) {
 }
 
 /// Words that ask for help or the version, and what is told.
-const HELP: [(&[&str], &str); 5] = [
+const HELP: [(&[&str], &str); 6] = [
     (&["dapnorm", "--help"], "Usage: dapnorm"),
     (&["dapnorm", "--version"], "dapnorm 0.1.0 "),
     (&["dapnorm", "compact", "--help"], "Usage: dapnorm"),
@@ -119,6 +170,7 @@ const HELP: [(&[&str], &str); 5] = [
         "Usage: dapnorm check [OPTIONS]",
     ),
     (&["dapnorm", "check", "--help"], "--complete"),
+    (&["dapnorm", "diff", "--help"], "--per-stop"),
 ];
 
 fn is_help(fault: &UsageFault, part: &str) -> bool {

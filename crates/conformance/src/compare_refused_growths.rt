@@ -3,11 +3,12 @@
 //!
 //! tests/fault_injection.py runs these under a shim that refuses. Without it each makes one turn
 //! with ample memory.
-use crate::comparing::{EXCHANGED, FRAMES};
+use crate::comparing::{EXCHANGED, EXCHANGED_PAIRS, FRAMES, NEW_FRAME, STALE_FRAME};
 use crate::devices::whole;
 use crate::engines::compare_status;
 use crate::examples::{IndexTable, LIMITS, index_tables};
 use crate::growths::{tells_memory_or, was_wanted};
+use crate::per_stop::PAIRS_PER_STOP;
 use crate::recordings::{ANSWERED_TWICE, Line, recording};
 use crate::runs::{Compared, comparison_of, verdict_on};
 use dap_message::{Message, MessageFault, Side, typed};
@@ -22,12 +23,12 @@ use std::process::Abort;
 fn asks_turn(
     rt: &impl Abort,
     alloc: Global,
-    (a, b): (&[u8], &[u8]),
+    (a, b, mode): (&[u8], &[u8], Mode),
     wanted: Compared,
     turn: u16,
 ) -> bool {
     refuse_growth(alloc, turn);
-    let answer = verdict_on(alloc, whole(a), whole(b));
+    let answer = verdict_on(alloc, whole(a), whole(b), mode);
     let is_refused = was_refused(alloc);
     let found = comparison_of(&answer);
     if found == Compared::Refused(CompareRefused::Memory) {
@@ -39,9 +40,18 @@ fn asks_turn(
 }
 
 fn asks_each_turn(rt: &impl Abort, alloc: Global, a: &[Line], b: &[Line], wanted: Compared) {
+    asks_each_turn_by(rt, alloc, (a, b, Mode::Whole), wanted);
+}
+
+fn asks_each_turn_by(
+    rt: &impl Abort,
+    alloc: Global,
+    (a, b, mode): (&[Line], &[Line], Mode),
+    wanted: Compared,
+) {
     let a = recording(rt, alloc, a);
     let b = recording(rt, alloc, b);
-    let both = (a.as_slice(), b.as_slice());
+    let both = (a.as_slice(), b.as_slice(), mode);
     for turn in 1..10_000u16 {
         if !asks_turn(rt, alloc, both, wanted, turn) {
             break;
@@ -60,31 +70,58 @@ fn compare_is_refused_in_turn(rt: HostRuntime) {
     asks_each_turn(&rt, alloc, &FRAMES, &ANSWERED_TWICE, wanted);
 }
 
-/// What the program prints of recordings with exchanged frame ids.
-const PRINTED: &[u8] =
-    b"same\nclient-seq 1 1\nclient-seq 2 2\nadapter-seq 1 1\nadapter-seq 2 2\nframe 1000 1001\nframe 1001 1000\nthread 1 1\n";
+#[test]
+fn compare_per_stop_is_refused_in_turn(rt: HostRuntime) {
+    let alloc = rt.alloc();
+    // Eight sequence numbers, a frame of each of two stops, and a thread.
+    let stops = (STALE_FRAME.as_slice(), NEW_FRAME.as_slice(), Mode::PerStop);
+    asks_each_turn_by(&rt, alloc, stops, Compared::Same(11));
+    let other = (STALE_FRAME.as_slice(), FRAMES.as_slice(), Mode::PerStop);
+    asks_each_turn_by(&rt, alloc, other, Compared::Differ(3));
+}
 
 /// Asks for what is printed of two recordings with this growth refused. Whether it was.
-fn tells_turn(rt: &impl Abort, alloc: Global, (a, b): (&[u8], &[u8]), turn: u16) -> bool {
+fn tells_turn(
+    rt: &impl Abort,
+    alloc: Global,
+    (a, b, mode): (&[u8], &[u8], Mode),
+    printed: &[u8],
+    turn: u16,
+) -> bool {
     let (mut a, mut b) = (MemorySource::new(a), MemorySource::new(b));
     let mut sink = MemorySink::new(alloc, 4096).expect(rt, "no memory");
     let mut errors = MemorySink::new(alloc, 4096).expect(rt, "no memory");
     refuse_growth(alloc, turn);
-    let status = compare_status(alloc, &mut a, &mut b, &mut sink, &mut errors, LIMITS);
+    let status = compare_status(alloc, &mut a, &mut b, &mut sink, &mut errors, LIMITS, mode);
     let is_refused = was_refused(alloc);
     let told = (Some(status), is_refused, turn);
-    tells_memory_or(rt, told, (sink.bytes(), errors.bytes()), PRINTED);
+    tells_memory_or(rt, told, (sink.bytes(), errors.bytes()), printed);
     is_refused
 }
 
 #[test]
 fn run_compare_is_refused_in_turn(rt: HostRuntime) {
-    let frames = recording(&rt, rt.alloc(), &FRAMES);
-    let exchanged = recording(&rt, rt.alloc(), &EXCHANGED);
-    let both = (frames.as_slice(), exchanged.as_slice());
-    for turn in 1..10_000u16 {
-        if !tells_turn(&rt, rt.alloc(), both, turn) {
-            break;
+    for (a, b, mode, printed) in [
+        (
+            FRAMES.as_slice(),
+            EXCHANGED.as_slice(),
+            Mode::Whole,
+            EXCHANGED_PAIRS,
+        ),
+        (
+            STALE_FRAME.as_slice(),
+            NEW_FRAME.as_slice(),
+            Mode::PerStop,
+            PAIRS_PER_STOP,
+        ),
+    ] {
+        let a = recording(&rt, rt.alloc(), a);
+        let b = recording(&rt, rt.alloc(), b);
+        let both = (a.as_slice(), b.as_slice(), mode);
+        for turn in 1..10_000u16 {
+            if !tells_turn(&rt, rt.alloc(), both, printed, turn) {
+                break;
+            }
         }
     }
 }

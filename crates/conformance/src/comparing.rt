@@ -66,12 +66,12 @@ const FIRST_FRAME: Line = (
     "{\"body\":{\"stackFrames\":[{\"column\":1,\"id\":1000,\"line\":3,\"name\":\"f\"}]},\"command\":\"stackTrace\",\"request_seq\":2,\"seq\":3,\"success\":true,\"type\":\"response\"}",
 );
 
-const STOPPED_AGAIN: Line = (
+pub const STOPPED_AGAIN: Line = (
     "<",
     "{\"body\":{\"reason\":\"step\"},\"event\":\"stopped\",\"seq\":4,\"type\":\"event\"}",
 );
 
-const STACK_TRACE_AGAIN: Line = (
+pub const STACK_TRACE_AGAIN: Line = (
     ">",
     "{\"arguments\":{\"threadId\":1},\"command\":\"stackTrace\",\"seq\":3,\"type\":\"request\"}",
 );
@@ -108,12 +108,23 @@ pub const NEW_FRAME: [Line; 8] = [
 
 /// Asks for what the program prints of two recordings, where nothing is wrong with them.
 fn prints(rt: &impl Abort, alloc: Global, a: &[Line], b: &[Line], status: u8, printed: &[u8]) {
+    prints_by(rt, alloc, (a, b, Mode::Whole), status, printed);
+}
+
+/// Asks the same in a mode.
+pub fn prints_by(
+    rt: &impl Abort,
+    alloc: Global,
+    (a, b, mode): (&[Line], &[Line], Mode),
+    status: u8,
+    printed: &[u8],
+) {
     let a = recording(rt, alloc, a);
     let b = recording(rt, alloc, b);
     tells_both(
         rt,
         alloc,
-        (a.as_slice(), b.as_slice()),
+        (a.as_slice(), b.as_slice(), mode),
         status,
         printed,
         b"",
@@ -143,15 +154,16 @@ fn messages(rt: &impl Abort, alloc: Global, lines: &[Line]) -> Vec<Message> {
 }
 
 /// Asks that a renaming carries the messages of the one recording to those of the other.
-fn are_carried(rt: &impl Abort, alloc: Global, a: &[Line], b: &[Line]) {
+pub fn are_carried(rt: &impl Abort, alloc: Global, (a, b, mode): (&[Line], &[Line], Mode)) {
     let bytes_a = recording(rt, alloc, a);
     let bytes_b = recording(rt, alloc, b);
-    let answer = verdict_on(alloc, whole(bytes_a.as_slice()), whole(bytes_b.as_slice()));
+    let (whole_a, whole_b) = (whole(bytes_a.as_slice()), whole(bytes_b.as_slice()));
+    let answer = verdict_on(alloc, whole_a, whole_b, mode);
     let from = messages(rt, alloc, a);
     let to = messages(rt, alloc, b);
     match answer {
         Ok(Verdict::Same(renaming)) => {
-            assert!(rt; renaming.carries(from.as_slice(), to.as_slice(), Mode::Whole))
+            assert!(rt; renaming.carries(from.as_slice(), to.as_slice(), mode))
         }
         _ => assert!(rt; false, "not the same"),
     }
@@ -159,12 +171,13 @@ fn are_carried(rt: &impl Abort, alloc: Global, a: &[Line], b: &[Line]) {
 
 #[test]
 fn same_recordings_are_carried_by_their_renaming(rt: HostRuntime) {
-    are_carried(&rt, rt.alloc(), &FRAMES, &EXCHANGED);
-    are_carried(&rt, rt.alloc(), &[], &[]);
-    are_carried(&rt, rt.alloc(), &UNNUMBERED, &UNNUMBERED);
+    are_carried(&rt, rt.alloc(), (&FRAMES, &EXCHANGED, Mode::Whole));
+    are_carried(&rt, rt.alloc(), (&[], &[], Mode::Whole));
+    are_carried(&rt, rt.alloc(), (&UNNUMBERED, &UNNUMBERED, Mode::Whole));
 }
 
-const EXCHANGED_PAIRS: &[u8] =
+/// What the program prints of recordings with exchanged frame ids.
+pub const EXCHANGED_PAIRS: &[u8] =
     b"same\nclient-seq 1 1\nclient-seq 2 2\nadapter-seq 1 1\nadapter-seq 2 2\nframe 1000 1001\nframe 1001 1000\nthread 1 1\n";
 
 #[test]
@@ -213,7 +226,7 @@ pub fn faulty_behind_a_difference(rt: &impl Abort, alloc: Global) -> Vec<u8> {
 fn nothing_is_judged_behind_a_difference(rt: HostRuntime) {
     let a = recording(&rt, rt.alloc(), &CONFIGURED);
     let b = faulty_behind_a_difference(&rt, rt.alloc());
-    let both = (a.as_slice(), b.as_slice());
+    let both = (a.as_slice(), b.as_slice(), Mode::Whole);
     tells_both(&rt, rt.alloc(), both, 1, b"differ 3\n", b"");
 }
 
@@ -222,7 +235,8 @@ fn nothing_is_judged_behind_a_difference(rt: HostRuntime) {
 fn refuses_input(rt: &impl Abort, alloc: Global, both: (&[u8], &[u8]), which: Which, line: &[u8]) {
     let refused = CompareRefused::Input(which, Refused::Rule(3, Rule::AnsweredTwice));
     asks_memory_compare(rt, alloc, both, Compared::Refused(refused));
-    tells_both(rt, alloc, both, 2, b"", line);
+    let (a, b) = both;
+    tells_both(rt, alloc, (a, b, Mode::Whole), 2, b"", line);
 }
 
 #[test]
@@ -236,11 +250,14 @@ fn a_refusal_is_told_with_its_input(rt: HostRuntime) {
     refuses_input(&rt, rt.alloc(), (session, twice), Which::B, line_b);
 }
 
-/// Whether the normal texts of two recordings tell that they are the same.
-fn have_same_texts(alloc: Global, a: &[u8], b: &[u8]) -> Option<bool> {
-    match (normal_text(alloc, a, LIMITS), normal_text(alloc, b, LIMITS)) {
-        (Ok(a), Ok(b)) => Some(a.same(&b)),
-        _ => None,
+/// Whether the normal texts of two recordings in a mode tell that they are the same.
+pub fn have_same_texts(alloc: Global, a: &[u8], b: &[u8], mode: Mode) -> Option<bool> {
+    let Ok(a) = normal_text(alloc, a, LIMITS, mode) else {
+        return None;
+    };
+    match normal_text(alloc, b, LIMITS, mode) {
+        Ok(b) => Some(a.same(&b)),
+        Err(_) => None,
     }
 }
 
@@ -248,9 +265,19 @@ fn have_same_texts(alloc: Global, a: &[u8], b: &[u8]) -> Option<bool> {
 fn normal_texts_tell_whether_recordings_are_the_same(rt: HostRuntime) {
     let frames = recording(&rt, rt.alloc(), &FRAMES);
     let exchanged = recording(&rt, rt.alloc(), &EXCHANGED);
-    let same = have_same_texts(rt.alloc(), frames.as_slice(), exchanged.as_slice());
+    let same = have_same_texts(
+        rt.alloc(),
+        frames.as_slice(),
+        exchanged.as_slice(),
+        Mode::Whole,
+    );
     assert!(rt; same == Some(true));
     let configured = recording(&rt, rt.alloc(), &CONFIGURED);
-    let same = have_same_texts(rt.alloc(), frames.as_slice(), configured.as_slice());
+    let same = have_same_texts(
+        rt.alloc(),
+        frames.as_slice(),
+        configured.as_slice(),
+        Mode::Whole,
+    );
     assert!(rt; same == Some(false));
 }

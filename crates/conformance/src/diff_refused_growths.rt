@@ -5,7 +5,7 @@ use crate::engines::diff_status;
 use crate::examples::LIMITS;
 use crate::growths::tells_memory_or;
 use crate::recordings::recording;
-use dapnorm::{MemorySink, MemorySource};
+use dapnorm::{MemorySink, MemorySource, Mode};
 use fault_injection::{refuse_growth, was_refused};
 use std::alloc::Global;
 use std::process::Abort;
@@ -16,7 +16,15 @@ fn tells_turn(rt: &impl Abort, alloc: Global, (a, b): (&[u8], &[u8]), turn: u16)
     let mut sink = MemorySink::new(alloc, 4096).expect(rt, "no memory");
     let mut errors = MemorySink::new(alloc, 4096).expect(rt, "no memory");
     refuse_growth(alloc, turn);
-    let status = diff_status(alloc, &mut a, &mut b, &mut sink, &mut errors, LIMITS);
+    let status = diff_status(
+        alloc,
+        &mut a,
+        &mut b,
+        &mut sink,
+        &mut errors,
+        LIMITS,
+        Mode::Whole,
+    );
     let is_refused = was_refused(alloc);
     if status == 5 {
         let told = (Some(status), is_refused, turn);

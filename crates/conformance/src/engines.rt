@@ -1,10 +1,10 @@
 //! The calls of `dapnorm` behind functions that promise nothing, so that the tests are cheap to
 //! prove.
-ghost use Rattle.std.specs.Prelude.{◌≡◌, ◌<◌, ◌≤◌, ◌^◌, IsTrue};
+ghost use Rattle.std.specs.Prelude.{◌≡◌, ◌<◌, ◌≤◌, ◌^◌, IfOk, IsTrue};
 ghost use Rattle.dapnorm.specs.Limits.{AreSound};
 
 use dapnorm::{
-    Checked, CompareRefused, Job, Limits, Normalised, Refused, Sink, Source, Verdict, check,
+    Checked, CompareRefused, Job, Limits, Mode, Normalised, Refused, Sink, Source, Verdict, check,
     compact, compare, normalise, normalise_bytes, record, run_compare, run_diff, run_stream, show,
 };
 use std::alloc::Global;
@@ -22,6 +22,8 @@ pub enum Engine {
     Compact,
     Record,
     Normalise,
+    /// With names that begin again at each stop.
+    NormalisePerStop,
     Show,
 }
 
@@ -41,7 +43,8 @@ pub fn answer<R: Source, W: Sink>(
     match engine {
         Engine::Compact => compacted(alloc, reader, writer, limits),
         Engine::Record => recorded(alloc, reader, writer, limits),
-        Engine::Normalise => normalised(alloc, reader, writer, limits),
+        Engine::Normalise => normalised(alloc, reader, writer, limits, Mode::Whole),
+        Engine::NormalisePerStop => normalised(alloc, reader, writer, limits, Mode::PerStop),
         Engine::Show => shown(alloc, reader, writer, limits),
     }
 }
@@ -79,13 +82,14 @@ fn normalised<R: Source, W: Sink>(
     reader: &mut R,
     writer: &mut W,
     limits: Limits,
+    mode: Mode,
 ) -> Result<(), Refused>
     requires limits { AreSound limits }
     requires given { R.given reader.old < 2 ^ 62 }
     requires read_failures { R.failures reader.old < 2 ^ 62 }
     requires write_failures { W.failures writer.old < 2 ^ 62 }
 {
-    normalise(alloc, reader, writer, limits)
+    normalise(alloc, reader, writer, limits, mode)
 }
 
 fn shown<R: Source, W: Sink>(
@@ -102,11 +106,17 @@ fn shown<R: Source, W: Sink>(
     show(alloc, reader, writer, limits)
 }
 
-/// What `normalise_bytes` answers.
-pub fn normal_text(alloc: Global, bytes: &[u8], limits: Limits) -> Result<Normalised, Refused>
+/// What `normalise_bytes` answers. The texts of one mode may be asked whether they are the same.
+pub fn normal_text(
+    alloc: Global,
+    bytes: &[u8],
+    limits: Limits,
+    mode: Mode,
+) -> Result<Normalised, Refused>
     requires { AreSound limits }
+    ensures { IfOk result (λ text. text.mode ≡ mode) }
 {
-    normalise_bytes(alloc, bytes, limits)
+    normalise_bytes(alloc, bytes, limits, mode)
 }
 
 /// What `check` answers.
@@ -115,12 +125,13 @@ pub fn checked<R: Source>(
     reader: &mut R,
     limits: Limits,
     complete: bool,
+    mode: Mode,
 ) -> Result<Checked, Refused>
     requires limits { AreSound limits }
     requires given { R.given reader.old < 2 ^ 62 }
     requires failures { R.failures reader.old < 2 ^ 62 }
 {
-    check(alloc, reader, limits, complete)
+    check(alloc, reader, limits, complete, mode)
 }
 
 /// What `compare` answers.
@@ -129,6 +140,7 @@ pub fn verdict<A: Source, B: Source>(
     a: &mut A,
     b: &mut B,
     limits: Limits,
+    mode: Mode,
 ) -> Result<Verdict, CompareRefused>
     requires limits { AreSound limits }
     requires given_a { A.given a.old < 2 ^ 62 }
@@ -136,7 +148,7 @@ pub fn verdict<A: Source, B: Source>(
     requires failures_a { A.failures a.old < 2 ^ 62 }
     requires failures_b { B.failures b.old < 2 ^ 62 }
 {
-    compare(alloc, a, b, limits)
+    compare(alloc, a, b, limits, mode)
 }
 
 /// The status of the program for a job of one input and no rules; none where it is another.
@@ -171,6 +183,7 @@ pub fn compare_status<A: Source, B: Source, W: Sink, E: Sink>(
     writer: &mut W,
     errors: &mut E,
     limits: Limits,
+    mode: Mode,
 ) -> u8
     requires limits { AreSound limits }
     requires given_a { A.given a.old < 2 ^ 62 }
@@ -180,7 +193,7 @@ pub fn compare_status<A: Source, B: Source, W: Sink, E: Sink>(
     requires write_failures { W.failures writer.old < 2 ^ 62 }
     requires error_failures { E.failures errors.old < 2 ^ 62 }
 {
-    run_compare(alloc, a, b, writer, errors, limits)
+    run_compare(alloc, a, b, writer, errors, limits, mode)
 }
 
 /// The status of the program for two inputs whose difference is told.
@@ -191,6 +204,7 @@ pub fn diff_status<A: Source, B: Source, W: Sink, E: Sink>(
     writer: &mut W,
     errors: &mut E,
     limits: Limits,
+    mode: Mode,
 ) -> u8
     requires limits { AreSound limits }
     requires given_a { A.given a.old < 2 ^ 62 }
@@ -200,5 +214,5 @@ pub fn diff_status<A: Source, B: Source, W: Sink, E: Sink>(
     requires write_failures { W.failures writer.old < 2 ^ 62 }
     requires error_failures { E.failures errors.old < 2 ^ 62 }
 {
-    run_diff(alloc, a, b, writer, errors, limits)
+    run_diff(alloc, a, b, writer, errors, limits, mode)
 }

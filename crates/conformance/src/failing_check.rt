@@ -63,7 +63,13 @@ fn a_failed_read_is_told(rt: HostRuntime) {
             fails_at: 10,
             ..whole(bytes.as_slice())
         },
-        ..job_on(Job::Check { complete: false }, b"")
+        ..job_on(
+            Job::Check {
+                complete: false,
+                per_stop: false,
+            },
+            b"",
+        )
     };
     tells(&rt, rt.alloc(), run, 4, b"", b"dapnorm: read fault\n");
 }

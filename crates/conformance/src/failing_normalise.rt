@@ -122,7 +122,7 @@ fn a_flush_that_fails_is_told_in_the_place_of_a_refusal(rt: HostRuntime) {
                 fails_to_flush: *fails_to_flush,
                 ..ROOM
             },
-            ..job_on(Job::Normalise, bytes.as_slice())
+            ..job_on(Job::Normalise { per_stop: false }, bytes.as_slice())
         };
         tells(&rt, rt.alloc(), run, *wanted, normal.as_slice(), line);
     }
@@ -137,7 +137,7 @@ fn a_failed_read_is_told_behind_what_was_written(rt: HostRuntime) {
             fails_at: 211,
             ..whole(bytes.as_slice())
         },
-        ..job_on(Job::Normalise, b"")
+        ..job_on(Job::Normalise { per_stop: false }, b"")
     };
     tells(
         &rt,

@@ -5,7 +5,7 @@ ghost use Rattle.dapnorm.specs.NameTables.{AreReady};
 
 use crate::name_tables::{indexed, plain};
 use dapnorm::{
-    Checked, CompareRefused, Job, Limits, NameTable, Refused, Sink, Source, Tables, Verdict,
+    Checked, CompareRefused, Job, Limits, Mode, NameTable, Refused, Sink, Source, Tables, Verdict,
     check_with, compare_with, normalise_with, run_compare_with, run_diff_with, run_stream_with,
 };
 use std::alloc::Global;
@@ -33,7 +33,7 @@ fn normalise_by<R: Source, W: Sink, T: NameTable + Drop>(
     requires read_failures { R.failures reader.old < 2 ^ 62 }
     requires write_failures { W.failures writer.old < 2 ^ 62 }
 {
-    normalise_with(alloc, reader, writer, limits, tables)
+    normalise_with(alloc, reader, writer, limits, tables, Mode::Whole)
 }
 
 /// What `normalise` answers.
@@ -75,7 +75,7 @@ fn check_by<R: Source, T: NameTable + Drop>(
     requires given { R.given reader.old < 2 ^ 62 }
     requires failures { R.failures reader.old < 2 ^ 62 }
 {
-    check_with(alloc, reader, limits, complete, tables)
+    check_with(alloc, reader, limits, complete, tables, Mode::Whole)
 }
 
 /// What `check` answers.
@@ -120,7 +120,7 @@ fn compare_by<A: Source, B: Source, T: NameTable + Drop>(
     requires failures_a { A.failures a.old < 2 ^ 62 }
     requires failures_b { B.failures b.old < 2 ^ 62 }
 {
-    compare_with(alloc, a, b, limits, tables_a, tables_b)
+    compare_with(alloc, a, b, limits, tables_a, tables_b, Mode::Whole)
 }
 
 /// What `compare` answers.
@@ -223,7 +223,17 @@ fn compare_stream_by<A: Source, B: Source, W: Sink, E: Sink, T: NameTable + Drop
     requires write_failures { W.failures writer.old < 2 ^ 62 }
     requires error_failures { E.failures errors.old < 2 ^ 62 }
 {
-    run_compare_with(alloc, a, b, writer, errors, limits, tables_a, tables_b)
+    run_compare_with(
+        alloc,
+        a,
+        b,
+        writer,
+        errors,
+        limits,
+        tables_a,
+        tables_b,
+        Mode::Whole,
+    )
 }
 
 /// The status of the program for two inputs that are compared.
@@ -277,7 +287,17 @@ fn diff_stream_by<A: Source, B: Source, W: Sink, E: Sink, T: NameTable + Drop>(
     requires write_failures { W.failures writer.old < 2 ^ 62 }
     requires error_failures { E.failures errors.old < 2 ^ 62 }
 {
-    run_diff_with(alloc, a, b, writer, errors, limits, tables_a, tables_b)
+    run_diff_with(
+        alloc,
+        a,
+        b,
+        writer,
+        errors,
+        limits,
+        tables_a,
+        tables_b,
+        Mode::Whole,
+    )
 }
 
 /// The status of the program for two inputs whose difference is told.

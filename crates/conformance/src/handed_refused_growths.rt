@@ -191,7 +191,7 @@ fn tells_turn(rt: &impl Abort, alloc: Global, input: &[u8], handed: Handed, turn
     let mut errors = MemorySink::new(alloc, 4096).expect(rt, "no memory");
     let mut source = MemorySource::new(input);
     refuse_growth(alloc, turn);
-    let job = Job::Normalise;
+    let job = Job::Normalise { per_stop: false };
     let status = status_with(
         handed,
         alloc,

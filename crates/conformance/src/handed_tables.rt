@@ -1,5 +1,6 @@
 //! The engines with tables of names that they are handed: any table gives the answers that the
 //! engine's own gives.
+use crate::comparing::NEW_FRAME;
 use crate::engines::{
     Engine, answer, are_sound, checked, compare_status, diff_status, status, verdict,
 };
@@ -12,7 +13,9 @@ use crate::recordings::{CONFIGURED, recording};
 use crate::runs::is_one;
 use crate::traces::BOTH_SIDES;
 use crate::worked::worked;
-use dapnorm::{Checked, CompareRefused, Job, Limits, MemorySink, MemorySource, Refused, Verdict};
+use dapnorm::{
+    Checked, CompareRefused, Job, Limits, MemorySink, MemorySource, Mode, Refused, Verdict,
+};
 use std::alloc::Global;
 use std::hash::RandomState;
 use std::process::Abort;
@@ -71,7 +74,7 @@ fn checked_by(
     let mut source = MemorySource::new(text);
     assert!(rt; are_sound(limits));
     match names {
-        None => checked(alloc, &mut source, limits, complete),
+        None => checked(alloc, &mut source, limits, complete, Mode::Whole),
         Some(handed) => checked_with(handed, alloc, &mut source, limits, complete),
     }
 }
@@ -106,7 +109,7 @@ fn verdict_by(
 ) -> Result<Verdict, CompareRefused> {
     let (mut a, mut b) = (MemorySource::new(a), MemorySource::new(b));
     match names {
-        None => verdict(alloc, &mut a, &mut b, LIMITS),
+        None => verdict(alloc, &mut a, &mut b, LIMITS, Mode::Whole),
         Some(handed) => verdict_with(handed, alloc, &mut a, &mut b, LIMITS),
     }
 }
@@ -144,7 +147,15 @@ fn both_printed(rt: &impl Abort, alloc: Global, names: Names, both: (&[u8], &[u8
     let mut output = MemorySink::new(alloc, 4096).expect(rt, "no memory");
     let mut errors = MemorySink::new(alloc, 4096).expect(rt, "no memory");
     let status = match names {
-        None => compare_status(alloc, &mut a, &mut b, &mut output, &mut errors, LIMITS),
+        None => compare_status(
+            alloc,
+            &mut a,
+            &mut b,
+            &mut output,
+            &mut errors,
+            LIMITS,
+            Mode::Whole,
+        ),
         Some(handed) => {
             compare_status_with(
                 handed,
@@ -171,7 +182,15 @@ fn difference_printed(
     let mut output = MemorySink::new(alloc, 4096).expect(rt, "no memory");
     let mut errors = MemorySink::new(alloc, 4096).expect(rt, "no memory");
     let status = match names {
-        None => diff_status(alloc, &mut a, &mut b, &mut output, &mut errors, LIMITS),
+        None => diff_status(
+            alloc,
+            &mut a,
+            &mut b,
+            &mut output,
+            &mut errors,
+            LIMITS,
+            Mode::Whole,
+        ),
         Some(handed) => {
             diff_status_with(
                 handed,
@@ -251,10 +270,16 @@ fn jobs_agree(rt: &impl Abort, alloc: Global, run: (&Job, &[u8]), handed: Handed
 const JOBS: [Job<'static>; 6] = [
     Job::Compact,
     Job::Record,
-    Job::Normalise,
+    Job::Normalise { per_stop: false },
     Job::Show,
-    Job::Check { complete: false },
-    Job::Check { complete: true },
+    Job::Check {
+        complete: false,
+        per_stop: false,
+    },
+    Job::Check {
+        complete: true,
+        per_stop: false,
+    },
 ];
 
 /// Frames of one direction, and traces.
@@ -270,6 +295,25 @@ fn all_jobs_agree(rt: &impl Abort, alloc: Global, text: &[u8], handed: [Handed; 
     for job in &JOBS {
         for handed in handed {
             jobs_agree(rt, alloc, (job, text), handed);
+        }
+    }
+}
+
+/// The jobs with names that begin again at each stop.
+const JOBS_PER_STOP: [Job<'static>; 2] = [
+    Job::Normalise { per_stop: true },
+    Job::Check {
+        complete: true,
+        per_stop: true,
+    },
+];
+
+#[test]
+fn jobs_per_stop_with_handed_tables(rt: HostRuntime) {
+    let bytes = recording(&rt, rt.alloc(), &NEW_FRAME);
+    for handed in handed_tables(&rt, RandomState::new(&rt).ok()) {
+        for job in &JOBS_PER_STOP {
+            jobs_agree(&rt, rt.alloc(), (job, bytes.as_slice()), handed);
         }
     }
 }

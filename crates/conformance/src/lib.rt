@@ -53,6 +53,8 @@ mod normalise_refused_growths;
 #[cfg(test)]
 mod normalising;
 #[cfg(test)]
+mod per_stop;
+#[cfg(test)]
 mod random_inputs;
 #[cfg(test)]
 mod recording_traces;

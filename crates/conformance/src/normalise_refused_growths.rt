@@ -3,15 +3,17 @@
 //!
 //! tests/fault_injection.py runs these under a shim that refuses. Without it each makes one turn
 //! with ample memory.
+use crate::comparing::NEW_FRAME;
 use crate::devices::{ROOM, TestSink};
 use crate::engines::{Engine, answer, are_sound, normal_text};
 use crate::examples::{LIMITS, with_contents, with_ids};
 use crate::growths::{has_leading_records, was_wanted};
+use crate::per_stop::NORMAL_PER_STOP;
 use crate::recordings::{
     ANSWERED_TWICE, CONFIGURED, FILLED_RESPONSE, INITIALIZE, INITIALIZE_RESPONSE, Line,
     NORMAL_CONFIGURED, STACK_TRACE, THREE_FRAMES, recording,
 };
-use dapnorm::{Limits, MemorySource, Normalised, Refused, Rule};
+use dapnorm::{Limits, MemorySource, Mode, Normalised, Refused, Rule};
 use fault_injection::{refuse_growth, was_refused};
 use std::alloc::Global;
 use std::process::Abort;
@@ -24,12 +26,17 @@ struct Turn {
     is_refused: bool,
 }
 
-fn turn_of(rt: &impl Abort, alloc: Global, (input, limits): (&[u8], Limits), turn: u16) -> Turn {
+fn turn_of(
+    rt: &impl Abort,
+    alloc: Global,
+    (engine, input, limits): (Engine, &[u8], Limits),
+    turn: u16,
+) -> Turn {
     let mut source = MemorySource::new(input);
     let mut sink = TestSink::new(alloc, ROOM).expect(rt, "no memory");
     assert!(rt; are_sound(limits));
     refuse_growth(alloc, turn);
-    let answer = answer(Engine::Normalise, alloc, &mut source, &mut sink, limits);
+    let answer = answer(engine, alloc, &mut source, &mut sink, limits);
     Turn {
         answer,
         sink,
@@ -41,7 +48,7 @@ fn turn_of(rt: &impl Abort, alloc: Global, (input, limits): (&[u8], Limits), tur
 fn asks_turn(
     rt: &impl Abort,
     alloc: Global,
-    input: (&[u8], Limits),
+    input: (Engine, &[u8], Limits),
     (wanted, written): (Result<(), Refused>, &[Line]),
     turn: u16,
 ) -> bool {
@@ -61,12 +68,12 @@ fn asks_turn(
 fn asks_each_turn(
     rt: &impl Abort,
     alloc: Global,
-    (lines, limits): (&[Line], Limits),
+    (engine, lines, limits): (Engine, &[Line], Limits),
     wanted: Result<(), Refused>,
     written: &[Line],
 ) {
     let bytes = recording(rt, alloc, lines);
-    let input = (bytes.as_slice(), limits);
+    let input = (engine, bytes.as_slice(), limits);
     for turn in 1..10_000u16 {
         if !asks_turn(rt, alloc, input, (wanted, written), turn) {
             break;
@@ -77,35 +84,43 @@ fn asks_each_turn(
 #[test]
 fn normalise_is_refused_in_turn(rt: HostRuntime) {
     let alloc = rt.alloc();
-    asks_each_turn(&rt, alloc, (&[], LIMITS), Ok(()), &[]);
-    let session = (CONFIGURED.as_slice(), LIMITS);
+    asks_each_turn(&rt, alloc, (Engine::Normalise, &[], LIMITS), Ok(()), &[]);
+    let session = (Engine::Normalise, CONFIGURED.as_slice(), LIMITS);
     asks_each_turn(&rt, alloc, session, Ok(()), &NORMAL_CONFIGURED);
-    let twice = (ANSWERED_TWICE.as_slice(), LIMITS);
+    let twice = (Engine::Normalise, ANSWERED_TWICE.as_slice(), LIMITS);
     let refused = Err(Refused::Rule(3, Rule::AnsweredTwice));
     asks_each_turn(&rt, alloc, twice, refused, &[INITIALIZE, FILLED_RESPONSE]);
+}
+
+#[test]
+fn normalise_per_stop_is_refused_in_turn(rt: HostRuntime) {
+    let stops = (Engine::NormalisePerStop, NEW_FRAME.as_slice(), LIMITS);
+    asks_each_turn(&rt, rt.alloc(), stops, Ok(()), &NORMAL_PER_STOP);
 }
 
 #[test]
 fn normalise_past_a_limit_is_refused_in_turn(rt: HostRuntime) {
     let alloc = rt.alloc();
     let begun = (
+        Engine::Normalise,
         [INITIALIZE, INITIALIZE_RESPONSE].as_slice(),
         with_contents(200),
     );
     asks_each_turn(&rt, alloc, begun, Err(Refused::Grew(2)), &[INITIALIZE]);
-    let frames = (THREE_FRAMES.as_slice(), with_ids(2));
+    let frames = (Engine::Normalise, THREE_FRAMES.as_slice(), with_ids(2));
     let written = [INITIALIZE, FILLED_RESPONSE, STACK_TRACE];
     asks_each_turn(&rt, alloc, frames, Err(Refused::TooManyIds(4)), &written);
 }
 
-/// Asks for a normal text of 1,709 bytes, or for want of memory where a growth was refused.
+/// Asks for this normal text, or for want of memory where a growth was refused.
 fn is_normal(
     rt: &impl Abort,
     answer: Result<Normalised, Refused>,
+    wanted: &[u8],
     (is_refused, turn): (bool, u16),
 ) {
     match answer {
-        Ok(normalised) => assert!(rt; normalised.bytes().len() == 1709),
+        Ok(normalised) => assert!(rt; normalised.bytes() == wanted),
         Err(refused) => {
             assert!(rt; refused == Refused::Memory);
             was_wanted(rt, is_refused, turn);
@@ -113,16 +128,36 @@ fn is_normal(
     }
 }
 
-#[test]
-fn normalise_bytes_is_refused_in_turn(rt: HostRuntime) {
-    let bytes = recording(&rt, rt.alloc(), &CONFIGURED);
+/// Asks for the normal text of a recording in a mode with each growth refused in turn.
+fn gives_text_each_turn(
+    rt: &impl Abort,
+    alloc: Global,
+    (bytes, wanted): (&[u8], &[u8]),
+    mode: Mode,
+) {
     for turn in 1..10_000u16 {
-        refuse_growth(rt.alloc(), turn);
-        let answer = normal_text(rt.alloc(), bytes.as_slice(), LIMITS);
-        let is_refused = was_refused(rt.alloc());
-        is_normal(&rt, answer, (is_refused, turn));
+        refuse_growth(alloc, turn);
+        let answer = normal_text(alloc, bytes, LIMITS, mode);
+        let is_refused = was_refused(alloc);
+        is_normal(rt, answer, wanted, (is_refused, turn));
         if !is_refused {
             break;
         }
     }
+}
+
+#[test]
+fn normalise_bytes_is_refused_in_turn(rt: HostRuntime) {
+    let session = recording(&rt, rt.alloc(), &CONFIGURED);
+    let normal = recording(&rt, rt.alloc(), &NORMAL_CONFIGURED);
+    let texts = (session.as_slice(), normal.as_slice());
+    gives_text_each_turn(&rt, rt.alloc(), texts, Mode::Whole);
+}
+
+#[test]
+fn normalise_bytes_per_stop_is_refused_in_turn(rt: HostRuntime) {
+    let stops = recording(&rt, rt.alloc(), &NEW_FRAME);
+    let normal = recording(&rt, rt.alloc(), &NORMAL_PER_STOP);
+    let texts = (stops.as_slice(), normal.as_slice());
+    gives_text_each_turn(&rt, rt.alloc(), texts, Mode::PerStop);
 }

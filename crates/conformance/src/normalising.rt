@@ -11,7 +11,7 @@ use crate::recordings::{
 };
 use crate::runs::{JobRun, Run, asks, asks_check, asks_memory, by_pieces, job_on, run_of, tells};
 use dap_frame::FrameFault;
-use dapnorm::{Job, Limits, MessageFault, RecordCause, Refused, Rule};
+use dapnorm::{Job, Limits, MessageFault, Mode, RecordCause, Refused, Rule};
 use std::alloc::Global;
 use std::process::Abort;
 
@@ -391,7 +391,7 @@ pub const REFUSED_CONTENTS: [(&[Line], &[Line], Refused); 10] = [
 
 /// Whether `normalise_bytes` gives this text of bytes.
 fn has_normal_text(alloc: Global, bytes: &[u8], text: &[u8]) -> bool {
-    matches!(normal_text(alloc, bytes, LIMITS), Ok(normal) if normal.bytes() == text)
+    matches!(normal_text(alloc, bytes, LIMITS, Mode::Whole), Ok(normal) if normal.bytes() == text)
 }
 
 /// Asks that bytes are normalised to this text.
@@ -411,7 +411,7 @@ fn normal_forms(rt: HostRuntime) {
 
 /// Whether `normalise_bytes` refuses bytes so.
 fn is_refused(alloc: Global, bytes: &[u8], limits: Limits, refused: Refused) -> bool {
-    are_sound(limits) && normal_text(alloc, bytes, limits).err() == Some(refused)
+    are_sound(limits) && normal_text(alloc, bytes, limits, Mode::Whole).err() == Some(refused)
 }
 
 /// Asks that `normalise_bytes`, `check` and `normalise` answer this refusal, with the records of
@@ -576,7 +576,7 @@ fn the_program_writes_the_normal_text_and_one_line_of_a_refusal(rt: HostRuntime)
         let run = JobRun {
             input: whole(bytes.as_slice()),
             limits: with_ids(*ids),
-            ..job_on(Job::Normalise, b"")
+            ..job_on(Job::Normalise { per_stop: false }, b"")
         };
         tells(&rt, rt.alloc(), run, *wanted, written.as_slice(), line);
     }

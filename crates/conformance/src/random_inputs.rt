@@ -3,7 +3,7 @@
 use crate::engines::{Engine, answer, checked, verdict};
 use crate::examples::LIMITS;
 use crate::worked::worked;
-use dapnorm::{CompareRefused, MemorySink, MemorySource, Refused, Verdict, Which};
+use dapnorm::{CompareRefused, MemorySink, MemorySource, Mode, Refused, Verdict, Which};
 use rand_core::utils::NextWord;
 use rand_pcg::Pcg32;
 use std::alloc::Global;
@@ -97,6 +97,7 @@ fn compared(alloc: Global, a: &[u8], b: &[u8]) -> Result<Verdict, CompareRefused
         &mut MemorySource::new(a),
         &mut MemorySource::new(b),
         LIMITS,
+        Mode::Whole,
     )
 }
 
@@ -125,7 +126,8 @@ fn asks_refused(rt: &impl Abort, alloc: Global, text: &[u8], refused: Refused) {
 /// Gives the normal text of this one, if it is accepted.
 fn asks_input(rt: &impl Abort, alloc: Global, text: &[u8], other: &[u8]) -> Option<Vec<u8>> {
     let (answer, normal) = normalised(rt, alloc, text);
-    let checked = checked(alloc, &mut MemorySource::new(text), LIMITS, false);
+    let mut source = MemorySource::new(text);
+    let checked = checked(alloc, &mut source, LIMITS, false, Mode::Whole);
     match (answer, checked) {
         (Ok(()), Ok(_)) => {
             asks_accepted(rt, alloc, text, normal.as_slice(), other);

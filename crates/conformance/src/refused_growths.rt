@@ -193,18 +193,32 @@ fn a_framer_is_refused_in_turn(rt: HostRuntime) {
 }
 
 /// Words, and the job that they are.
-const JOBS: [(&[&str], Job<'static>); 6] = [
+const JOBS: [(&[&str], Job<'static>); 7] = [
     (&["dapnorm", "compact"], Job::Compact),
     (&["dapnorm", "record"], Job::Record),
-    (&["dapnorm", "normalise"], Job::Normalise),
+    (
+        &["dapnorm", "normalise"],
+        Job::Normalise { per_stop: false },
+    ),
+    (
+        &["dapnorm", "normalise", "--per-stop"],
+        Job::Normalise { per_stop: true },
+    ),
     (&["dapnorm", "show"], Job::Show),
     (
         &["dapnorm", "check", "--complete"],
-        Job::Check { complete: true },
+        Job::Check {
+            complete: true,
+            per_stop: false,
+        },
     ),
     (
         &["dapnorm", "compare", "a", "b"],
-        Job::Compare { a: "a", b: "b" },
+        Job::Compare {
+            a: "a",
+            b: "b",
+            per_stop: false,
+        },
     ),
 ];
 

@@ -3,7 +3,7 @@ use crate::devices::{Failing, Input, Output, ROOM, TestSink, TestSource, whole};
 use crate::engines::{Engine, answer, are_sound, checked, compare_status, status, verdict};
 use crate::examples::LIMITS;
 use dapnorm::{
-    Checked, CompareRefused, Job, Limits, MemorySink, MemorySource, Refused, Source, Verdict,
+    Checked, CompareRefused, Job, Limits, MemorySink, MemorySource, Mode, Refused, Source, Verdict,
 };
 use std::alloc::Global;
 use std::process::Abort;
@@ -134,7 +134,7 @@ pub fn asks_check(
 ) -> u64 {
     let mut source = TestSource::new(input);
     assert!(rt; are_sound(limits));
-    let answer = checked(alloc, &mut source, limits, complete);
+    let answer = checked(alloc, &mut source, limits, complete, Mode::Whole);
     assert_eq!(rt; answer, wanted, "failing at {}", input.fails_at);
     source.given()
 }
@@ -148,19 +148,31 @@ pub fn asks_memory_check(
     wanted: Result<Checked, Refused>,
 ) {
     assert!(rt; are_sound(limits));
-    let answer = checked(alloc, &mut MemorySource::new(text), limits, complete);
+    let mut source = MemorySource::new(text);
+    let answer = checked(alloc, &mut source, limits, complete, Mode::Whole);
     assert_eq!(rt; answer, wanted);
 }
 
 /// What `check` answers at the limits of the program.
 pub fn checked_of(alloc: Global, input: Input, complete: bool) -> Result<Checked, Refused> {
-    checked(alloc, &mut TestSource::new(input), LIMITS, complete)
+    checked(
+        alloc,
+        &mut TestSource::new(input),
+        LIMITS,
+        complete,
+        Mode::Whole,
+    )
 }
 
 /// What `compare` answers at the limits of the program.
-pub fn verdict_on(alloc: Global, a: Input, b: Input) -> Result<Verdict, CompareRefused> {
+pub fn verdict_on(
+    alloc: Global,
+    a: Input,
+    b: Input,
+    mode: Mode,
+) -> Result<Verdict, CompareRefused> {
     let (mut a, mut b) = (TestSource::new(a), TestSource::new(b));
-    verdict(alloc, &mut a, &mut b, LIMITS)
+    verdict(alloc, &mut a, &mut b, LIMITS, mode)
 }
 
 /// What `compare` answers, with the number of pairs where two recordings are the same.
@@ -188,7 +200,7 @@ pub fn asks_compare(
     wanted: Compared,
 ) -> (u64, u64) {
     let (mut source_a, mut source_b) = (TestSource::new(a), TestSource::new(b));
-    let answer = verdict(alloc, &mut source_a, &mut source_b, LIMITS);
+    let answer = verdict(alloc, &mut source_a, &mut source_b, LIMITS, Mode::Whole);
     let (place_a, place_b) = (a.fails_at, b.fails_at);
     assert_eq!(rt;
         comparison_of(&answer),
@@ -206,7 +218,7 @@ pub fn asks_memory_compare(
     wanted: Compared,
 ) {
     let (mut a, mut b) = (MemorySource::new(a), MemorySource::new(b));
-    let answer = verdict(alloc, &mut a, &mut b, LIMITS);
+    let answer = verdict(alloc, &mut a, &mut b, LIMITS, Mode::Whole);
     assert_eq!(rt; comparison_of(&answer), wanted);
 }
 
@@ -225,7 +237,7 @@ pub fn is_one(x: &Result<Verdict, CompareRefused>, y: &Result<Verdict, CompareRe
 pub fn tells_both(
     rt: &impl Abort,
     alloc: Global,
-    (a, b): (&[u8], &[u8]),
+    (a, b, mode): (&[u8], &[u8], Mode),
     wanted: u8,
     printed: &[u8],
     line: &[u8],
@@ -233,7 +245,7 @@ pub fn tells_both(
     let (mut a, mut b) = (MemorySource::new(a), MemorySource::new(b));
     let mut sink = MemorySink::new(alloc, 4096).expect(rt, "no memory");
     let mut errors = MemorySink::new(alloc, 4096).expect(rt, "no memory");
-    let status = compare_status(alloc, &mut a, &mut b, &mut sink, &mut errors, LIMITS);
+    let status = compare_status(alloc, &mut a, &mut b, &mut sink, &mut errors, LIMITS, mode);
     assert_eq!(rt; status, wanted);
     assert!(rt; sink.bytes() == printed);
     assert!(rt; errors.bytes() == line);

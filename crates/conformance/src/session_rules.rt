@@ -6,7 +6,7 @@ use crate::recordings::{
     CONFIGURATION_DONE, CONFIGURED, INITIALIZE, INITIALIZE_RESPONSE, Line, OUTPUT, STOPPED,
     THREADS, accepted, add_record, recording,
 };
-use dapnorm::{MemorySource, Refused, Rule};
+use dapnorm::{MemorySource, Mode, Refused, Rule};
 use std::alloc::Global;
 use std::process::Abort;
 
@@ -114,7 +114,14 @@ fn breaks(rt: &impl Abort, alloc: Global, broken: &Broken) {
 }
 
 fn is_accepted(alloc: Global, bytes: &[u8]) -> bool {
-    checked(alloc, &mut MemorySource::new(bytes), LIMITS, false).is_ok()
+    checked(
+        alloc,
+        &mut MemorySource::new(bytes),
+        LIMITS,
+        false,
+        Mode::Whole,
+    )
+    .is_ok()
 }
 
 /// A line that breaks each rule behind lines that break none.

@@ -12,7 +12,7 @@ use crate::runs::{
     Compared, Run, asks, asks_check, asks_compare, checked_of, is_one, run_of, verdict_on,
 };
 use crate::worked::worked;
-use dapnorm::{Checked, CompareRefused, MemorySink, RecordCause, Refused, Rule, Which};
+use dapnorm::{Checked, CompareRefused, MemorySink, Mode, RecordCause, Refused, Rule, Which};
 use std::alloc::Global;
 use std::process::Abort;
 
@@ -64,8 +64,8 @@ fn recordings_that_come_a_byte_at_a_time(rt: HostRuntime) {
 
 /// Whether `compare` answers the same where the inputs come a byte at a time.
 fn is_one_by_bytes(alloc: Global, a: &[u8], b: &[u8]) -> bool {
-    let at_once = verdict_on(alloc, whole(a), whole(b));
-    let by_bytes = verdict_on(alloc, by(a, 1), by(b, 1));
+    let at_once = verdict_on(alloc, whole(a), whole(b), Mode::Whole);
+    let by_bytes = verdict_on(alloc, by(a, 1), by(b, 1), Mode::Whole);
     is_one(&by_bytes, &at_once)
 }
 

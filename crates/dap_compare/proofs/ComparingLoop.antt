@@ -5,7 +5,9 @@ use Rattle.std.proofs.lemmas.List.{append_cancel_left}
 use Rattle.dap_device.specs.declared.reading.Stop.{Stop}
 use Rattle.dap_device.specs.declared.reading.Stop.TheVariants.{End, Full, Failed}
 use Rattle.dap_message.specs.Message.{Sent}
-use Rattle.dap_rename.specs.Messages.{AreSame, IsNormal, in_whole, equal_places}
+use Rattle.dap_rename.specs.Messages.{AreSame, IsNormal, equal_places}
+use Rattle.dap_rename.specs.Modes.{stop_in}
+use Rattle.dap_rename.specs.declared.mode.Mode.{Mode}
 use Rattle.dap_rename.proofs.Sameness.{normal_is_unique}
 use Rattle.dap_input.specs.declared.limits.Limits.{Limits}
 use Rattle.dap_normal.specs.Accepting.{IsAccepted, accepting, text}
@@ -32,51 +34,54 @@ front_of bytes (Some End) input is = ([], is.0 ∙ sym (append-nil bytes))
 front_of bytes (Some Full) input is = is
 front_of bytes (Some Failed) input is = ([], is.0 ∙ sym (append-nil bytes))
 
-module _ (limits : Limits) where
+module _ (limits : Limits) (mode : Mode) where
   -- Where the reader came to its end, it is taken.
   pub taken_in : (bytes : List ℕ) (input : Input) (messages : List Sent)
-      → IsOf bytes (Some End) input → IsAccepted limits bytes messages
-      → IsTaken (accepting limits) input messages
+      → IsOf bytes (Some End) input → IsAccepted limits mode bytes messages
+      → IsTaken (accepting limits mode) input messages
   taken_in bytes input messages is accepted =
-      (subst (λ t. IsAccepted limits t messages) (sym is.0) accepted, is.1)
+      (subst (λ t. IsAccepted limits mode t messages) (sym is.0) accepted, is.1)
 
   -- ---- two inputs
 
-  pub goes_on : (number : ℕ) (input : Input) → AcceptedBefore (accepting limits) input (number + 1)
-      → IsNotRefusedAt (accepting limits) input number
+  pub goes_on : (number : ℕ) (input : Input) → AcceptedBefore (accepting limits mode) input (number
+      + 1)
+      → IsNotRefusedAt (accepting limits mode) input number
   goes_on number input next =
-      next_not_refused (accepting limits) (readable limits.frame) (value_laws limits)
-      (accepted_facts limits) input number next
+      next_not_refused (accepting limits mode) (readable limits.frame) (value_laws limits mode)
+      (accepted_facts limits mode) input number next
 
   pub has_ended : (number : ℕ) (input : Input) (messages : List Sent)
-      → IsTaken (accepting limits) input messages → IsNotRefusedAt (accepting limits) input number
+      → IsTaken (accepting limits mode) input messages → IsNotRefusedAt (accepting limits mode)
+      input number
   has_ended number input messages taken =
-      taken_not_refused (accepting limits) (readable limits.frame) (value_laws limits)
-      (accepted_facts limits) input messages number taken
+      taken_not_refused (accepting limits mode) (readable limits.frame) (value_laws limits mode)
+      (accepted_facts limits mode) input messages number taken
 
   module _ (x y : Input) (number : ℕ)
-      (before : AreSameBefore (accepting limits) (AreSame in_whole) x y number) where
+      (before : AreSameBefore (accepting limits mode) (AreSame (stop_in mode)) x y number) where
     abbrev Differ : Type 0
-    Differ = IsRecordingVerdict limits x y (differ number)
+    Differ = IsRecordingVerdict limits mode x y (differ number)
 
-    none_left : (input : Input) (here : AcceptedBefore (accepting limits) input number)
-        (messages : List Sent) → IsTaken (accepting limits) input messages
+    none_left : (input : Input) (here : AcceptedBefore (accepting limits mode) input number)
+        (messages : List Sent) → IsTaken (accepting limits mode) input messages
         → number ≡ length messages + 1 → here.rest ≡ []
     none_left input here messages taken is =
-        (before_same (accepting limits) (readable limits.frame) (value_laws limits)
-        (accepted_facts limits) input number (length messages + 1) here
-        (whole_before (accepting limits) (readable limits.frame) (value_laws limits)
-        (accepted_facts limits) input messages taken) is).2
+        (before_same (accepting limits mode) (readable limits.frame) (value_laws limits mode)
+        (accepted_facts limits mode) input number (length messages + 1) here
+        (whole_before (accepting limits mode) (readable limits.frame) (value_laws limits mode)
+        (accepted_facts limits mode) input messages taken) is).2
 
-    some_left : (input : Input) (here : AcceptedBefore (accepting limits) input number)
-        → AcceptedBefore (accepting limits) input (number + 1) → here.rest ≢ []
+    some_left : (input : Input) (here : AcceptedBefore (accepting limits mode) input number)
+        → AcceptedBefore (accepting limits mode) input (number + 1) → here.rest ≢ []
     some_left input here next =
-        before_some (accepting limits) (readable limits.frame) (value_laws limits)
-        (accepted_facts limits) input number (number + 1) here next (omega arith)
+        before_some (accepting limits mode) (readable limits.frame) (value_laws limits mode)
+        (accepted_facts limits mode) input number (number + 1) here next (omega arith)
 
     -- Just one of them has ended.
-    pub x_has_ended : (messages : List Sent) → IsTaken (accepting limits) x messages
-        → number ≡ length messages + 1 → AcceptedBefore (accepting limits) y (number + 1) → Differ
+    pub x_has_ended : (messages : List Sent) → IsTaken (accepting limits mode) x messages
+        → number ≡ length messages + 1 → AcceptedBefore (accepting limits mode) y (number + 1)
+        → Differ
     x_has_ended messages taken is next = (
       before,
       has_ended number x messages taken,
@@ -84,8 +89,9 @@ module _ (limits : Limits) where
       inl (none_left x before.of_a messages taken is, some_left y before.of_b next),
     )
 
-    pub y_has_ended : (messages : List Sent) → IsTaken (accepting limits) y messages
-        → number ≡ length messages + 1 → AcceptedBefore (accepting limits) x (number + 1) → Differ
+    pub y_has_ended : (messages : List Sent) → IsTaken (accepting limits mode) y messages
+        → number ≡ length messages + 1 → AcceptedBefore (accepting limits mode) x (number + 1)
+        → Differ
     y_has_ended messages taken is next = (
       before,
       goes_on number x next,
@@ -94,9 +100,9 @@ module _ (limits : Limits) where
     )
 
     -- With this record they are not the same.
-    pub are_apart : (next_x : AcceptedBefore (accepting limits) x (number + 1))
-        (next_y : AcceptedBefore (accepting limits) y (number + 1))
-        → (AreSame in_whole next_x.values next_y.values → ⊥) → Differ
+    pub are_apart : (next_x : AcceptedBefore (accepting limits mode) x (number + 1))
+        (next_y : AcceptedBefore (accepting limits mode) y (number + 1))
+        → (AreSame (stop_in mode) next_x.values next_y.values → ⊥) → Differ
     are_apart next_x next_y apart = (
       before,
       goes_on number x next_x,
@@ -104,33 +110,36 @@ module _ (limits : Limits) where
       inr (inr (next_x, next_y, apart)),
     )
 
-  pub both_have_ended : (x y : Input) (of_x of_y : List Sent) → IsTaken (accepting limits) x of_x
-      → IsTaken (accepting limits) y of_y → AreSame in_whole of_x of_y
-      → IsRecordingVerdict limits x y (are_same (equal_places in_whole of_x of_y))
+  pub both_have_ended : (x y : Input) (of_x of_y : List Sent) → IsTaken (accepting limits mode) x
+      of_x
+      → IsTaken (accepting limits mode) y of_y → AreSame (stop_in mode) of_x of_y
+      → IsRecordingVerdict limits mode x y (are_same (equal_places (stop_in mode) of_x of_y))
   both_have_ended x y of_x of_y taken_x taken_y are =
       (record { of_a = of_x; of_b = of_y; taken_a = taken_x; taken_b = taken_y; same = are }, refl)
 
   -- ---- the records of two normal forms
 
   module _ (normal of_x of_y : List Sent) (p q : Sent)
-      (is_x : IsNormal in_whole of_x (normal ++ p ∷ []))
-      (is_y : IsNormal in_whole of_y (normal ++ q ∷ [])) where
+      (is_x : IsNormal (stop_in mode) of_x (normal ++ p ∷ []))
+      (is_y : IsNormal (stop_in mode) of_y (normal ++ q ∷ [])) where
     -- Where the next records of one normal form are not equal, the messages are not the same.
-    pub not_the_same : (record_of p ≡ record_of q → ⊥) → AreSame in_whole of_x of_y → ⊥
+    pub not_the_same : (record_of p ≡ record_of q → ⊥) → AreSame (stop_in mode) of_x of_y → ⊥
     not_the_same apart same =
-        let one = normal_is_unique in_whole of_x of_y (normal ++ p ∷ []) (normal ++ q ∷ []) same
+        let one = normal_is_unique (stop_in mode) of_x of_y (normal ++ p ∷ []) (normal ++ q ∷ [])
+        same
         is_x is_y in
         apart (append_cancel_left (text normal) (record_of p) (record_of q)
         (sym (text_push normal p) ∙ ap text one ∙ text_push normal q))
 
     -- Where they are equal, the normal forms are.
-    pub one_form : AreSound limits → (front_x front_y : List ℕ) → IsAccepted limits front_x of_x
-        → IsAccepted limits front_y of_y → record_of p ≡ record_of q
+    pub one_form : AreSound limits → (front_x front_y : List ℕ) → IsAccepted limits mode front_x
+        of_x
+        → IsAccepted limits mode front_y of_y → record_of p ≡ record_of q
         → normal ++ q ∷ [] ≡ normal ++ p ∷ []
     one_form sound front_x front_y accepted_x accepted_y equal =
         let texts : text (normal ++ p ∷ []) ≡ text (normal ++ q ∷ []) =
         text_push normal p ∙ ap (λ t. text normal ++ t) equal ∙ sym (text_push normal q) in
-        let same = equal_texts limits sound front_x front_y (text (normal ++ p ∷ []))
+        let same = equal_texts limits mode sound front_x front_y (text (normal ++ p ∷ []))
         (text (normal ++ q ∷ []))
         (record {
           messages = of_x;
@@ -148,5 +157,6 @@ module _ (limits : Limits) where
           is_normal = is_y;
           text_is = refl;
         }) texts in
-        sym (normal_is_unique in_whole of_x of_y (normal ++ p ∷ []) (normal ++ q ∷ []) same is_x
+        sym (normal_is_unique (stop_in mode) of_x of_y (normal ++ p ∷ []) (normal ++ q ∷ []) same
+        is_x
         is_y)

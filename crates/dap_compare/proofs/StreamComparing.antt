@@ -10,14 +10,15 @@ use Rattle.dap_device.specs.Pieces.{HasComeSoFar}
 use Rattle.dap_device.specs.declared.reading.Stop.{Stop}
 use Rattle.dap_device.specs.declared.reading.Stop.TheVariants.{End}
 use Rattle.dap_message.specs.Message.{Sent}
-use Rattle.dap_rename.specs.Messages.{AreSame, IsNormal, in_whole, equal_places}
+use Rattle.dap_rename.specs.Messages.{AreSame, IsNormal, equal_places}
 use Rattle.dap_rename.specs.Modes.{stop_in}
-use Rattle.dap_rename.specs.Names.{HaveEqualCounts, StandFor, StandWith, mode_of}
-use Rattle.dap_rename.specs.declared.mode.Mode.TheVariants.{Whole}
+use Rattle.dap_rename.specs.Names.{HaveEqualCounts, StandFor, StandWith}
+use Rattle.dap_rename.specs.declared.mode.Mode.{Mode}
 use Rattle.dap_rename.specs.Pairs.{entries}
 use Rattle.dap_rename.specs.Renaming.{pairs_of}
 use Rattle.dap_rename.specs.declared.renaming.Renaming.{Renaming}
-use Rattle.dap_rename.proofs.NormalForms.{same_counts, same_stops, whole_is_told}
+use Rattle.dap_rename.proofs.NormalForms.{same_counts, same_stops}
+use Rattle.dap_rename.proofs.Stops.{mode_is_told}
 use Rattle.dap_rename.proofs.Sameness.{normal_is_complete}
 use Rattle.dap_input.specs.declared.limits.Limits.{Limits}
 use Rattle.dap_normal.specs.declared.judging.Judge.{Judge}
@@ -31,7 +32,7 @@ use Rattle.dap_compare.specs.declared.verdict.Which.TheVariants.{A, B}
 use Rattle.dap_normal.specs.Accepting.{accepting}
 use Rattle.dap_input.specs.Inputs.{AcceptedBefore, Input, IsNotRefusedAt}
 use Rattle.dap_compare.specs.Comparing.{AreSameBefore, are_same, differ}
-use Rattle.dap_normal.specs.JudgingSteps.{record_of}
+use Rattle.dap_normal.specs.JudgingSteps.{judge_mode, record_of}
 use Rattle.dap_input.specs.Limits.{AreSound}
 use Rattle.dap_normal.specs.NormalSteps.{HasEnded, HasGone, HasNext, HasStoppedAt}
 use Rattle.dap_input.specs.ReadTo.{IsOf, IsReadTo, so_far}
@@ -46,41 +47,44 @@ use Rattle.dap_compare.proofs.ComparingLoop.{are_apart, both_have_ended, front_o
 use Rattle.dap_compare.proofs.ComparingLoop.{has_ended, not_the_same, one_form, taken_in}
 use Rattle.dap_compare.proofs.ComparingLoop.{x_has_ended, y_has_ended}
 use Rattle.dap_input.proofs.Coming.{came_on}
-use Rattle.dap_normal.proofs.StreamLoop.{Going, before_in, next_in}
+use Rattle.dap_normal.proofs.StreamLoop.{Going, before_in, next_in, normal_before}
 use Rattle.dap_compare.proofs.Verdicts.{same_lengths}
 
 -- What is answered of the next record is that memory was refused, or a refusal there.
 pub as_told : {T R : Type 0} {numbers : T → List ℤ} {table_limit : T → ℕ} (source : Source R)
-    (limits : Limits) (bytes : List ℕ) (messages normal : List Sent)
+    (limits : Limits) (mode : Mode) (bytes : List ℕ) (messages normal : List Sent)
     (old new : NormalRecords T) (before after : R) (refused : Refused)
-    → (stopped : HasStoppedAt numbers table_limit source limits bytes messages normal
+    → (stopped : HasStoppedAt numbers table_limit source limits mode bytes messages normal
     old new before after refused)
     → (refused ≡ why.Memory)
     ⊎ ((refused ≡ why.Memory → ⊥)
-    × RefusesAt (accepting limits) (so_far (bytes ++ stopped.more) stopped.stop)
+    × RefusesAt (accepting limits mode) (so_far (bytes ++ stopped.more) stopped.stop)
     old.records.number refused)
-as_told source limits bytes messages normal old new before after why.Memory stopped =
+as_told source limits mode bytes messages normal old new before after why.Memory stopped =
     inl refl
-as_told source limits bytes messages normal old new before after refused stopped =
+as_told source limits mode bytes messages normal old new before after refused stopped =
     inr ((λ same. absurd (let e = same in cc)), stopped.says)
 
 module _ {T R S : Type 0} {numbers : T → List ℤ} {table_limit : T → ℕ} (source_a : Source R)
-    (source_b : Source S) (limits : Limits)
+    (source_b : Source S) (limits : Limits) (mode : Mode)
     (start_a reader_a : R) (records_a : NormalRecords T)
-    (a : Going numbers table_limit source_a limits start_a reader_a records_a)
+    (a : Going numbers table_limit source_a limits mode start_a reader_a records_a)
     (start_b reader_b : S) (records_b : NormalRecords T)
-    (b : Going numbers table_limit source_b limits start_b reader_b records_b)
+    (b : Going numbers table_limit source_b limits mode start_b reader_b records_b)
     (alike : a.normal ≡ b.normal) where
   abbrev pub number : ℕ
   number = records_a.records.number
 
-  are : AreSame in_whole a.messages b.messages
-  are = normal_is_complete in_whole a.messages b.messages a.normal a.stands.stands.is_normal
-      (subst (IsNormal in_whole b.messages) (sym alike) b.stands.stands.is_normal)
+  are : AreSame (stop_in mode) a.messages b.messages
+  are =
+      normal_is_complete (stop_in mode) a.messages b.messages a.normal
+      (normal_before limits mode a.bytes records_a a.messages a.normal a.stands)
+      (subst (IsNormal (stop_in mode) b.messages) (sym alike)
+      (normal_before limits mode b.bytes records_b b.messages b.normal b.stands))
 
   pub one_number : records_b.records.number ≡ number
   one_number =
-      b.stands.number_is ∙ sym (ap (λ n. n + 1) (same_lengths a.messages b.messages are))
+      b.stands.number_is ∙ sym (ap (λ n. n + 1) (same_lengths mode a.messages b.messages are))
       ∙ sym a.stands.number_is
 
   -- the records before are accepted of both inputs, of which so much has come
@@ -102,15 +106,15 @@ module _ {T R S : Type 0} {numbers : T → List ℤ} {table_limit : T → ℕ} (
     split_y = (front_of bytes_b stop_b y is_y).1 ∙ ap (λ t. t ++ beyond_y) all_b
         ∙ append_assoc b.bytes more_b beyond_y
 
-    before : AreSameBefore (accepting limits) (AreSame in_whole) x y number
+    before : AreSameBefore (accepting limits mode) (AreSame (stop_in mode)) x y number
     before = record {
-      of_a = before_in source_a limits start_a reader_a records_a a x (more_a
+      of_a = before_in source_a limits mode start_a reader_a records_a a x (more_a
           ++ beyond_x) split_x;
       of_b = record {
         values = b.messages;
         front = b.stands.front;
         rest = records_b.records.pieces.unread ++ (more_b ++ beyond_y);
-        split = (before_in source_b limits start_b reader_b records_b b y (more_b
+        split = (before_in source_b limits mode start_b reader_b records_b b y (more_b
             ++ beyond_y) split_y).split;
         accepted = b.stands.accepted;
         is_number = sym one_number ∙ b.stands.number_is;
@@ -121,10 +125,11 @@ module _ {T R S : Type 0} {numbers : T → List ℤ} {table_limit : T → ℕ} (
   -- ---- a refusal
 
   pub refused_by_a : (new : NormalRecords T) (after : R) (refused : Refused)
-      (stopped : HasStoppedAt numbers table_limit source_a limits a.bytes
+      (stopped : HasStoppedAt numbers table_limit source_a limits mode a.bytes
       a.messages a.normal records_a new reader_a after refused)
-      → RefusesAt (accepting limits) (so_far (a.bytes ++ stopped.more) stopped.stop) number refused
-      → HasCompared source_a source_b limits start_a after start_b
+      → RefusesAt (accepting limits mode) (so_far (a.bytes ++ stopped.more) stopped.stop) number
+      refused
+      → HasCompared source_a source_b limits mode start_a after start_b
       reader_b (Err (because.Input A refused))
   refused_by_a new after refused stopped said = record {
     number = number;
@@ -136,11 +141,12 @@ module _ {T R S : Type 0} {numbers : T → List ℤ} {table_limit : T → ℕ} (
     bytes_b = b.bytes;
     stop_b = None;
     came_b = b.came;
-    read_b = subst (IsReadTo (accepting limits) b.bytes)
+    read_b = subst (IsReadTo (accepting limits mode) b.bytes)
         (let is = b.stands.number_is in omega (arith, is, one_number)) b.stands.read_to;
     tells = λ x y is_x is_y.
-        let here = refused_in (accepting limits) (readable limits.frame) (value_laws limits)
-        (accepted_facts limits) (a.bytes ++ stopped.more) number refused x stopped.stop is_x
+        let here = refused_in (accepting limits mode) (readable limits.frame) (value_laws limits
+        mode)
+        (accepted_facts limits mode) (a.bytes ++ stopped.more) number refused x stopped.stop is_x
         said stopped.cut in
         record {
           fault = here.fault;
@@ -156,18 +162,18 @@ module _ {T R S : Type 0} {numbers : T → List ℤ} {table_limit : T → ℕ} (
   -- what is known of the record of the one where that of the other is asked for
   pub record Passed (after : R) (more : List ℕ) (stop : Option Stop) : Type 0 where
     pub came : HasComeSoFar source_a reader_a after more stop
-    pub read_to : IsReadTo (accepting limits) (a.bytes ++ more) number
+    pub read_to : IsReadTo (accepting limits mode) (a.bytes ++ more) number
     pub passes : (x : Input) → IsOf (a.bytes ++ more) stop x
-        → IsNotRefusedAt (accepting limits) x number
+        → IsNotRefusedAt (accepting limits mode) x number
 
   pub refused_by_b : (passed_to : R) (more : List ℕ) (stop : Option Stop)
       → Passed passed_to more stop
       → (new : NormalRecords T) (after : S) (refused : Refused)
-      (stopped : HasStoppedAt numbers table_limit source_b limits b.bytes
+      (stopped : HasStoppedAt numbers table_limit source_b limits mode b.bytes
       b.messages b.normal records_b new reader_b after refused)
-      → RefusesAt (accepting limits) (so_far (b.bytes ++ stopped.more) stopped.stop)
+      → RefusesAt (accepting limits mode) (so_far (b.bytes ++ stopped.more) stopped.stop)
       records_b.records.number refused
-      → HasCompared source_a source_b limits start_a passed_to
+      → HasCompared source_a source_b limits mode start_a passed_to
       start_b after (Err (because.Input B refused))
   refused_by_b passed_to more stop passed new after refused stopped said = record {
     number = number;
@@ -180,12 +186,13 @@ module _ {T R S : Type 0} {numbers : T → List ℤ} {table_limit : T → ℕ} (
     stop_b = stopped.stop;
     came_b = came_on source_b start_b reader_b after b.bytes stopped.more
         stopped.stop b.came stopped.came;
-    read_b = subst (IsReadTo (accepting limits) (b.bytes ++ stopped.more)) one_number
+    read_b = subst (IsReadTo (accepting limits mode) (b.bytes ++ stopped.more)) one_number
         stopped.read_to;
     tells = λ x y is_x is_y.
-        let here = refused_in (accepting limits) (readable limits.frame) (value_laws limits)
-        (accepted_facts limits) (b.bytes ++ stopped.more) number refused y stopped.stop is_y
-        (subst (λ n. RefusesAt (accepting limits)
+        let here = refused_in (accepting limits mode) (readable limits.frame) (value_laws limits
+        mode)
+        (accepted_facts limits mode) (b.bytes ++ stopped.more) number refused y stopped.stop is_y
+        (subst (λ n. RefusesAt (accepting limits mode)
         (so_far (b.bytes ++ stopped.more) stopped.stop) n refused) one_number said) stopped.cut
         in
         record {
@@ -203,59 +210,59 @@ module _ {T R S : Type 0} {numbers : T → List ℤ} {table_limit : T → ℕ} (
   -- What is told of a refusal, as its two clauses say.
   pub told_by_a : (new : NormalRecords T) (after : R) (refused : Refused) (refusal : CompareRefused)
       → IsRefusalOf A refused refusal
-      → HasStoppedAt numbers table_limit source_a limits a.bytes a.messages
+      → HasStoppedAt numbers table_limit source_a limits mode a.bytes a.messages
       a.normal records_a new reader_a after refused
-      → Compares source_a source_b limits start_a after start_b
+      → Compares source_a source_b limits mode start_a after start_b
       reader_b (Err refusal)
   told_by_a new after refused refusal of_it stopped =
       ⊎_elim (λ is. rw (of_it.0 is) tt)
       (λ told. rw (of_it.1 told.0) (refused_by_a new after refused stopped told.1))
-      (as_told source_a limits a.bytes a.messages a.normal records_a new reader_a
+      (as_told source_a limits mode a.bytes a.messages a.normal records_a new reader_a
       after refused stopped)
 
   pub told_by_b : (passed_to : R) (more : List ℕ) (stop : Option Stop)
       → Passed passed_to more stop
       → (new : NormalRecords T) (after : S) (refused : Refused) (refusal : CompareRefused)
       → IsRefusalOf B refused refusal
-      → HasStoppedAt numbers table_limit source_b limits b.bytes b.messages
+      → HasStoppedAt numbers table_limit source_b limits mode b.bytes b.messages
       b.normal records_b new reader_b after refused
-      → Compares source_a source_b limits start_a passed_to
+      → Compares source_a source_b limits mode start_a passed_to
       start_b after (Err refusal)
   told_by_b passed_to more stop passed new after refused refusal of_it stopped =
       ⊎_elim (λ is. rw (of_it.0 is) tt)
       (λ told. rw (of_it.1 told.0)
       (refused_by_b passed_to more stop passed new after refused stopped told.1))
-      (as_told source_b limits b.bytes b.messages b.normal records_b new reader_b
+      (as_told source_b limits mode b.bytes b.messages b.normal records_b new reader_b
       after refused stopped)
 
   -- ---- the record of the one
 
   module _ (new_a : NormalRecords T) (after_a : R) (text_a longer_a : List ℕ) where
-    pub gone_passed : (gone : HasGone numbers table_limit source_a limits a.bytes
+    pub gone_passed : (gone : HasGone numbers table_limit source_a limits mode a.bytes
         a.messages a.normal records_a new_a reader_a after_a text_a longer_a)
         → Passed after_a gone.more None
     gone_passed gone = record {
       came = gone.came;
       read_to = gone.read_to;
       passes = λ x is_x.
-          goes_on limits number x
-          (next_in source_a limits start_a reader_a records_a a new_a after_a
+          goes_on limits mode number x
+          (next_in source_a limits mode start_a reader_a records_a a new_a after_a
           text_a longer_a gone x is_x.0 is_x.1);
     }
 
-    pub ended_passed : (ended : HasEnded numbers table_limit source_a limits
+    pub ended_passed : (ended : HasEnded numbers table_limit source_a limits mode
         a.bytes a.messages a.normal records_a new_a reader_a after_a text_a longer_a)
         → Passed after_a ended.more (Some End)
     ended_passed ended = record {
       came = ended.came;
       read_to = ended.read_to;
-      passes = λ x is_x. has_ended limits number x a.messages
-          (taken_in limits (a.bytes ++ ended.more) x a.messages is_x ended.accepted);
+      passes = λ x is_x. has_ended limits mode number x a.messages
+          (taken_in limits mode (a.bytes ++ ended.more) x a.messages is_x ended.accepted);
     }
 
     -- whether a record has come, or none is left
     pub passed_by : (some : Bool)
-        → HasNext numbers table_limit source_a limits a.bytes a.messages a.normal
+        → HasNext numbers table_limit source_a limits mode a.bytes a.messages a.normal
         records_a new_a reader_a after_a text_a longer_a (Ok some)
         → (more : List ℕ) × (stop : Option Stop) × Passed after_a more stop
     passed_by true gone = (gone.more, None, gone_passed gone)
@@ -266,26 +273,26 @@ module _ {T R S : Type 0} {numbers : T → List ℤ} {table_limit : T → ℕ} (
   module _ (new_a : NormalRecords T) (after_a : R) (text_a longer_a : List ℕ)
       (new_b : NormalRecords T) (after_b : S) (text_b longer_b : List ℕ) where
     abbrev pub Gone_a : Type 0
-    Gone_a = HasGone numbers table_limit source_a limits a.bytes a.messages
+    Gone_a = HasGone numbers table_limit source_a limits mode a.bytes a.messages
         a.normal records_a new_a reader_a after_a text_a longer_a
 
     abbrev pub Ended_a : Type 0
-    Ended_a = HasEnded numbers table_limit source_a limits a.bytes a.messages
+    Ended_a = HasEnded numbers table_limit source_a limits mode a.bytes a.messages
         a.normal records_a new_a reader_a after_a text_a longer_a
 
     abbrev pub Gone_b : Type 0
-    Gone_b = HasGone numbers table_limit source_b limits b.bytes b.messages
+    Gone_b = HasGone numbers table_limit source_b limits mode b.bytes b.messages
         b.normal records_b new_b reader_b after_b text_b longer_b
 
     abbrev pub Ended_b : Type 0
-    Ended_b = HasEnded numbers table_limit source_b limits b.bytes b.messages
+    Ended_b = HasEnded numbers table_limit source_b limits mode b.bytes b.messages
         b.normal records_b new_b reader_b after_b text_b longer_b
 
     next_y : (gone : Gone_b) (y : Input) → IsOf (b.bytes ++ gone.more) None y
-        → AcceptedBefore (accepting limits) y (number + 1)
+        → AcceptedBefore (accepting limits mode) y (number + 1)
     next_y gone y is_y =
-        subst (λ n. AcceptedBefore (accepting limits) y (n + 1)) one_number
-        (next_in source_b limits start_b reader_b records_b b new_b after_b text_b
+        subst (λ n. AcceptedBefore (accepting limits mode) y (n + 1)) one_number
+        (next_in source_b limits mode start_b reader_b records_b b new_b after_b text_b
         longer_b gone y is_y.0 is_y.1)
 
     number_of_a : number ≡ length a.messages + 1
@@ -297,15 +304,15 @@ module _ {T R S : Type 0} {numbers : T → List ℤ} {table_limit : T → ℕ} (
     -- so much has come of both, and this is the verdict
     module _ (more_a : List ℕ) (stop_a : Option Stop)
         (came_a : HasComeSoFar source_a reader_a after_a more_a stop_a)
-        (read_a : IsReadTo (accepting limits) (a.bytes ++ more_a) number)
+        (read_a : IsReadTo (accepting limits mode) (a.bytes ++ more_a) number)
         (more_b : List ℕ) (stop_b : Option Stop)
         (came_b : HasComeSoFar source_b reader_b after_b more_b stop_b)
-        (read_b : IsReadTo (accepting limits) (b.bytes ++ more_b) records_b.records.number)
+        (read_b : IsReadTo (accepting limits mode) (b.bytes ++ more_b) records_b.records.number)
       where
         differs : (n : ℕ) → n ≡ number
             → ((x y : Input) → IsOf (a.bytes ++ more_a) stop_a x → IsOf (b.bytes ++ more_b) stop_b y
-            → IsRecordingVerdict limits x y (differ number))
-            → HasCompared source_a source_b limits start_a after_a
+            → IsRecordingVerdict limits mode x y (differ number))
+            → HasCompared source_a source_b limits mode start_a after_a
             start_b after_b (Ok (code.Differ n))
         differs n is verdict = record {
           number = number;
@@ -318,67 +325,72 @@ module _ {T R S : Type 0} {numbers : T → List ℤ} {table_limit : T → ℕ} (
           stop_b = stop_b;
           came_b = came_on source_b start_b reader_b after_b b.bytes more_b stop_b
               b.came came_b;
-          read_b = subst (IsReadTo (accepting limits) (b.bytes ++ more_b)) one_number read_b;
+          read_b = subst (IsReadTo (accepting limits mode) (b.bytes ++ more_b)) one_number read_b;
           tells = λ x y is_x is_y. (is, verdict x y is_x is_y);
         }
 
     pub some_and_none : (n : ℕ) → n ≡ number → Gone_a → Ended_b
-        → HasCompared source_a source_b limits start_a after_a
+        → HasCompared source_a source_b limits mode start_a after_a
         start_b after_b (Ok (code.Differ n))
     some_and_none n is gone ended =
         differs gone.more None gone.came gone.read_to ended.more (Some End) ended.came ended.read_to
         n is
         (λ x y is_x is_y.
-        y_has_ended limits x y number
+        y_has_ended limits mode x y number
         (before (a.bytes ++ gone.more) (b.bytes ++ ended.more) gone.more ended.more refl refl
         None (Some End) x y is_x is_y) b.messages
-        (taken_in limits (b.bytes ++ ended.more) y b.messages is_y ended.accepted) number_of_b
-        (next_in source_a limits start_a reader_a records_a a new_a after_a text_a
+        (taken_in limits mode (b.bytes ++ ended.more) y b.messages is_y ended.accepted) number_of_b
+        (next_in source_a limits mode start_a reader_a records_a a new_a after_a text_a
         longer_a gone x is_x.0 is_x.1))
 
     pub none_and_some : (n : ℕ) → n ≡ number → Ended_a → Gone_b
-        → HasCompared source_a source_b limits start_a after_a
+        → HasCompared source_a source_b limits mode start_a after_a
         start_b after_b (Ok (code.Differ n))
     none_and_some n is ended gone =
         differs ended.more (Some End) ended.came ended.read_to gone.more None gone.came gone.read_to
         n is
         (λ x y is_x is_y.
-        x_has_ended limits x y number
+        x_has_ended limits mode x y number
         (before (a.bytes ++ ended.more) (b.bytes ++ gone.more) ended.more gone.more refl refl
         (Some End) None x y is_x is_y) a.messages
-        (taken_in limits (a.bytes ++ ended.more) x a.messages is_x ended.accepted) number_of_a
+        (taken_in limits mode (a.bytes ++ ended.more) x a.messages is_x ended.accepted) number_of_a
         (next_y gone y is_y))
 
     module _ (gone : Gone_a) (went : Gone_b) where
-      is_normal_b : IsNormal in_whole (b.messages ++ went.message ∷ []) (a.normal ++ went.named
+      is_normal_b : IsNormal (stop_in mode) (b.messages ++ went.message ∷ []) (a.normal
+          ++ went.named
           ∷ [])
       is_normal_b =
-          subst (λ n. IsNormal in_whole (b.messages ++ went.message ∷ []) (n ++ went.named ∷ []))
-          (sym alike) went.stands.stands.is_normal
+          subst (λ n. IsNormal (stop_in mode) (b.messages ++ went.message ∷ []) (n ++ went.named
+          ∷ []))
+          (sym alike) (normal_before limits mode (b.bytes ++ went.more) new_b
+          (b.messages ++ went.message ∷ []) (b.normal ++ went.named ∷ []) went.stands)
 
       pub texts_apart : text_a ≡ [] → text_b ≡ [] → (n : ℕ) → n ≡ number → (longer_a ≡ longer_b → ⊥)
-          → HasCompared source_a source_b limits start_a after_a
+          → HasCompared source_a source_b limits mode start_a after_a
           start_b after_b (Ok (code.Differ n))
       texts_apart none nothing n is apart =
           differs gone.more None gone.came gone.read_to went.more None went.came went.read_to n is
           (λ x y is_x is_y.
-          are_apart limits x y number
+          are_apart limits mode x y number
           (before (a.bytes ++ gone.more) (b.bytes ++ went.more) gone.more went.more refl refl
           None None x y is_x is_y)
-          (next_in source_a limits start_a reader_a records_a a new_a after_a
+          (next_in source_a limits mode start_a reader_a records_a a new_a after_a
           text_a longer_a gone x is_x.0 is_x.1) (in_y y is_y)
-          (not_the_same limits a.normal (a.messages ++ gone.message ∷ []) (b.messages
-          ++ went.message ∷ []) gone.named went.named gone.stands.stands.is_normal is_normal_b
+          (not_the_same limits mode a.normal (a.messages ++ gone.message ∷ []) (b.messages
+          ++ went.message ∷ []) gone.named went.named (normal_before limits mode (a.bytes
+          ++ gone.more) new_a
+          (a.messages ++ gone.message ∷ []) (a.normal ++ gone.named ∷ []) gone.stands) is_normal_b
           (λ equal. apart (gone.appended ∙ ap (λ t. t ++ record_of gone.named) none ∙ equal
           ∙ sym (went.appended ∙ ap (λ t. t ++ record_of went.named) nothing)))))
         where
           in_y : (y : Input) → IsOf (b.bytes ++ went.more) None y
-              → AcceptedBefore (accepting limits) y (number + 1)
+              → AcceptedBefore (accepting limits mode) y (number + 1)
           in_y y is_y = record {
             values = b.messages ++ went.message ∷ [];
             front = went.stands.front;
             rest = new_b.records.pieces.unread ++ is_y.0;
-            split = (next_in source_b limits start_b reader_b records_b b new_b
+            split = (next_in source_b limits mode start_b reader_b records_b b new_b
                 after_b text_b longer_b went y is_y.0 is_y.1).split;
             accepted = went.stands.accepted;
             is_number =
@@ -389,8 +401,11 @@ module _ {T R S : Type 0} {numbers : T → List ℤ} {table_limit : T → ℕ} (
           → a.normal ++ gone.named ∷ [] ≡ b.normal ++ went.named ∷ []
       still_alike sound none nothing equal =
           sym
-          (one_form limits a.normal (a.messages ++ gone.message ∷ []) (b.messages ++ went.message
-          ∷ []) gone.named went.named gone.stands.stands.is_normal is_normal_b sound
+          (one_form limits mode a.normal (a.messages ++ gone.message ∷ []) (b.messages
+          ++ went.message
+          ∷ []) gone.named went.named (normal_before limits mode (a.bytes ++ gone.more) new_a
+          (a.messages ++ gone.message ∷ []) (a.normal ++ gone.named ∷ []) gone.stands) is_normal_b
+          sound
           gone.stands.front went.stands.front gone.stands.accepted went.stands.accepted
           (sym (gone.appended ∙ ap (λ t. t ++ record_of gone.named) none) ∙ equal ∙ went.appended
           ∙ ap (λ t. t ++ record_of went.named) nothing))
@@ -398,16 +413,16 @@ module _ {T R S : Type 0} {numbers : T → List ℤ} {table_limit : T → ℕ} (
 
     -- what is told where the next records are apart
     abbrev pub Next_a : Bool → Type 0
-    Next_a some = HasNext numbers table_limit source_a limits a.bytes a.messages
+    Next_a some = HasNext numbers table_limit source_a limits mode a.bytes a.messages
         a.normal records_a new_a reader_a after_a text_a longer_a (Ok some)
 
     abbrev pub Next_b : Bool → Type 0
-    Next_b some = HasNext numbers table_limit source_b limits b.bytes b.messages
+    Next_b some = HasNext numbers table_limit source_b limits mode b.bytes b.messages
         b.normal records_b new_b reader_b after_b text_b longer_b (Ok some)
 
     pub told_apart : (some_a some_b : Bool) → Next_a some_a → Next_b some_b → text_a ≡ []
         → text_b ≡ [] → AreNext some_a some_b longer_a longer_b Apart → (n : ℕ) → n ≡ number
-        → HasCompared source_a source_b limits start_a after_a
+        → HasCompared source_a source_b limits mode start_a after_a
         start_b after_b (Ok (code.Differ n))
     told_apart true false gone ended none nothing apart n is = some_and_none n is gone ended
     told_apart false true ended gone none nothing apart n is = none_and_some n is ended gone
@@ -435,40 +450,41 @@ module _ {T R S : Type 0} {numbers : T → List ℤ} {table_limit : T → ℕ} (
           subst (λ judge. StandFor numbers table_limit judge.names b.messages)
           (sym end_b.judge_is) b.stands.stands.names
 
-      mode_a : mode_of new_a.judge.names ≡ Whole
+      mode_a : judge_mode new_a.judge ≡ mode
       mode_a =
-          subst (λ (judge : Judge T). mode_of judge.names ≡ Whole) (sym end_a.judge_is)
-          a.stands.stands.mode
+          subst (λ (judge : Judge T). judge_mode judge ≡ mode) (sym end_a.judge_is)
+          a.stands.judge_mode_is
 
-      mode_b : mode_of new_b.judge.names ≡ Whole
+      mode_b : judge_mode new_b.judge ≡ mode
       mode_b =
-          subst (λ (judge : Judge T). mode_of judge.names ≡ Whole) (sym end_b.judge_is)
-          b.stands.stands.mode
+          subst (λ (judge : Judge T). judge_mode judge ≡ mode) (sym end_b.judge_is)
+          b.stands.judge_mode_is
 
-      stand_a : StandWith in_whole numbers table_limit new_a.judge.names a.messages
+      stand_a : StandWith (stop_in mode) numbers table_limit new_a.judge.names a.messages
       stand_a =
-          subst (λ mode. StandWith (stop_in mode) numbers table_limit new_a.judge.names a.messages)
+          subst (λ k. StandWith (stop_in k) numbers table_limit new_a.judge.names a.messages)
           mode_a names_a
 
-      stand_b : StandWith in_whole numbers table_limit new_b.judge.names b.messages
+      stand_b : StandWith (stop_in mode) numbers table_limit new_b.judge.names b.messages
       stand_b =
-          subst (λ mode. StandWith (stop_in mode) numbers table_limit new_b.judge.names b.messages)
+          subst (λ k. StandWith (stop_in k) numbers table_limit new_b.judge.names b.messages)
           mode_b names_b
 
       pub equal_counts : HaveEqualCounts numbers new_a.judge.names new_b.judge.names
       equal_counts = record {
         mode = mode_a ∙ sym mode_b;
-        stops = stand_a.stops ∙ same_stops in_whole whole_is_told a.messages b.messages are
+        stops = stand_a.stops ∙ same_stops (stop_in mode) (mode_is_told mode) a.messages
+            b.messages are
             ∙ sym stand_b.stops;
         classes = λ c. ap length (stand_a.classes c)
-            ∙ same_counts in_whole a.messages b.messages are c
+            ∙ same_counts (stop_in mode) a.messages b.messages are c
             ∙ sym (ap length (stand_b.classes c));
       }
 
       pub both_ended : (renaming : Renaming)
           → entries (pairs_of renaming)
-          ≡ equal_places (stop_in (mode_of new_a.judge.names)) a.messages b.messages
-          → HasCompared source_a source_b limits start_a after_a
+          ≡ equal_places (stop_in (judge_mode new_a.judge)) a.messages b.messages
+          → HasCompared source_a source_b limits mode start_a after_a
           start_b after_b (Ok (code.Same renaming))
       both_ended renaming pairs = record {
         number = number;
@@ -481,12 +497,12 @@ module _ {T R S : Type 0} {numbers : T → List ℤ} {table_limit : T → ℕ} (
         stop_b = Some End;
         came_b = came_on source_b start_b reader_b after_b b.bytes end_b.more
             (Some End) b.came end_b.came;
-        read_b = subst (IsReadTo (accepting limits) (b.bytes ++ end_b.more)) one_number
+        read_b = subst (IsReadTo (accepting limits mode) (b.bytes ++ end_b.more)) one_number
             end_b.read_to;
         tells = λ x y is_x is_y.
-            subst (λ how. IsRecordingVerdict limits x y (are_same how))
-            (sym (pairs ∙ ap (λ mode. equal_places (stop_in mode) a.messages b.messages) mode_a))
-            (both_have_ended limits x y a.messages b.messages
-            (taken_in limits (a.bytes ++ end_a.more) x a.messages is_x end_a.accepted)
-            (taken_in limits (b.bytes ++ end_b.more) y b.messages is_y end_b.accepted) are);
+            subst (λ how. IsRecordingVerdict limits mode x y (are_same how))
+            (sym (pairs ∙ ap (λ k. equal_places (stop_in k) a.messages b.messages) mode_a))
+            (both_have_ended limits mode x y a.messages b.messages
+            (taken_in limits mode (a.bytes ++ end_a.more) x a.messages is_x end_a.accepted)
+            (taken_in limits mode (b.bytes ++ end_b.more) y b.messages is_y end_b.accepted) are);
       }

@@ -5,7 +5,9 @@ use Rattle.std.proofs.Common.{◌∙◌, ap, subst, arith}
 use Rattle.std.proofs.lemmas.Bool.{cases_lt}
 use Rattle.std.proofs.lemmas.List.{length-map}
 use Rattle.dap_message.specs.Message.{Sent}
-use Rattle.dap_rename.specs.Messages.{Class, AreSame, in_whole, message_skeleton, normal_of}
+use Rattle.dap_rename.specs.Messages.{Class, AreSame, message_skeleton, normal_of}
+use Rattle.dap_rename.specs.Modes.{stop_in}
+use Rattle.dap_rename.specs.declared.mode.Mode.{Mode}
 use Rattle.dap_rename.specs.Messages.{equal_places}
 use Rattle.dap_rename.proofs.Sameness.{same_as_itself, same_fronts, same_is_proper}
 use Rattle.dap_rename.proofs.Sameness.{equal_places_rename, equal_places_carry}
@@ -47,96 +49,99 @@ bytes_equal_or_not (x ∷ xs) (y ∷ ys) = here (numbers_equal_or_not x y) (byte
     here (inl a) (inr b) = inr (λ e. b (let q : xs ≡ ys = cc in q))
 
 -- Lists that are the same are as long.
-pub same_lengths : (ms ns : List Sent) → AreSame in_whole ms ns → length ms ≡ length ns
+pub same_lengths : (mode : Mode) (ms ns : List Sent) → AreSame (stop_in mode) ms ns → length ms
+    ≡ length ns
 unfolding AreSame
-same_lengths ms ns same =
+same_lengths mode ms ns same =
     sym (length-map ms message_skeleton) ∙ ap (λ (t : List Sent). length t) same.2.0
     ∙ length-map ns message_skeleton
 
-module _ (limits : Limits) (sound : AreSound limits) where
-  abbrev as_normalised : (bytes : List ℕ) (ms : List Sent) → IsAccepted limits bytes ms
-      → Normalises limits bytes (text (normal_of in_whole ms))
+module _ (limits : Limits) (mode : Mode) (sound : AreSound limits) where
+  abbrev as_normalised : (bytes : List ℕ) (ms : List Sent) → IsAccepted limits mode bytes ms
+      → Normalises limits mode bytes (text (normal_of (stop_in mode) ms))
   as_normalised bytes ms accepted =
       record {
         messages = ms;
         accepts = accepted;
-        normal = normal_of in_whole ms;
-        is_normal = normal ms (messages_proper accepted.records ms accepted.typed);
+        normal = normal_of (stop_in mode) ms;
+        is_normal = normal mode ms (messages_proper accepted.records ms accepted.typed);
         text_is =
             refl;
       }
 
   -- Accepted messages are the same or not, and the texts of their normal forms tell.
-  pub same_or_not : (bytes other : List ℕ) (ms ns : List Sent) → IsAccepted limits bytes ms
-      → IsAccepted limits other ns → AreSame in_whole ms ns ⊎ (AreSame in_whole ms ns → ⊥)
+  pub same_or_not : (bytes other : List ℕ) (ms ns : List Sent) → IsAccepted limits mode bytes ms
+      → IsAccepted limits mode other ns → AreSame (stop_in mode) ms ns ⊎ (AreSame (stop_in mode) ms
+      ns → ⊥)
   same_or_not bytes other ms ns p q = here (bytes_equal_or_not x y)
     where
       x : List ℕ
-      x = text (normal_of in_whole ms)
+      x = text (normal_of (stop_in mode) ms)
 
       y : List ℕ
-      y = text (normal_of in_whole ns)
+      y = text (normal_of (stop_in mode) ns)
 
-      here : (x ≡ y) ⊎ (x ≡ y → ⊥) → AreSame in_whole ms ns ⊎ (AreSame in_whole ms ns → ⊥)
+      here : (x ≡ y) ⊎ (x ≡ y → ⊥) → AreSame (stop_in mode) ms ns ⊎ (AreSame (stop_in mode) ms ns
+          → ⊥)
       here (inl e) =
-          inl (equal_texts limits sound bytes other x y (as_normalised bytes ms p)
+          inl (equal_texts limits mode sound bytes other x y (as_normalised bytes ms p)
           (as_normalised other ns q) e)
       here (inr e) =
           inr (λ same. e
-          (same_texts limits sound bytes other x y (as_normalised bytes ms p)
+          (same_texts limits mode sound bytes other x y (as_normalised bytes ms p)
           (as_normalised other ns q) same))
 
-  pub same_facts : SameFacts (accepting limits) (AreSame in_whole)
+  pub same_facts : SameFacts (accepting limits mode) (AreSame (stop_in mode))
   same_facts =
       record {
-        none = same_as_itself in_whole [] tt;
-        lengths = same_lengths;
-        fronts = same_fronts in_whole;
+        none = same_as_itself (stop_in mode) [] tt;
+        lengths = same_lengths mode;
+        fronts = same_fronts (stop_in mode);
         told = same_or_not;
       }
 
-  one_accepted : (bytes : List ℕ) (ms ns : List Sent) → IsAccepted limits bytes ms
-      → IsAccepted limits bytes ns → ms ≡ ns
+  one_accepted : (bytes : List ℕ) (ms ns : List Sent) → IsAccepted limits mode bytes ms
+      → IsAccepted limits mode bytes ns → ms ≡ ns
   one_accepted =
-      one_list (accepting limits) (readable limits.frame) (value_laws limits)
-      (accepted_facts limits)
+      one_list (accepting limits mode) (readable limits.frame) (value_laws limits mode)
+      (accepted_facts limits mode)
 
-  pub same_told : (a b : Input) (of_a of_b : List Sent) → IsTaken (accepting limits) a of_a
-      → IsTaken (accepting limits) b of_b → SameIsTold limits a b of_a of_b
+  pub same_told : (a b : Input) (of_a of_b : List Sent) → IsTaken (accepting limits mode) a of_a
+      → IsTaken (accepting limits mode) b of_b → SameIsTold limits mode a b of_a of_b
   same_told a b of_a of_b taken_a taken_b = record {
     if_same = λ same. (
       record { of_a = of_a; of_b = of_b; taken_a = taken_a; taken_b = taken_b; same = same },
       refl,
     );
     only_if = λ how is.
-        subst (λ ms. AreSame in_whole ms of_b)
+        subst (λ ms. AreSame (stop_in mode) ms of_b)
         (one_accepted a.bytes is.0.of_a of_a is.0.taken_a.0 taken_a.0)
-        (subst (AreSame in_whole is.0.of_a)
+        (subst (AreSame (stop_in mode) is.0.of_a)
         (one_accepted b.bytes is.0.of_b of_b is.0.taken_b.0 taken_b.0) is.0.same);
   }
 
   pub same_carried : (a b : Input) (how : List (Class × ℤ × ℤ))
-      → IsRecordingVerdict limits a b (are_same how) → IsCarried limits a b how
+      → IsRecordingVerdict limits mode a b (are_same how) → IsCarried limits mode a b how
   same_carried a b how (inputs, is) =
-      let proper = same_is_proper in_whole inputs.of_a inputs.of_b inputs.same in
-      subst (IsCarried limits a b) (sym is) (record {
+      let proper = same_is_proper (stop_in mode) inputs.of_a inputs.of_b inputs.same in
+      subst (IsCarried limits mode a b) (sym is) (record {
         of_a = inputs.of_a;
         of_b = inputs.of_b;
         taken_a = inputs.taken_a;
         taken_b = inputs.taken_b;
-        is_renaming = equal_places_rename in_whole inputs.of_a inputs.of_b proper.0 proper.1;
-        carries = equal_places_carry in_whole inputs.of_a inputs.of_b inputs.same;
+        is_renaming = equal_places_rename (stop_in mode) inputs.of_a inputs.of_b proper.0 proper.1;
+        carries = equal_places_carry (stop_in mode) inputs.of_a inputs.of_b inputs.same;
       })
 
 pub recordings_have_one_verdict : RecordingsHaveOneVerdict
-recordings_have_one_verdict limits sound =
-    has_one_verdict (accepting limits) (readable limits.frame) (value_facts limits)
-    (accepted_facts limits) (AreSame in_whole) (same_facts limits sound)
-    (equal_places in_whole)
+recordings_have_one_verdict limits mode sound =
+    has_one_verdict (accepting limits mode) (readable limits.frame) (value_facts limits mode)
+    (accepted_facts limits mode) (AreSame (stop_in mode)) (same_facts limits mode sound)
+    (equal_places (stop_in mode))
 
 pub same_is_told_exactly : SameIsToldExactly
-same_is_told_exactly limits sound a b of_a of_b taken_a taken_b =
-    same_told limits sound a b of_a of_b taken_a taken_b
+same_is_told_exactly limits mode sound a b of_a of_b taken_a taken_b =
+    same_told limits mode sound a b of_a of_b taken_a taken_b
 
 pub same_is_carried : SameIsCarried
-same_is_carried limits sound a b how is = same_carried limits sound a b how is
+same_is_carried limits mode sound a b how is = same_carried limits mode sound a b how is

@@ -2,6 +2,7 @@
 use Rattle.std.specs.Prelude.{◌≡◌, ◌⊎◌, ℕ, ℤ, Bool, true, false, List, [], Result, Ok, Err}
 use Rattle.dap_device.specs.declared.device.Source.{Ghosts as Source}
 use Rattle.dap_message.specs.Message.{Sent}
+use Rattle.dap_rename.specs.declared.mode.Mode.{Mode}
 use Rattle.dap_input.specs.declared.limits.Limits.{Limits}
 use Rattle.dap_input.specs.declared.refused.Refused.{Refused}
 use Rattle.dap_input.specs.declared.refused.Refused.TheVariants as why
@@ -19,17 +20,17 @@ IsRefusalOf which refused refusal = (refused ≡ why.Memory → refusal ≡ beca
     × ((refused ≡ why.Memory → ⊥) → refusal ≡ because.Input which refused)
 
 module _ {T R : Type 0} (numbers : T → List ℤ) (table_limit : T → ℕ) (source : Source R)
-    (limits : Limits) (bytes : List ℕ) (messages normal : List Sent)
+    (limits : Limits) (mode : Mode) (bytes : List ℕ) (messages normal : List Sent)
     (old new : NormalRecords T) (before after : R) where
   -- The next record has come, of which the text is this, or none is left; or it is told as a
   -- refusal of this input that it is refused or cannot be read.
   abbrev pub TellsNext : Which → List ℕ → Result Bool CompareRefused → Type 0
   TellsNext which text (Ok some) =
-      HasNext numbers table_limit source limits bytes messages normal old new before
+      HasNext numbers table_limit source limits mode bytes messages normal old new before
       after [] text (Ok some)
   TellsNext which text (Err refusal) =
       (refused : Refused)
-      × HasStoppedAt numbers table_limit source limits bytes messages normal old new
+      × HasStoppedAt numbers table_limit source limits mode bytes messages normal old new
       before after refused
       × IsRefusalOf which refused refusal
 

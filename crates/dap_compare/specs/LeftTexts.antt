@@ -5,7 +5,9 @@ use Rattle.dap_device.specs.declared.device.Source.{Ghosts as Source}
 use Rattle.dap_device.specs.declared.reading.Stop.{Stop}
 use Rattle.dap_device.specs.Pieces.{HasComeSoFar}
 use Rattle.dap_message.specs.Message.{Sent}
-use Rattle.dap_rename.specs.Messages.{IsNormal, in_whole}
+use Rattle.dap_rename.specs.Messages.{IsNormal}
+use Rattle.dap_rename.specs.Modes.{stop_in}
+use Rattle.dap_rename.specs.declared.mode.Mode.{Mode}
 use Rattle.dap_input.specs.declared.limits.Limits.{Limits}
 use Rattle.dap_input.specs.Inputs.{Input, AcceptedBefore}
 use Rattle.dap_input.specs.ReadTo.{IsOf}
@@ -17,25 +19,27 @@ use Rattle.dap_compare.specs.declared.verdict.Verdict.TheVariants as code
 
 -- The text is this record of the input's normal form; or the input ends before it, and there is no
 -- text.
-abbrev pub IsRecordAt : Limits → Input → ℕ → List ℕ → Type 0
-IsRecordAt limits input number text =
-    ((before : AcceptedBefore (accepting limits) input number) × (before.rest ≡ []) × (text ≡ []))
-    ⊎ ((next : AcceptedBefore (accepting limits) input (number + 1)) × (normal : List Sent)
-    × (named : Sent) × IsNormal in_whole next.values (normal ++ named ∷ [])
+abbrev pub IsRecordAt : Limits → Mode → Input → ℕ → List ℕ → Type 0
+IsRecordAt limits mode input number text =
+    ((before : AcceptedBefore (accepting limits mode) input number) × (before.rest ≡ []) × (text
+    ≡ []))
+    ⊎ ((next : AcceptedBefore (accepting limits mode) input (number + 1)) × (normal : List Sent)
+    × (named : Sent) × IsNormal (stop_in mode) next.values (normal ++ named ∷ [])
     × (text ≡ record_of named))
 
 -- So much came from the reader, and this is left of the record, whatever else the input holds.
-pub record LeavesRecord {R : Type 0} (source : Source R) (limits : Limits) (old new : R)
+pub record LeavesRecord {R : Type 0} (source : Source R) (limits : Limits) (mode : Mode) (old new :
+    R)
     (number : ℕ) (text : List ℕ) : Type 0 where
   pub bytes : List ℕ
   pub stop : Option Stop
   pub came : HasComeSoFar source old new bytes stop
-  pub is_record : (input : Input) → IsOf bytes stop input → IsRecordAt limits input number text
+  pub is_record : (input : Input) → IsOf bytes stop input → IsRecordAt limits mode input number text
 
 -- Where a difference is answered, the record at which it is.
-abbrev pub LeavesDifference : {R : Type 0} → Source R → Limits → R → R → List ℕ
+abbrev pub LeavesDifference : {R : Type 0} → Source R → Limits → Mode → R → R → List ℕ
     → Result CodeVerdict CompareRefused → Type 0
-LeavesDifference source limits old new text (Ok (code.Same renaming)) = Unit {0}
-LeavesDifference source limits old new text (Ok (code.Differ n)) =
-    LeavesRecord source limits old new n text
-LeavesDifference source limits old new text (Err refusal) = Unit {0}
+LeavesDifference source limits mode old new text (Ok (code.Same renaming)) = Unit {0}
+LeavesDifference source limits mode old new text (Ok (code.Differ n)) =
+    LeavesRecord source limits mode old new n text
+LeavesDifference source limits mode old new text (Err refusal) = Unit {0}

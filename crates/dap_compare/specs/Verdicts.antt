@@ -3,7 +3,9 @@
 use Rattle.std.specs.Prelude.{◌≡◌, ℕ, ℤ, ◌-◌, List, Option, Result, Ok, Err}
 use Rattle.dap_device.specs.declared.device.Source.{Ghosts as Source}
 use Rattle.dap_message.specs.Message.{Sent}
-use Rattle.dap_rename.specs.Messages.{Class, IsProperId, AreSame, Carries, in_whole, equal_places}
+use Rattle.dap_rename.specs.Messages.{Class, IsProperId, AreSame, Carries, equal_places}
+use Rattle.dap_rename.specs.Modes.{stop_in}
+use Rattle.dap_rename.specs.declared.mode.Mode.{Mode}
 use Rattle.dap_rename.specs.Pairs.{entries}
 use Rattle.dap_rename.specs.Renaming.{pairs_of}
 use Rattle.dap_rename.specs.Renamings.{IsRenaming}
@@ -25,36 +27,40 @@ use Rattle.dap_compare.specs.Comparing.{Verdict, IsVerdict, are_same, differ, re
 use Rattle.dap_compare.specs.Comparing.{HasOneVerdict}
 
 -- Two recordings are the same if a renaming carries the messages of the one to those of the other,
--- and then by the pairs of equal places.
-abbrev pub RecordingVerdict : Limits → Type 0
-RecordingVerdict limits = Verdict (accepting limits) (AreSame in_whole) (equal_places in_whole)
+-- and then by the pairs of equal places; both by the classes of the mode.
+abbrev pub RecordingVerdict : Limits → Mode → Type 0
+RecordingVerdict limits mode = Verdict (accepting limits mode) (AreSame (stop_in mode))
+    (equal_places (stop_in mode))
 
-abbrev pub IsRecordingVerdict : (limits : Limits) → Input → Input → RecordingVerdict limits → Type 0
-IsRecordingVerdict limits a b verdict =
-    IsVerdict (accepting limits) (AreSame in_whole) (equal_places in_whole) a b verdict
+abbrev pub IsRecordingVerdict : (limits : Limits) (mode : Mode) → Input → Input → RecordingVerdict
+    limits mode → Type 0
+IsRecordingVerdict limits mode a b verdict =
+    IsVerdict (accepting limits mode) (AreSame (stop_in mode)) (equal_places (stop_in mode)) a b
+    verdict
 
 -- The verdict on the inputs is a refusal of the one or of the other at this record, and it is told.
 -- Memory that was refused tells nothing.
-pub record IsRefusalOf (limits : Limits) (number : ℕ) (why : Refused) (verdict : Fault
-    → RecordingVerdict limits) (a b : Input) : Type 0 where
+pub record IsRefusalOf (limits : Limits) (mode : Mode) (number : ℕ) (why : Refused) (verdict : Fault
+    → RecordingVerdict limits mode) (a b : Input) : Type 0 where
   pub fault : Fault
   pub tells : Tells why number fault
-  pub is_verdict : IsRecordingVerdict limits a b (verdict fault)
+  pub is_verdict : IsRecordingVerdict limits mode a b (verdict fault)
 
-abbrev pub TellsRefusal : Limits → Input → Input → ℕ → CompareRefused → Type 0
-TellsRefusal limits a b number (because.Input A why) =
-    IsRefusalOf limits number why (refused_a number) a b
-TellsRefusal limits a b number (because.Input B why) =
-    IsRefusalOf limits number why (refused_b number) a b
-TellsRefusal limits a b number because.Memory = Unit {0}
+abbrev pub TellsRefusal : Limits → Mode → Input → Input → ℕ → CompareRefused → Type 0
+TellsRefusal limits mode a b number (because.Input A why) =
+    IsRefusalOf limits mode number why (refused_a number) a b
+TellsRefusal limits mode a b number (because.Input B why) =
+    IsRefusalOf limits mode number why (refused_b number) a b
+TellsRefusal limits mode a b number because.Memory = Unit {0}
 
 -- The verdict is answered. It is that of this record, unless the inputs are the same.
-abbrev pub TellsVerdict : Limits → Input → Input → ℕ → Result CodeVerdict CompareRefused → Type 0
-TellsVerdict limits a b number (Ok (code.Same renaming)) =
-    IsRecordingVerdict limits a b (are_same (entries (pairs_of renaming)))
-TellsVerdict limits a b number (Ok (code.Differ n)) = (n ≡ number)
-    × IsRecordingVerdict limits a b (differ number)
-TellsVerdict limits a b number (Err refusal) = TellsRefusal limits a b number refusal
+abbrev pub TellsVerdict : Limits → Mode → Input → Input → ℕ → Result CodeVerdict CompareRefused
+    → Type 0
+TellsVerdict limits mode a b number (Ok (code.Same renaming)) =
+    IsRecordingVerdict limits mode a b (are_same (entries (pairs_of renaming)))
+TellsVerdict limits mode a b number (Ok (code.Differ n)) = (n ≡ number)
+    × IsRecordingVerdict limits mode a b (differ number)
+TellsVerdict limits mode a b number (Err refusal) = TellsRefusal limits mode a b number refusal
 
 -- how far the second input is read where the verdict is that of this record: before it, where the
 -- first is refused there
@@ -63,55 +69,60 @@ read_of_b number (Err (because.Input A why)) = number - 1
 read_of_b number answer = number
 
 -- Two readers, by what they tell of their bytes, and by their counts.
-module _ {R S : Type 0} (source_a : Source R) (source_b : Source S) (limits : Limits) where
-  -- So much came from the readers, no more than this record asked for, and the verdict on the
-  -- inputs, whatever else they hold, is answered.
-  pub record HasCompared (old_a new_a : R) (old_b new_b : S)
-      (answer : Result CodeVerdict CompareRefused) : Type 0 where
-    pub number : ℕ
-    pub bytes_a : List ℕ
-    pub stop_a : Option Stop
-    pub came_a : HasComeSoFar source_a old_a new_a bytes_a stop_a
-    pub read_a : IsReadTo (accepting limits) bytes_a number
-    pub bytes_b : List ℕ
-    pub stop_b : Option Stop
-    pub came_b : HasComeSoFar source_b old_b new_b bytes_b stop_b
-    pub read_b : IsReadTo (accepting limits) bytes_b (read_of_b number answer)
-    pub tells : (a b : Input) → IsOf bytes_a stop_a a → IsOf bytes_b stop_b b
-        → TellsVerdict limits a b number answer
+module _ {R S : Type 0} (source_a : Source R) (source_b : Source S) (limits : Limits) (mode : Mode)
+  where
+    -- So much came from the readers, no more than this record asked for, and the verdict on the
+    -- inputs, whatever else they hold, is answered.
+    pub record HasCompared (old_a new_a : R) (old_b new_b : S)
+        (answer : Result CodeVerdict CompareRefused) : Type 0 where
+      pub number : ℕ
+      pub bytes_a : List ℕ
+      pub stop_a : Option Stop
+      pub came_a : HasComeSoFar source_a old_a new_a bytes_a stop_a
+      pub read_a : IsReadTo (accepting limits mode) bytes_a number
+      pub bytes_b : List ℕ
+      pub stop_b : Option Stop
+      pub came_b : HasComeSoFar source_b old_b new_b bytes_b stop_b
+      pub read_b : IsReadTo (accepting limits mode) bytes_b (read_of_b number answer)
+      pub tells : (a b : Input) → IsOf bytes_a stop_a a → IsOf bytes_b stop_b b
+          → TellsVerdict limits mode a b number answer
 
-  abbrev pub Compares : R → R → S → S → Result CodeVerdict CompareRefused → Type 0
-  Compares old_a new_a old_b new_b (Err because.Memory) = Unit {0}
-  Compares old_a new_a old_b new_b answer = HasCompared old_a new_a old_b new_b answer
+    abbrev pub Compares : R → R → S → S → Result CodeVerdict CompareRefused → Type 0
+    Compares old_a new_a old_b new_b (Err because.Memory) = Unit {0}
+    Compares old_a new_a old_b new_b answer = HasCompared old_a new_a old_b new_b answer
 
 -- Two inputs have one verdict; where they differ, they do so at no earlier record.
 abbrev pub RecordingsHaveOneVerdict : Type 0
-RecordingsHaveOneVerdict = (limits : Limits) → AreSound limits
-    → HasOneVerdict (accepting limits) (AreSame in_whole) (equal_places in_whole)
+RecordingsHaveOneVerdict = (limits : Limits) (mode : Mode) → AreSound limits
+    → HasOneVerdict (accepting limits mode) (AreSame (stop_in mode)) (equal_places (stop_in mode))
 
 -- Where both inputs are accepted, the verdict is that they are the same exactly where their
 -- messages are.
-pub record SameIsTold (limits : Limits) (a b : Input) (of_a of_b : List Sent) : Type 0 where
-  pub if_same : AreSame in_whole of_a of_b
-      → IsRecordingVerdict limits a b (are_same (equal_places in_whole of_a of_b))
-  pub only_if : (how : List (Class × ℤ × ℤ)) → IsRecordingVerdict limits a b (are_same how)
-      → AreSame in_whole of_a of_b
+pub record SameIsTold (limits : Limits) (mode : Mode) (a b : Input) (of_a of_b : List Sent) : Type 0
+  where
+    pub if_same : AreSame (stop_in mode) of_a of_b
+        → IsRecordingVerdict limits mode a b (are_same (equal_places (stop_in mode) of_a of_b))
+    pub only_if : (how : List (Class × ℤ × ℤ)) → IsRecordingVerdict limits mode a b (are_same how)
+        → AreSame (stop_in mode) of_a of_b
 
 abbrev pub SameIsToldExactly : Type 0
-SameIsToldExactly = (limits : Limits) → AreSound limits → (a b : Input) (of_a of_b : List Sent)
-    → IsTaken (accepting limits) a of_a → IsTaken (accepting limits) b of_b
-    → SameIsTold limits a b of_a of_b
+SameIsToldExactly = (limits : Limits) (mode : Mode) → AreSound limits → (a b : Input) (of_a of_b :
+    List Sent)
+    → IsTaken (accepting limits mode) a of_a → IsTaken (accepting limits mode) b of_b
+    → SameIsTold limits mode a b of_a of_b
 
 -- Where the verdict is that they are the same, both inputs are accepted, and the pairs are a
 -- renaming that carries the messages of the one to those of the other.
-pub record IsCarried (limits : Limits) (a b : Input) (how : List (Class × ℤ × ℤ)) : Type 0 where
+pub record IsCarried (limits : Limits) (mode : Mode) (a b : Input) (how : List (Class × ℤ × ℤ)) :
+    Type 0 where
   pub of_a : List Sent
   pub of_b : List Sent
-  pub taken_a : IsTaken (accepting limits) a of_a
-  pub taken_b : IsTaken (accepting limits) b of_b
+  pub taken_a : IsTaken (accepting limits mode) a of_a
+  pub taken_b : IsTaken (accepting limits mode) b of_b
   pub is_renaming : IsRenaming IsProperId how
-  pub carries : Carries in_whole how of_a of_b
+  pub carries : Carries (stop_in mode) how of_a of_b
 
 abbrev pub SameIsCarried : Type 0
-SameIsCarried = (limits : Limits) → AreSound limits → (a b : Input) (how : List (Class × ℤ × ℤ))
-    → IsRecordingVerdict limits a b (are_same how) → IsCarried limits a b how
+SameIsCarried = (limits : Limits) (mode : Mode) → AreSound limits → (a b : Input) (how : List (Class
+    × ℤ × ℤ))
+    → IsRecordingVerdict limits mode a b (are_same how) → IsCarried limits mode a b how

@@ -12,7 +12,7 @@ use crate::verdict::{CompareRefused, Verdict, Which};
 use dap_device::Source;
 use dap_input::{Limits, Refused};
 use dap_normal::{NormalRecords, index_tables};
-use dap_rename::{NameTable, Tables};
+use dap_rename::{Mode, NameTable, Tables};
 use std::alloc::Global;
 
 /// Whose refusal it is. That memory was refused is nobody's.
@@ -38,9 +38,9 @@ fn next_text<R: Source, T: NameTable + Drop>(
     requires given { R.given reader.old
         + (records.old.records.pieces.limit - records.old.records.pieces.taken) < 2 ^ 63 }
     requires failures { R.failures reader.old < 2 ^ 63 }
-    ensures { (limits : Limits) (bytes : List ℕ) (messages normal : List Sent)
-        → StandsBefore T.numbers T.limit limits bytes records.old messages normal
-        → TellsNext T.numbers T.limit R.Source limits bytes messages normal
+    ensures { (limits : Limits) (mode : Mode) (bytes : List ℕ) (messages normal : List Sent)
+        → StandsBefore T.numbers T.limit limits mode bytes records.old messages normal
+        → TellsNext T.numbers T.limit R.Source limits mode bytes messages normal
         records.old records.new reader.old reader.new which text.new.items result }
 {
     text.clear();
@@ -91,6 +91,7 @@ pub fn compare<A: Source, B: Source>(
     reader_a: &mut A,
     reader_b: &mut B,
     limits: Limits,
+    mode: Mode,
 ) -> Result<Verdict, CompareRefused>
     requires limits { AreSound limits }
     requires given_a { A.given reader_a.old < 2 ^ 62 }
@@ -100,7 +101,7 @@ pub fn compare<A: Source, B: Source>(
 
     // The one verdict on the two inputs is answered. That a reader failed is answered only where it
     // did.
-    ensures answer { Compares A.Source B.Source limits reader_a.old reader_a.new reader_b.old
+    ensures answer { Compares A.Source B.Source limits mode reader_a.old reader_a.new reader_b.old
         reader_b.new result }
 
     // It takes at most one byte past the limit of each.
@@ -114,6 +115,7 @@ pub fn compare<A: Source, B: Source>(
         limits,
         index_tables(alloc, limits),
         index_tables(alloc, limits),
+        mode,
     )
 }
 
@@ -130,6 +132,7 @@ pub fn compare_with<A: Source, B: Source, T: NameTable + Drop>(
     limits: Limits,
     tables_a: Tables<T>,
     tables_b: Tables<T>,
+    mode: Mode,
 ) -> Result<Verdict, CompareRefused>
     requires limits { AreSound limits }
     requires tables_a { AreReady T.numbers T.limit limits tables_a }
@@ -140,7 +143,7 @@ pub fn compare_with<A: Source, B: Source, T: NameTable + Drop>(
     requires failures_b { B.failures reader_b.old < 2 ^ 62 }
 
     // What `compare` promises, whatever the tables are.
-    ensures answer { Compares A.Source B.Source limits reader_a.old reader_a.new reader_b.old
+    ensures answer { Compares A.Source B.Source limits mode reader_a.old reader_a.new reader_b.old
         reader_b.new result }
     ensures taken_a { A.given reader_a.new ≤ A.given reader_a.old + limits.input + 1 }
     ensures taken_b { B.given reader_b.new ≤ B.given reader_b.old + limits.input + 1 }
@@ -154,6 +157,7 @@ pub fn compare_with<A: Source, B: Source, T: NameTable + Drop>(
         limits,
         tables_a,
         tables_b,
+        mode,
         &mut text_a,
         &mut text_b,
     )
@@ -174,6 +178,7 @@ pub fn compare_texts_with<A: Source, B: Source, T: NameTable + Drop>(
     limits: Limits,
     tables_a: Tables<T>,
     tables_b: Tables<T>,
+    mode: Mode,
     text_a: &mut Vec<u8>,
     text_b: &mut Vec<u8>,
 ) -> Result<Verdict, CompareRefused>
@@ -186,21 +191,21 @@ pub fn compare_texts_with<A: Source, B: Source, T: NameTable + Drop>(
     requires failures_b { B.failures reader_b.old < 2 ^ 62 }
 
     // What `compare` promises, whatever the tables are.
-    ensures answer { Compares A.Source B.Source limits reader_a.old reader_a.new reader_b.old
+    ensures answer { Compares A.Source B.Source limits mode reader_a.old reader_a.new reader_b.old
         reader_b.new result }
     ensures taken_a { A.given reader_a.new ≤ A.given reader_a.old + limits.input + 1 }
     ensures taken_b { B.given reader_b.new ≤ B.given reader_b.old + limits.input + 1 }
 
     // Where a difference is answered, the records at which it is are left.
-    ensures text_a { LeavesDifference A.Source limits reader_a.old reader_a.new text_a.new.items
-        result }
-    ensures text_b { LeavesDifference B.Source limits reader_b.old reader_b.new text_b.new.items
-        result }
+    ensures text_a { LeavesDifference A.Source limits mode reader_a.old reader_a.new
+        text_a.new.items result }
+    ensures text_b { LeavesDifference B.Source limits mode reader_b.old reader_b.new
+        text_b.new.items result }
 {
-    let Ok(mut records_a) = NormalRecords::new(alloc, limits, tables_a) else {
+    let Ok(mut records_a) = NormalRecords::new(alloc, limits, tables_a, mode) else {
         return Err(CompareRefused::Memory);
     };
-    let Ok(mut records_b) = NormalRecords::new(alloc, limits, tables_b) else {
+    let Ok(mut records_b) = NormalRecords::new(alloc, limits, tables_b, mode) else {
         return Err(CompareRefused::Memory);
     };
     compare_records(
@@ -210,6 +215,7 @@ pub fn compare_texts_with<A: Source, B: Source, T: NameTable + Drop>(
         &mut records_b,
         reader_b,
         limits,
+        mode,
         text_a,
         text_b,
     )
@@ -223,24 +229,25 @@ fn compare_records<A: Source, B: Source, T: NameTable + Drop>(
     records_b: &mut NormalRecords<T>,
     reader_b: &mut B,
     limits: Limits,
+    mode: Mode,
     text_a: &mut Vec<u8>,
     text_b: &mut Vec<u8>,
 ) -> Result<Verdict, CompareRefused>
     requires limits { AreSound limits }
-    requires stands_a { StandsBefore T.numbers T.limit limits [] records_a.old [] [] }
-    requires stands_b { StandsBefore T.numbers T.limit limits [] records_b.old [] [] }
+    requires stands_a { StandsBefore T.numbers T.limit limits mode [] records_a.old [] [] }
+    requires stands_b { StandsBefore T.numbers T.limit limits mode [] records_b.old [] [] }
     requires given_a { A.given reader_a.old < 2 ^ 62 }
     requires given_b { B.given reader_b.old < 2 ^ 62 }
     requires failures_a { A.failures reader_a.old < 2 ^ 62 }
     requires failures_b { B.failures reader_b.old < 2 ^ 62 }
-    ensures answer { Compares A.Source B.Source limits reader_a.old reader_a.new reader_b.old
+    ensures answer { Compares A.Source B.Source limits mode reader_a.old reader_a.new reader_b.old
         reader_b.new result }
     ensures taken_a { A.given reader_a.new ≤ A.given reader_a.old + limits.input + 1 }
     ensures taken_b { B.given reader_b.new ≤ B.given reader_b.old + limits.input + 1 }
-    ensures text_a { LeavesDifference A.Source limits reader_a.old reader_a.new text_a.new.items
-        result }
-    ensures text_b { LeavesDifference B.Source limits reader_b.old reader_b.new text_b.new.items
-        result }
+    ensures text_a { LeavesDifference A.Source limits mode reader_a.old reader_a.new
+        text_a.new.items result }
+    ensures text_b { LeavesDifference B.Source limits mode reader_b.old reader_b.new
+        text_b.new.items result }
 {
     'records: loop {
         let number = records_a.number();

@@ -1,5 +1,6 @@
 -- What is read of a text that is the record of a message.
-use Rattle.std.proofs.Common.{◌≡◌, ℕ, List, [], ◌++◌, length, take, drop, Option, Some, None, MatchOption}
+use Rattle.std.proofs.Common.{◌≡◌, ℕ, List, [], ◌++◌, length, take, drop, Option, Some, None}
+use Rattle.std.proofs.Common.{MatchOption}
 use Rattle.std.proofs.Common.{refl, sym, ◌∙◌, subst, append-nil, take-append-drop}
 use Rattle.dap_frame.specs.declared.limits.FrameLimits.{FrameLimits}
 use Rattle.dap_tree.specs.Json.{text_of}

@@ -12,7 +12,9 @@ use Rattle.dap_recording.proofs.Records.{record_grammar, readable}
 use Rattle.dap_recording.proofs.RecordsWritten.{written_is_record, written_is_recording}
 use Rattle.dap_items.proofs.Ends.{not_empty, one_item}
 use Rattle.dap_items.proofs.Streams.{one_list}
-use Rattle.dap_rename.specs.Messages.{IsNormal, in_whole}
+use Rattle.dap_rename.specs.Messages.{IsNormal}
+use Rattle.dap_rename.specs.Modes.{stop_in}
+use Rattle.dap_rename.specs.declared.mode.Mode.{Mode}
 use Rattle.dap_input.specs.declared.limits.Limits.{Limits}
 use Rattle.dap_input.specs.Inputs.{Input}
 use Rattle.dap_input.specs.Limits.{AreSound}
@@ -54,12 +56,12 @@ last_message : (ms : List Sent) (m : Sent) → AreMessages (contents (ms ++ m �
 last_message [] m typed = typed.0
 last_message (n ∷ ms) m typed = last_message ms m typed.1
 
-module _ (limits : Limits) (sound : AreSound limits) where
-  own_contents : (bytes : List ℕ) (values all : List Sent) → IsAccepted limits bytes values
-      → IsNormal in_whole values all → AreMessages (contents all) all
+module _ (limits : Limits) (mode : Mode) (sound : AreSound limits) where
+  own_contents : (bytes : List ℕ) (values all : List Sent) → IsAccepted limits mode bytes values
+      → IsNormal (stop_in mode) values all → AreMessages (contents all) all
   own_contents bytes values all accepted is_normal =
-      let again : IsAccepted limits (text all) all =
-      (normal_accepted limits sound bytes values all accepted is_normal).0 in
+      let again : IsAccepted limits mode (text all) all =
+      (normal_accepted limits mode sound bytes values all accepted is_normal).0 in
       let short = contents_short limits all (accepted.fits all is_normal).each in
       let written : IsRecording limits.frame (text all) (contents all) =
       subst (λ t. IsRecording limits.frame t (contents all)) (contents_text all)
@@ -70,7 +72,7 @@ module _ (limits : Limits) (sound : AreSound limits) where
       again.typed
 
   record_is : (text bytes : List ℕ) (values normal : List Sent) (named : Sent)
-      → IsAccepted limits bytes values → IsNormal in_whole values (normal ++ named ∷ [])
+      → IsAccepted limits mode bytes values → IsNormal (stop_in mode) values (normal ++ named ∷ [])
       → text ≡ record_of named → IsRecordOf limits text named
   record_is text bytes values normal named accepted is_normal is = record {
     is_record = is;
@@ -82,8 +84,8 @@ module _ (limits : Limits) (sound : AreSound limits) where
 
   -- ---- what the text of a record holds
 
-  found_at : (input : Input) (number : ℕ) (text : List ℕ) → IsRecordAt limits input number text
-      → (found : Option Sent) × Holds limits text found × HasAt limits input number found
+  found_at : (input : Input) (number : ℕ) (text : List ℕ) → IsRecordAt limits mode input number text
+      → (found : Option Sent) × Holds limits text found × HasAt limits mode input number found
   found_at input number text (inl (before, ended, none)) = (None, none, (before, ended))
   found_at input number text (inr (next, normal, named, is_normal, is)) = (
     Some named,
@@ -91,6 +93,7 @@ module _ (limits : Limits) (sound : AreSound limits) where
     (next, normal, is_normal),
   )
 
+module _ (limits : Limits) (sound : AreSound limits) where
   pub record_here : (text : List ℕ) (m : Sent) → IsRecordOf limits text m
       → IsRecord limits.frame text m.side (text_of m.doc)
   record_here text m is =
@@ -120,33 +123,36 @@ module _ (limits : Limits) (sound : AreSound limits) where
   is_so_far bytes (Some Full) = ([], sym (append-nil bytes))
   is_so_far bytes (Some Failed) = (refl, refl)
 
+module _ (limits : Limits) (mode : Mode) (sound : AreSound limits) where
   module _ {R : Type 0} (source : Source R) (old new : R) (number : ℕ) (text : List ℕ)
-      (left : LeavesRecord source limits old new number text) where
+      (left : LeavesRecord source limits mode old new number text) where
     has_read : (found : Option Sent) → Holds limits text found
-        → HasRead source limits old new number found
+        → HasRead source limits mode old new number found
     has_read found holds = record {
       bytes = left.bytes;
       stop = left.stop;
       came = left.came;
       has = λ input is.
-          let here = found_at input number text (left.is_record input is) in
-          subst (HasAt limits input number) (one_holds text here.0 found here.1 holds) here.2;
+          let here = found_at limits mode sound input number text (left.is_record input is) in
+          subst (HasAt limits mode input number) (one_holds limits sound text here.0 found here.1
+          holds) here.2;
     }
 
     pub is_left : IsLeftText limits text
     is_left =
-        let here = found_at (so_far left.bytes left.stop) number text
-        (left.is_record (so_far left.bytes left.stop) (is_so_far left.bytes left.stop)) in
+        let here = found_at limits mode sound (so_far left.bytes left.stop) number text
+        (left.is_record (so_far left.bytes left.stop) (is_so_far limits sound left.bytes left.stop))
+        in
         (here.0, here.1)
 
   -- ---- the records that are left of two readers
 
   module _ {R S : Type 0} (source_a : Source R) (source_b : Source S) (old_a new_a : R)
       (old_b new_b : S) (number : ℕ) (text_a text_b lines : List ℕ)
-      (left_a : LeavesRecord source_a limits old_a new_a number text_a)
-      (left_b : LeavesRecord source_b limits old_b new_b number text_b) where
+      (left_a : LeavesRecord source_a limits mode old_a new_a number text_a)
+      (left_b : LeavesRecord source_b limits mode old_b new_b number text_b) where
     pub tells_record : TellsTexts limits text_a text_b lines
-        → TellsRecord source_a source_b limits old_a new_a old_b new_b number lines
+        → TellsRecord source_a source_b limits mode old_a new_a old_b new_b number lines
     tells_record tells = record {
       of_a = tells.of_a;
       of_b = tells.of_b;

@@ -17,7 +17,9 @@ use Rattle.dap_profile.specs.declared.profile.Kind.TheVariants.{Request, Respons
 use Rattle.dap_message.specs.Envelope.{kind_of, name_of}
 use Rattle.dap_message.specs.Message.{Sent}
 use Rattle.dap_message.specs.Rows.{is_of_kind}
-use Rattle.dap_rename.specs.Messages.{IsNormal, in_whole}
+use Rattle.dap_rename.specs.Messages.{IsNormal}
+use Rattle.dap_rename.specs.Modes.{stop_in}
+use Rattle.dap_rename.specs.declared.mode.Mode.{Mode}
 use Rattle.dap_input.specs.declared.limits.Limits.{Limits}
 use Rattle.dap_input.specs.Inputs.{Input, AcceptedBefore}
 use Rattle.dap_input.specs.ReadTo.{IsOf}
@@ -82,40 +84,41 @@ diff_lines a b = input_line (codes "A") a ++ input_line (codes "B") b
 
 -- The input's normal form has this message at the record; or, where there is none, all records
 -- before it are accepted, and the input ends there.
-abbrev pub HasAt : Limits → Input → ℕ → Option Sent → Type 0
-HasAt limits input number None = (before : AcceptedBefore (accepting limits) input number)
+abbrev pub HasAt : Limits → Mode → Input → ℕ → Option Sent → Type 0
+HasAt limits mode input number None =
+    (before : AcceptedBefore (accepting limits mode) input number)
     × (before.rest ≡ [])
-HasAt limits input number (Some named) =
-    (next : AcceptedBefore (accepting limits) input (number + 1))
-    × (normal : List Sent) × IsNormal in_whole next.values (normal ++ named ∷ [])
+HasAt limits mode input number (Some named) =
+    (next : AcceptedBefore (accepting limits mode) input (number + 1))
+    × (normal : List Sent) × IsNormal (stop_in mode) next.values (normal ++ named ∷ [])
 
 -- So much came from the reader, and whatever else the input holds, it has this at the record.
-pub record HasRead {R : Type 0} (source : Source R) (limits : Limits) (old new : R) (number : ℕ)
-    (found : Option Sent) : Type 0 where
+pub record HasRead {R : Type 0} (source : Source R) (limits : Limits) (mode : Mode) (old new : R)
+    (number : ℕ) (found : Option Sent) : Type 0 where
   pub bytes : List ℕ
   pub stop : Option Stop
   pub came : HasComeSoFar source old new bytes stop
-  pub has : (input : Input) → IsOf bytes stop input → HasAt limits input number found
+  pub has : (input : Input) → IsOf bytes stop input → HasAt limits mode input number found
 
 -- ---- the answer
 
 -- Two readers, by what they tell of their bytes, and by their counts.
-module _ {R S : Type 0} (source_a : Source R) (source_b : Source S) (limits : Limits)
+module _ {R S : Type 0} (source_a : Source R) (source_b : Source S) (limits : Limits) (mode : Mode)
     (old_a new_a : R) (old_b new_b : S) where
   -- The lines tell what each input has at the record.
   pub record TellsRecord (number : ℕ) (lines : List ℕ) : Type 0 where
     pub of_a : Option Sent
     pub of_b : Option Sent
-    pub read_a : HasRead source_a limits old_a new_a number of_a
-    pub read_b : HasRead source_b limits old_b new_b number of_b
+    pub read_a : HasRead source_a limits mode old_a new_a number of_a
+    pub read_b : HasRead source_b limits mode old_b new_b number of_b
     pub lines_are : lines ≡ diff_lines of_a of_b
 
   -- What `compare` may answer is answered; of a difference, the lines of its record too.
   abbrev pub TellsDifference : Result Diff CompareRefused → Type 0
   TellsDifference (Ok Same) = (renaming : _)
-      × Compares source_a source_b limits old_a new_a old_b new_b (Ok (verdict.Same renaming))
+      × Compares source_a source_b limits mode old_a new_a old_b new_b (Ok (verdict.Same renaming))
   TellsDifference (Ok (Differ number lines)) =
-      Compares source_a source_b limits old_a new_a old_b new_b (Ok (verdict.Differ number))
+      Compares source_a source_b limits mode old_a new_a old_b new_b (Ok (verdict.Differ number))
       × TellsRecord number lines.items
   TellsDifference (Err refused) =
-      Compares source_a source_b limits old_a new_a old_b new_b (Err refused)
+      Compares source_a source_b limits mode old_a new_a old_b new_b (Err refused)

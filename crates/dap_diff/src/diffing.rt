@@ -12,7 +12,7 @@ use dap_compare::{CompareRefused, Verdict, compare_texts_with};
 use dap_device::Source;
 use dap_input::Limits;
 use dap_normal::index_tables;
-use dap_rename::{NameTable, Tables};
+use dap_rename::{Mode, NameTable, Tables};
 use std::alloc::{AllocError, Global};
 
 /// The lines of the records that were left of A and of B.
@@ -49,6 +49,7 @@ pub fn diff<A: Source, B: Source>(
     reader_a: &mut A,
     reader_b: &mut B,
     limits: Limits,
+    mode: Mode,
 ) -> Result<Diff, CompareRefused>
     requires limits { AreSound limits }
     requires given_a { A.given reader_a.old < 2 ^ 62 }
@@ -58,7 +59,7 @@ pub fn diff<A: Source, B: Source>(
 
     // The one verdict on the two inputs is answered; where they differ, with the lines that tell
     // how.
-    ensures answer { TellsDifference A.Source B.Source limits reader_a.old reader_a.new
+    ensures answer { TellsDifference A.Source B.Source limits mode reader_a.old reader_a.new
         reader_b.old reader_b.new result }
 
     // It takes at most one byte past the limit of each.
@@ -72,6 +73,7 @@ pub fn diff<A: Source, B: Source>(
         limits,
         index_tables(alloc, limits),
         index_tables(alloc, limits),
+        mode,
     )
 }
 
@@ -88,6 +90,7 @@ pub fn diff_with<A: Source, B: Source, T: NameTable + Drop>(
     limits: Limits,
     tables_a: Tables<T>,
     tables_b: Tables<T>,
+    mode: Mode,
 ) -> Result<Diff, CompareRefused>
     requires limits { AreSound limits }
     requires tables_a { AreReady T.numbers T.limit limits tables_a }
@@ -98,7 +101,7 @@ pub fn diff_with<A: Source, B: Source, T: NameTable + Drop>(
     requires failures_b { B.failures reader_b.old < 2 ^ 62 }
 
     // What `diff` promises, whatever the tables are.
-    ensures answer { TellsDifference A.Source B.Source limits reader_a.old reader_a.new
+    ensures answer { TellsDifference A.Source B.Source limits mode reader_a.old reader_a.new
         reader_b.old reader_b.new result }
     ensures taken_a { A.given reader_a.new ≤ A.given reader_a.old + limits.input + 1 }
     ensures taken_b { B.given reader_b.new ≤ B.given reader_b.old + limits.input + 1 }
@@ -112,6 +115,7 @@ pub fn diff_with<A: Source, B: Source, T: NameTable + Drop>(
         limits,
         tables_a,
         tables_b,
+        mode,
         &mut text_a,
         &mut text_b,
     )?;

@@ -14,6 +14,7 @@ use Rattle.dap_input.specs.declared.limits.Limits.{Limits}
 use Rattle.dap_input.specs.Limits.{AreSound}
 use Rattle.dap_input.proofs.Outcomes.{one_list}
 use Rattle.dap_normal.specs.Accepting.{Held, Fits, text, AreMessages as AreTypedMessages}
+use Rattle.dap_rename.specs.declared.mode.Mode.{Mode}
 use Rattle.dap_normal.specs.Normalising.{Normalises}
 use Rattle.dap_normal.proofs.NormalFormLaws.{equal_texts_tell}
 use Rattle.dap_mask.specs.Ids.{leave_ids}
@@ -232,9 +233,10 @@ module _ (limits : Limits) (sound : AreSound limits) where
     -- ---- the normal form
 
     left_typed : (bytes : List ℕ) (messages : List Sent) → IsAccepted limits mask bytes messages
-        → (normal : List ℕ) (n : Normalises limits (text (left_of mask messages)) normal)
+        → (mode : Mode) (normal : List ℕ)
+        (n : Normalises limits mode (text (left_of mask messages)) normal)
         → AllZip IsTypedAs (left_of mask messages) n.messages
-    left_typed bytes messages accepted normal n =
+    left_typed bytes messages accepted mode normal n =
         let again = left_accepted bytes messages accepted in
         let typed = n.accepts in
         let same : typed.records ≡ again.records =
@@ -277,6 +279,6 @@ module _ (limits : Limits) (sound : AreSound limits) where
               λ agree. same_texts bytes others written other masks b agree,
             );
             typed = left_typed bytes messages accepted;
-            forms = λ others other normal also b n k.
-                equal_texts_tell limits sound written other normal also n k;
+            forms = λ mode others other normal also b n k.
+                equal_texts_tell limits mode sound written other normal also n k;
           }

@@ -2,7 +2,9 @@
 use Rattle.std.specs.Prelude.{◌≡◌, ◌↔◌, ℕ, List}
 use Rattle.std.specs.List.{AllZip}
 use Rattle.dap_message.specs.Message.{Sent, IsTyped}
-use Rattle.dap_rename.specs.Messages.{AreSame, in_whole}
+use Rattle.dap_rename.specs.Messages.{AreSame}
+use Rattle.dap_rename.specs.Modes.{stop_in}
+use Rattle.dap_rename.specs.declared.mode.Mode.{Mode}
 use Rattle.dap_mask.specs.Mask.{Mask}
 use Rattle.dap_mask.specs.Masked.{AgreeBut}
 use Rattle.dap_mask.specs.Promises.{IsMaskedAs}
@@ -43,11 +45,11 @@ pub record IsMaskedTo (limits : Limits) (mask : Mask) (bytes written : List ℕ)
   -- messages of the two agree one by one.
   pub equal : (others other : List ℕ) (b : Masks limits mask others other) → (written ≡ other)
       ↔ AllZip (Agree mask.changes) (kept mask masks.messages) (kept mask b.messages)
-  -- Where it is normalised, its messages are what is left, typed; and the normal form of another
-  -- one that is masked is equal exactly where a renaming carries the messages of the one to those
-  -- of the other.
-  pub typed : (normal : List ℕ) (n : Normalises limits written normal)
+  -- Where it is normalised, in whatever mode, its messages are what is left, typed; and the normal
+  -- form of another one that is masked is equal exactly where a renaming carries the messages of
+  -- the one to those of the other.
+  pub typed : (mode : Mode) (normal : List ℕ) (n : Normalises limits mode written normal)
       → AllZip IsTypedAs (left_of mask masks.messages) n.messages
-  pub forms : (others other normal also : List ℕ) → Masks limits mask others other
-      → (n : Normalises limits written normal) (k : Normalises limits other also) → (normal ≡ also)
-      ↔ AreSame in_whole n.messages k.messages
+  pub forms : (mode : Mode) (others other normal also : List ℕ) → Masks limits mask others other
+      → (n : Normalises limits mode written normal) (k : Normalises limits mode other also)
+      → (normal ≡ also) ↔ AreSame (stop_in mode) n.messages k.messages

@@ -7,7 +7,9 @@ use Rattle.dap_message.specs.Numbers.{is_proper}
 use Rattle.dap_message.proofs.Contents.{one_message, one_refusal, typed_not_refused, some_message}
 use Rattle.dap_message.proofs.Contents.{content_well_formed}
 use Rattle.dap_recording.specs.Recording.{IsRecording}
-use Rattle.dap_rename.specs.Messages.{AreProper, HasFewIds, HasTooManyIds, in_whole}
+use Rattle.dap_rename.specs.Messages.{AreProper, HasFewIds, HasTooManyIds}
+use Rattle.dap_rename.specs.Modes.{stop_in}
+use Rattle.dap_rename.specs.declared.mode.Mode.{Mode}
 use Rattle.dap_names.specs.Numbering.{table}
 use Rattle.dap_rename.proofs.NormalForms.{front_has_few_ids}
 use Rattle.dap_session.specs.declared.rule.Rule.{Rule}
@@ -42,26 +44,28 @@ messages_proper (held ∷ records) [] typed = absurd typed
 messages_proper (held ∷ records) (m ∷ messages) typed =
     (message_proper held m typed.0, messages_proper records messages typed.1)
 
-module _ (limits : Limits) where
+module _ (limits : Limits) (mode : Mode) where
   -- ---- one judgement
 
   broken_or_kept : (before : List Sent) (held : Held) (rule : Rule)
-      → Objects limits before held (broken rule) → (n : Sent) → IsMessage held n
+      → Objects limits mode before held (broken rule) → (n : Sent) → IsMessage held n
       → first_broken before n ≡ None → ⊥
   broken_or_kept before held rule breaks n is keeps =
       let never : None ≡ Some rule =
       sym keeps ∙ ap (first_broken before) (message_once held n breaks.0 is breaks.1)
       ∙ breaks.2 in cc
 
-  many_or_few : (before : List Sent) (held : Held) → Objects limits before held too_many_ids
-      → (n : Sent) → IsMessage held n → HasFewIds in_whole (id_limit limits) (before ++ n ∷ []) → ⊥
+  many_or_few : (before : List Sent) (held : Held) → Objects limits mode before held too_many_ids
+      → (n : Sent) → IsMessage held n → HasFewIds (stop_in mode) (id_limit limits) (before ++ n
+      ∷ []) → ⊥
   many_or_few before held many n is few =
-      few_not_many limits (before ++ n ∷ []) few
-      (subst (λ k. HasTooManyIds in_whole (id_limit limits) (before ++ k ∷ []))
+      few_not_many limits mode (before ++ n ∷ []) few
+      (subst (λ k. HasTooManyIds (stop_in mode) (id_limit limits) (before ++ k ∷ []))
       (message_once held many.0 n many.1 is) many.3)
 
   one_objection : (before : List Sent) (held : Held) (why because : Objection)
-      → Objects limits before held why → Objects limits before held because → why ≡ because
+      → Objects limits mode before held why → Objects limits mode before held because → why
+      ≡ because
   one_objection before held (no_message e) (no_message f) one two =
       ap no_message (one_refusal held.1 e f one two)
   one_objection before held (no_message e) (broken rule) one two =
@@ -99,7 +103,7 @@ module _ (limits : Limits) where
   one_objection before held grew grew one two = refl
 
   next_not_objected : (before : List Sent) (held : Held) (m : Sent) (why : Objection)
-      → IsNext limits before held m → Objects limits before held why → ⊥
+      → IsNext limits mode before held m → Objects limits mode before held why → ⊥
   next_not_objected before held m (no_message e) next objects =
       typed_not_refused held.0 held.1 m.doc e next.is_message.1 objects
   next_not_objected before held m (broken rule) next objects =
@@ -107,11 +111,11 @@ module _ (limits : Limits) where
   next_not_objected before held m too_many_ids next objects =
       many_or_few before held objects m next.is_message next.few
   next_not_objected before held m grew next objects =
-      fits_not_grown limits (before ++ m ∷ []) next.fits
-      (subst (λ k. HasGrown limits (before ++ k ∷ []))
+      fits_not_grown limits mode (before ++ m ∷ []) next.fits
+      (subst (λ k. HasGrown limits mode (before ++ k ∷ []))
       (message_once held objects.0 m objects.1 next.is_message) objects.4)
 
-  pub value_laws : ValueLaws (accepting limits)
+  pub value_laws : ValueLaws (accepting limits mode)
   value_laws = record {
     one_value = λ before held m n one two. message_once held m n one.is_message two.is_message;
     one_objection = one_objection;
@@ -121,7 +125,7 @@ module _ (limits : Limits) where
   -- ---- some judgement
 
   pub run_proper : (before messages : List Sent) (used : ℕ) (bytes : List ℕ)
-      → Run (accepting limits) before used bytes messages → AreProper messages
+      → Run (accepting limits mode) before used bytes messages → AreProper messages
   unfolding Run
   run_proper before [] used bytes run = tt
   run_proper before (m ∷ messages) used bytes (front, more, split, passes, run) = (
@@ -131,28 +135,29 @@ module _ (limits : Limits) where
 
   module _ (before : List Sent) (proper : AreProper before) (held : Held) where
     abbrev Judgement : Type 0
-    Judgement = ((m : Sent) × IsNext limits before held m)
-        ⊎ ((why : Objection) × Objects limits before held why)
+    Judgement = ((m : Sent) × IsNext limits mode before held m)
+        ⊎ ((why : Objection) × Objects limits mode before held why)
 
     judge_length : (m : Sent) → IsMessage held m → first_broken before m ≡ None
-        → HasFewIds in_whole (id_limit limits) (before ++ m ∷ [])
-        → NormalFits limits (before ++ m ∷ []) ⊎ HasGrown limits (before ++ m ∷ []) → Judgement
+        → HasFewIds (stop_in mode) (id_limit limits) (before ++ m ∷ [])
+        → NormalFits limits mode (before ++ m ∷ []) ⊎ HasGrown limits mode (before ++ m ∷ [])
+        → Judgement
     judge_length m is keeps few (inl fits) =
         inl (m, record { is_message = is; keeps = keeps; few = few; fits = fits })
     judge_length m is keeps few (inr grown) = inr (grew, (m, is, keeps, few, grown))
 
     judge_ids : (m : Sent) → IsMessage held m → first_broken before m ≡ None
-        → HasFewIds in_whole (id_limit limits) (before ++ m ∷ [])
-        ⊎ HasTooManyIds in_whole (id_limit limits) (before ++ m ∷ []) → Judgement
+        → HasFewIds (stop_in mode) (id_limit limits) (before ++ m ∷ [])
+        ⊎ HasTooManyIds (stop_in mode) (id_limit limits) (before ++ m ∷ []) → Judgement
     judge_ids m is keeps (inl few) =
         judge_length m is keeps few
-        (fits_or_grew limits (before ++ m ∷ [])
+        (fits_or_grew limits mode (before ++ m ∷ [])
         (proper_push before m proper (message_proper held m is)))
     judge_ids m is keeps (inr many) = inr (too_many_ids, (m, is, keeps, many))
 
     judge_rules : (m : Sent) → IsMessage held m → (o : Option Rule) → first_broken before m ≡ o
         → Judgement
-    judge_rules m is None keeps = judge_ids m is keeps (few_or_many limits (before ++ m ∷ []))
+    judge_rules m is None keeps = judge_ids m is keeps (few_or_many limits mode (before ++ m ∷ []))
     judge_rules m is (Some rule) breaks = inr (broken rule, (m, is, breaks))
 
     judge_held : Judgement
@@ -164,7 +169,7 @@ module _ (limits : Limits) where
           | inr refused ↦ inr (no_message refused.0, refused.1)
         ]
 
-  pub value_facts : ValueFacts (accepting limits)
+  pub value_facts : ValueFacts (accepting limits mode)
   value_facts =
       record {
         laws = value_laws;
@@ -175,13 +180,13 @@ module _ (limits : Limits) where
   -- ---- accepted recordings are runs
 
   abbrev Few : List Sent → Type 0
-  Few messages = HasFewIds in_whole (id_limit limits) messages
+  Few messages = HasFewIds (stop_in mode) (id_limit limits) messages
 
   run_of : (before messages : List Sent) (used : ℕ) (bytes : List ℕ) (records : List Held)
       → IsRecording limits.frame bytes records → AreMessages records messages
       → KeepsRules (before ++ messages) → Few (before ++ messages)
-      → NormalFits limits (before ++ messages) → AreProper (before ++ messages)
-      → used + length bytes ≤ limits.input → Run (accepting limits) before used bytes messages
+      → NormalFits limits mode (before ++ messages) → AreProper (before ++ messages)
+      → used + length bytes ≤ limits.input → Run (accepting limits mode) before used bytes messages
   unfolding Run
   run_of before [] used bytes [] recording typed keeps few fits proper short = recording
   run_of before (m ∷ messages) used bytes [] recording typed keeps few fits proper short =
@@ -193,7 +198,7 @@ module _ (limits : Limits) where
       let shift : before ++ m ∷ messages ≡ (before ++ m ∷ []) ++ messages =
       sym (append_assoc before (m ∷ []) messages) in
       let all_few = subst Few shift few in
-      let all_fit = subst (NormalFits limits) shift fits in
+      let all_fit = subst (NormalFits limits mode) shift fits in
       let all_proper = subst AreProper shift proper in (
         front,
         more,
@@ -204,8 +209,9 @@ module _ (limits : Limits) where
           is_next = record {
             is_message = is_message;
             keeps = keeps before messages m refl;
-            few = front_has_few_ids in_whole (id_limit limits) (before ++ m ∷ []) messages all_few;
-            fits = normal_fits_front limits (before ++ m ∷ []) messages all_proper all_fit;
+            few = front_has_few_ids (stop_in mode) (id_limit limits) (before ++ m ∷ []) messages
+                all_few;
+            fits = normal_fits_front limits mode (before ++ m ∷ []) messages all_proper all_fit;
           };
           in_time = omega (arith, ap length split, length-append front more);
         },
@@ -216,7 +222,7 @@ module _ (limits : Limits) where
 
   -- the records of a run, and that they hold its messages
   records_of : (before messages : List Sent) (used : ℕ) (bytes : List ℕ)
-      → Run (accepting limits) before used bytes messages
+      → Run (accepting limits mode) before used bytes messages
       → (records : List Held) × IsRecording limits.frame bytes records
       × AreMessages records messages
   unfolding Run
@@ -233,10 +239,10 @@ module _ (limits : Limits) where
   pub record Keeps (messages : List Sent) : Type 0 where
     pub rules : KeepsRules messages
     pub few : Few messages
-    pub fits : NormalFits limits messages
+    pub fits : NormalFits limits mode messages
 
   pub run_keeps : (before messages : List Sent) (used : ℕ) (bytes : List ℕ)
-      → Run (accepting limits) before used bytes messages → Keeps before
+      → Run (accepting limits mode) before used bytes messages → Keeps before
       → Keeps (before ++ messages)
   unfolding Run
   run_keeps before [] used bytes run keeps = subst Keeps (sym (append-nil before)) keeps
@@ -256,11 +262,11 @@ module _ (limits : Limits) where
       record {
         rules = none_keep;
         few = λ c. omega arith;
-        fits = normal_fits limits [] [] tt (normal [] tt)
+        fits = normal_fits limits mode [] [] tt (normal mode [] tt)
             (record { each = tt; whole = omega arith });
       }
 
-  pub accepted_facts : AcceptedFacts (accepting limits)
+  pub accepted_facts : AcceptedFacts (accepting limits mode)
   accepted_facts = record {
     run_of_accepted = λ bytes messages accepted.
         run_of [] messages 0 bytes accepted.records accepted.recording accepted.typed accepted.rules
@@ -271,7 +277,7 @@ module _ (limits : Limits) where
         let records = records_of [] messages 0 bytes run in
         let keeps = run_keeps [] messages 0 bytes run none_keeps in
         record {
-          short = run_within (accepting limits) bytes messages run;
+          short = run_within (accepting limits mode) bytes messages run;
           records = records.0;
           recording = records.1;
           typed = records.2;

@@ -7,11 +7,11 @@ use Rattle.dap_tree.specs.Json.{text_of}
 use Rattle.dap_tree.specs.declared.sort.Sort.{Sort}
 use Rattle.dap_message.specs.Message.{Sent}
 use Rattle.dap_rename.specs.Messages.{AreProper, HasFewIds, HasTooManyIds, IsNormal, IsRenamed}
-use Rattle.dap_rename.specs.Messages.{in_whole, numbers_of_class}
+use Rattle.dap_rename.specs.Messages.{numbers_of_class}
 use Rattle.dap_rename.specs.Modes.{stop_in}
-use Rattle.dap_rename.specs.Names.{StandFor, limit_in, mode_of}
-use Rattle.dap_rename.specs.declared.mode.Mode.TheVariants.{Whole}
-use Rattle.dap_rename.proofs.NormalForms.{normal_of_next, whole_is_told}
+use Rattle.dap_rename.specs.Names.{StandFor, limit_in}
+use Rattle.dap_rename.proofs.NormalForms.{normal_of_next}
+use Rattle.dap_rename.proofs.Stops.{mode_is_told}
 use Rattle.dap_rename.proofs.Lists.{each-append}
 use Rattle.dap_session.specs.Rules.{first_broken}
 use Rattle.dap_session.specs.Standing.{Stands}
@@ -22,7 +22,7 @@ use Rattle.dap_input.specs.declared.refused.Refused.TheVariants.{Grew, Memory}
 use Rattle.dap_input.specs.Judging.{grew, too_many_ids}
 use Rattle.dap_input.specs.Refusals.{RefusesHeld}
 use Rattle.dap_normal.specs.Accepting.{Held, Fits, IsMessage, IsNext, Objects, id_limit, text}
-use Rattle.dap_normal.specs.JudgingSteps.{IsTaken, StandsFor, Writes, record_of}
+use Rattle.dap_normal.specs.JudgingSteps.{IsTaken, StandsFor, Writes, judge_mode, record_of}
 use Rattle.dap_normal.proofs.AcceptingFacts.{message_proper}
 use Rattle.dap_normal.proofs.NormalTexts.{normal, normal_fits, proper_push, text-append}
 
@@ -34,16 +34,14 @@ text_push messages m =
 -- No message has been judged.
 pub none_stand : {T : Type 0} {numbers : T → List ℤ} {table_limit : T → ℕ} (judge : Judge T)
     → Stands judge.session [] → StandFor numbers table_limit judge.names []
-    → mode_of judge.names ≡ Whole
     → ((s : Sort) → limit_in table_limit judge.names s ≡ judge.limits.ids) → judge.written ≡ 0
     → StandsFor numbers table_limit judge [] []
-none_stand judge session stand mode limits written = record {
+none_stand judge session stand limits written = record {
   session = session;
   names = stand;
-  mode = mode;
   name_limits = limits;
   proper = tt;
-  is_normal = normal [] tt;
+  is_normal = normal (judge_mode judge) [] tt;
   fits = record { each = tt; whole = omega arith };
   written = written;
 }
@@ -54,29 +52,25 @@ module _ {T : Type 0} {numbers : T → List ℤ} {table_limit : T
     (is : IsMessage held m) (keeps : first_broken messages m ≡ None) where
   -- more ids than the tables take
   pub objects_to_ids :
-      HasTooManyIds (stop_in (mode_of old.names)) (limit_in table_limit old.names) (messages ++ m
-      ∷ []) → Objects old.limits messages held too_many_ids
-  objects_to_ids found =
-      let many = subst (λ mode. HasTooManyIds (stop_in mode) (limit_in table_limit old.names)
-      (messages ++ m ∷ [])) was.mode found in
+      HasTooManyIds (stop_in (judge_mode old)) (limit_in table_limit old.names) (messages ++ m
+      ∷ []) → Objects old.limits (judge_mode old) messages held too_many_ids
+  objects_to_ids many =
       let limit = was.name_limits many.of.0 in
       let more = many.many in
       (m, is, keeps, record { of = many.of; many = omega (arith, limit, more) })
 
-  module _ (few : HasFewIds (stop_in (mode_of old.names)) (limit_in table_limit old.names)
+  module _ (few : HasFewIds (stop_in (judge_mode old)) (limit_in table_limit old.names)
       (messages ++ m ∷ []))
-      (named : Sent) (renamed : IsRenamed (stop_in (mode_of old.names)) messages m named) where
-    few_ids : HasFewIds in_whole (id_limit old.limits) (messages ++ m ∷ [])
+      (named : Sent) (renamed : IsRenamed (stop_in (judge_mode old)) messages m named) where
+    few_ids : HasFewIds (stop_in (judge_mode old)) (id_limit old.limits) (messages ++ m ∷ [])
     few_ids c =
-        subst (λ limit. length (numbers_of_class in_whole c (messages ++ m ∷ []))
-        ≤ limit) (was.name_limits c.0)
-        (subst (λ mode. HasFewIds (stop_in mode) (limit_in table_limit old.names)
-        (messages ++ m ∷ [])) was.mode few c)
+        subst (λ limit. length (numbers_of_class (stop_in (judge_mode old)) c (messages ++ m ∷ []))
+        ≤ limit) (was.name_limits c.0) (few c)
 
-    next_normal : IsNormal in_whole (messages ++ m ∷ []) (names ++ named ∷ [])
+    next_normal : IsNormal (stop_in (judge_mode old)) (messages ++ m ∷ []) (names ++ named ∷ [])
     next_normal =
-        normal_of_next in_whole whole_is_told messages names m named (message_proper held m is)
-        was.is_normal (subst (λ mode. IsRenamed (stop_in mode) messages m named) was.mode renamed)
+        normal_of_next (stop_in (judge_mode old)) (mode_is_told (judge_mode old)) messages names m
+        named (message_proper held m is) was.is_normal renamed
 
     next_length : length (text (names ++ named ∷ [])) ≡ old.written + length (record_of named)
     next_length = let before =
@@ -90,7 +84,7 @@ module _ {T : Type 0} {numbers : T → List ℤ} {table_limit : T
     -- the content or the text would pass its limit
     pub objects_to_length : (old.limits.frame.content < length (text_of named.doc))
         ⊎ (old.limits.input < old.written + length (record_of named))
-        → Objects old.limits messages held grew
+        → Objects old.limits (judge_mode old) messages held grew
     objects_to_length long = (
       m,
       is,
@@ -116,7 +110,7 @@ module _ {T : Type 0} {numbers : T → List ℤ} {table_limit : T
     -- the record of the renamed message is not written
     pub refused_to_write : (because : Refused) (n : ℕ) (before after : List ℕ)
         → Writes old.limits named n old.written before after (Err because)
-        → RefusesHeld (Objects old.limits messages held) n because
+        → RefusesHeld (Objects old.limits (judge_mode old) messages held) n because
     refused_to_write (Grew k) n before after told = (told.0, objects_to_length told.1)
     refused_to_write Memory n before after told = tt
     refused_to_write because n before after told = absurd told
@@ -128,7 +122,7 @@ module _ {T : Type 0} {numbers : T → List ℤ} {table_limit : T
         → new.limits ≡ old.limits
         → Stands new.session (messages ++ m ∷ [])
         → StandFor numbers table_limit new.names (messages ++ m ∷ [])
-        → mode_of new.names ≡ mode_of old.names
+        → judge_mode new ≡ judge_mode old
         → ((s : Sort) → limit_in table_limit new.names s ≡ limit_in table_limit old.names s)
         → IsTaken numbers table_limit messages names held new before after
     taken new before after content appended written short limits session stand mode name_limits =
@@ -141,23 +135,24 @@ module _ {T : Type 0} {numbers : T → List ℤ} {table_limit : T
         proper_push messages m was.proper (message_proper held m is) in
         record {
           message = m;
-          is_next = subst (λ l. IsNext l messages held m) (sym limits)
+          is_next = subst (λ l. IsNext l (judge_mode new) messages held m) (sym limits)
+              (subst (λ k. IsNext old.limits k messages held m) (sym mode)
               (record {
                 is_message = is;
                 keeps = keeps;
                 few = few_ids;
-                fits = normal_fits old.limits (messages ++ m ∷ []) (names ++ named ∷ []) proper
-                    next_normal fits;
-              });
+                fits = normal_fits old.limits (judge_mode old) (messages ++ m ∷ [])
+                    (names ++ named ∷ []) proper next_normal fits;
+              }));
           named = named;
           stands = record {
             session = session;
             names = stand;
-            mode = mode ∙ was.mode;
             name_limits =
                 λ s. name_limits s ∙ was.name_limits s ∙ ap (λ (l : Limits). l.ids) (sym limits);
             proper = proper;
-            is_normal = next_normal;
+            is_normal = subst (λ k. IsNormal (stop_in k) (messages ++ m ∷ [])
+                (names ++ named ∷ [])) (sym mode) next_normal;
             fits = subst (λ l. Fits l (names ++ named ∷ [])) (sym limits) fits;
             written = written ∙ sym next_length;
           };

@@ -5,6 +5,7 @@ pub mod NormalRecordSteps
 pub mod NormalTexts
 pub mod NormalFormLaws
 pub mod OldGoldenFiles
+pub mod WholeGoldenFiles
 pub mod StreamAnswers
 pub mod StreamLoop
 pub mod StreamWriting

@@ -15,6 +15,7 @@ use Rattle.dap_input.specs.InputSteps.{Says}
 use Rattle.dap_input.specs.ItemReading.{StandsForRecord, record_items}
 use Rattle.dap_input.specs.RecordSteps.{IsAtStart, IsNeeded, ReadsNext}
 use Rattle.dap_input.specs.Refusals.{RefusesHeld}
+use Rattle.dap_rename.specs.declared.mode.Mode.{Mode}
 use Rattle.dap_input.specs.declared.limits.Limits.{Limits}
 use Rattle.dap_input.specs.declared.records.Records.{Records}
 use Rattle.dap_input.specs.declared.refused.Refused.{Refused}
@@ -26,15 +27,17 @@ use Rattle.dap_normal.specs.declared.judging.Judge.{Judge}
 use Rattle.dap_normal.specs.declared.normal_records.NormalRecords.{NormalRecords}
 use Rattle.dap_normal.specs.Accepting.{Objects, IsNext, accepting}
 use Rattle.dap_normal.specs.JudgingSteps.{JudgesRecord, StandsFor, held_of, judge_limits}
+use Rattle.dap_normal.specs.JudgingSteps.{judge_mode}
 use Rattle.dap_normal.specs.NormalSteps.{HasEnded, HasGone, HasStoppedAt, IsAtHand, StandsBefore}
 use Rattle.dap_normal.proofs.AcceptingFacts.{accepted_facts, value_laws}
 
 -- A reader of records gives the records that are judged.
-reads_records : (limits : Limits) → ReadsAs (accepting limits) (record_items limits.frame) held_of
-reads_records limits = record {
+reads_records : (limits : Limits) (mode : Mode) → ReadsAs (accepting limits mode) (record_items
+    limits.frame) held_of
+reads_records limits mode = record {
   records = readable limits.frame;
-  judged = value_laws limits;
-  accepted = accepted_facts limits;
+  judged = value_laws limits mode;
+  accepted = accepted_facts limits mode;
   item_of = λ bytes whole is. is;
   fault_of = λ bytes cause ends. ends;
   open_of = λ bytes is_open. is_open;
@@ -42,43 +45,49 @@ reads_records limits = record {
 
 -- Where the judging of an input stands before the next record, with what its judge stands for.
 before_of : {T : Type 0} {numbers : T → List ℤ} {table_limit : T
-    → ℕ} (limits : Limits) (bytes : List ℕ) (records : NormalRecords T)
+    → ℕ} (limits : Limits) (mode : Mode) (bytes : List ℕ) (records : NormalRecords T)
     (messages normal : List Sent)
-    → StandsBehind (accepting limits) (StandsForRecord limits.frame) bytes records.records messages
+    → StandsBehind (accepting limits mode) (StandsForRecord limits.frame) bytes records.records
+    messages
     → StandsFor numbers table_limit records.judge messages normal
-    → judge_limits records.judge ≡ limits
-    → StandsBefore numbers table_limit limits bytes records messages normal
-before_of limits bytes records messages normal behind stands judge_limits_are = record {
-  front = behind.front;
-  accepted = behind.accepted;
-  came = behind.came;
-  taken = behind.taken;
-  limit_is = behind.limit_is;
-  between = behind.between;
-  number_is = behind.number_is;
-  few = behind.few;
-  read_to = behind.read_to;
-  stands = stands;
-  judge_limits_are = judge_limits_are;
-}
+    → judge_limits records.judge ≡ limits → judge_mode records.judge ≡ mode
+    → StandsBefore numbers table_limit limits mode bytes records messages normal
+before_of limits mode bytes records messages normal behind stands judge_limits_are judge_mode_is =
+    record {
+      front = behind.front;
+      accepted = behind.accepted;
+      came = behind.came;
+      taken = behind.taken;
+      limit_is = behind.limit_is;
+      between = behind.between;
+      number_is = behind.number_is;
+      few = behind.few;
+      read_to = behind.read_to;
+      stands = stands;
+      judge_limits_are = judge_limits_are;
+      judge_mode_is = judge_mode_is;
+    }
 
 -- Nothing of the input has been read.
 pub none_read : {T : Type 0} {numbers : T → List ℤ} {table_limit : T
-    → ℕ} (limits : Limits) (new : NormalRecords T)
+    → ℕ} (limits : Limits) (mode : Mode) (new : NormalRecords T)
     → IsAtStart (StandsForRecord limits.frame) limits.input new.records
     → StandsFor numbers table_limit new.judge [] [] → judge_limits new.judge ≡ limits
-    → StandsBefore numbers table_limit limits [] new [] []
-none_read limits new start stands judge_limits_are =
-    before_of limits [] new [] []
-    (loop.none_read (accepting limits) (StandsForRecord limits.frame) new.records
-    (accepted_facts limits) start)
-    stands judge_limits_are
+    → judge_mode new.judge ≡ mode
+    → StandsBefore numbers table_limit limits mode [] new [] []
+none_read limits mode new start stands judge_limits_are judge_mode_is =
+    before_of limits mode [] new [] []
+    (loop.none_read (accepting limits mode) (StandsForRecord limits.frame) new.records
+    (accepted_facts limits mode) start)
+    stands judge_limits_are judge_mode_is
 
 module _ {T R : Type 0} {numbers : T → List ℤ} {table_limit : T → ℕ} (source : Source R)
-    (limits : Limits) (bytes : List ℕ) (old : NormalRecords T) (messages normal : List Sent)
-    (was : StandsBefore numbers table_limit limits bytes old messages normal)
+    (limits : Limits) (mode : Mode) (bytes : List ℕ) (old : NormalRecords T) (messages normal : List
+    Sent)
+    (was : StandsBefore numbers table_limit limits mode bytes old messages normal)
     (new : Records RecordReading) (before after : R) where
-  behind : StandsBehind (accepting limits) (StandsForRecord limits.frame) bytes old.records messages
+  behind : StandsBehind (accepting limits mode) (StandsForRecord limits.frame) bytes old.records
+      messages
   behind = record {
     front = was.front;
     accepted = was.accepted;
@@ -97,19 +106,19 @@ module _ {T R : Type 0} {numbers : T → List ℤ} {table_limit : T → ℕ} (so
 
   stopped_for : (judge : Judge T) (answer : Result (Option WholeRecord) Refused)
       (read : Reads answer) (because : Refused)
-      → Says (accepting limits) (bytes ++ read.more) read.stop old.records.number because
+      → Says (accepting limits mode) (bytes ++ read.more) read.stop old.records.number because
       × ((n : ℕ) → because ≡ Record n Cut → read.stop ≡ Some End)
-      → HasStoppedAt numbers table_limit source limits bytes messages normal old record
+      → HasStoppedAt numbers table_limit source limits mode bytes messages normal old record
       { records = new; judge = judge } before after because
   stopped_for judge answer read because told = record {
     more = read.more;
     stop = read.stop;
     came = read.came;
-    within = steps.at_most (accepting limits) (record_items limits.frame) held_of
-        (reads_records limits) (StandsForRecord limits.frame) source bytes old.records
+    within = steps.at_most (accepting limits mode) (record_items limits.frame) held_of
+        (reads_records limits mode) (StandsForRecord limits.frame) source bytes old.records
         messages behind new before after answer read;
-    read_to = steps.read_to (accepting limits) (record_items limits.frame) held_of
-        (reads_records limits) (StandsForRecord limits.frame) source bytes old.records
+    read_to = steps.read_to (accepting limits mode) (record_items limits.frame) held_of
+        (reads_records limits mode) (StandsForRecord limits.frame) source bytes old.records
         messages behind new before after answer read;
     says = told.0;
     cut = told.1;
@@ -140,27 +149,27 @@ module _ {T R : Type 0} {numbers : T → List ℤ} {table_limit : T → ℕ} (so
   -- ---- no record has come
 
   pub refused_read : (because : Refused) → Reads (Err because)
-      → HasStoppedAt numbers table_limit source limits bytes messages normal old record
+      → HasStoppedAt numbers table_limit source limits mode bytes messages normal old record
       { records = new; judge = old.judge } before after because
   refused_read because read =
       stopped_for old.judge (Err because) read because
-      (steps.refused_read (accepting limits) (record_items limits.frame) held_of
-      (reads_records limits) (StandsForRecord limits.frame) source bytes old.records
+      (steps.refused_read (accepting limits mode) (record_items limits.frame) held_of
+      (reads_records limits mode) (StandsForRecord limits.frame) source bytes old.records
       messages behind new before after because read)
 
   pub none_left : (text : List ℕ) → Reads (Ok None)
-      → HasEnded numbers table_limit source limits bytes messages normal old record
+      → HasEnded numbers table_limit source limits mode bytes messages normal old record
       { records = new; judge = old.judge } before after text text
   none_left text read =
-      let end = steps.none_left (accepting limits) (record_items limits.frame) held_of
-      (reads_records limits) (StandsForRecord limits.frame) source bytes old.records
+      let end = steps.none_left (accepting limits mode) (record_items limits.frame) held_of
+      (reads_records limits mode) (StandsForRecord limits.frame) source bytes old.records
       messages behind new before after read in
       record {
         more = read.more;
         came = subst (HasComeSoFar source before after read.more) end.0 read.came;
         accepted = end.1;
-        read_to = steps.read_to (accepting limits) (record_items limits.frame) held_of
-            (reads_records limits) (StandsForRecord limits.frame) source bytes
+        read_to = steps.read_to (accepting limits mode) (record_items limits.frame) held_of
+            (reads_records limits mode) (StandsForRecord limits.frame) source bytes
             old.records messages behind new before after (Ok None) read;
         judge_is = refl;
         number_is = end.2;
@@ -177,27 +186,34 @@ module _ {T R : Type 0} {numbers : T → List ℤ} {table_limit : T → ℕ} (so
         text longer answer
 
     pub refused_judge : (because : Refused) → Judged (Err because)
-        → HasStoppedAt numbers table_limit source limits bytes messages normal old
+        → HasStoppedAt numbers table_limit source limits mode bytes messages normal old
         record { records = new; judge = judge } before after because
     refused_judge because judged =
         stopped_for judge (Ok (Some whole)) read because
-        (steps.refused_held (accepting limits) (record_items limits.frame) held_of
-        (reads_records limits) (StandsForRecord limits.frame) source bytes old.records
+        (steps.refused_held (accepting limits mode) (record_items limits.frame) held_of
+        (reads_records limits mode) (StandsForRecord limits.frame) source bytes old.records
         messages behind new before after whole read because
-        (subst (λ l. RefusesHeld (Objects l messages (held_of whole)) old.records.number because)
-        was.judge_limits_are (judged messages normal was.stands)))
+        (subst (λ l. RefusesHeld (Objects l mode messages (held_of whole)) old.records.number
+        because)
+        was.judge_limits_are
+        (subst (λ k. RefusesHeld (Objects (judge_limits old.judge) k messages (held_of whole))
+        old.records.number because) was.judge_mode_is (judged messages normal was.stands))))
 
     -- the record is accepted
-    pub gone_on : judge_limits judge ≡ judge_limits old.judge → Judged (Ok tt)
-        → HasGone numbers table_limit source limits bytes messages normal old record
+    pub gone_on : judge_limits judge ≡ judge_limits old.judge
+        → judge_mode judge ≡ judge_mode old.judge → Judged (Ok tt)
+        → HasGone numbers table_limit source limits mode bytes messages normal old record
         { records = new; judge = judge } before after text longer
-    gone_on same_judge judged =
+    gone_on same_limits same_mode judged =
         let added = judged messages normal was.stands in
-        let limits_are = same_judge ∙ was.judge_limits_are in
+        let limits_are = same_limits ∙ was.judge_limits_are in
+        let mode_is = same_mode ∙ was.judge_mode_is in
         let is_next =
-        subst (λ l. IsNext l messages (held_of whole) added.message) limits_are added.is_next in
-        let next = steps.gone_on (accepting limits) (record_items limits.frame) held_of
-        (reads_records limits) (StandsForRecord limits.frame) source bytes old.records
+        subst (λ l. IsNext l mode messages (held_of whole) added.message) limits_are
+        (subst (λ k. IsNext (judge_limits judge) k messages (held_of whole) added.message) mode_is
+        added.is_next) in
+        let next = steps.gone_on (accepting limits mode) (record_items limits.frame) held_of
+        (reads_records limits mode) (StandsForRecord limits.frame) source bytes old.records
         messages behind new before after whole read added.message is_next in
         record {
           more = read.more;
@@ -205,14 +221,17 @@ module _ {T R : Type 0} {numbers : T → List ℤ} {table_limit : T → ℕ} (so
               read.came;
           message = added.message;
           named = added.named;
-          stands = before_of limits (bytes ++ read.more) record { records = new; judge = judge }
+          stands = before_of limits mode (bytes ++ read.more) record {
+            records = new;
+            judge = judge;
+          }
               (messages ++ added.message ∷ []) (normal ++ added.named ∷ []) next added.stands
-              limits_are;
-          read_to = steps.read_to (accepting limits) (record_items limits.frame) held_of
-              (reads_records limits) (StandsForRecord limits.frame) source bytes
+              limits_are mode_is;
+          read_to = steps.read_to (accepting limits mode) (record_items limits.frame) held_of
+              (reads_records limits mode) (StandsForRecord limits.frame) source bytes
               old.records messages behind new before after (Ok (Some whole)) read;
-          shorter = steps.shorter (accepting limits) (record_items limits.frame) held_of
-              (reads_records limits) (StandsForRecord limits.frame) source bytes
+          shorter = steps.shorter (accepting limits mode) (record_items limits.frame) held_of
+              (reads_records limits mode) (StandsForRecord limits.frame) source bytes
               old.records messages behind new before after whole read;
           appended = added.appended;
         }

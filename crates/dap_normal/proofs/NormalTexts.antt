@@ -11,14 +11,17 @@ use Rattle.dap_recording.specs.Recording.{record_text}
 use Rattle.dap_names.specs.Numbering.{numbers, table}
 use Rattle.dap_rename.specs.Renamings.{IsIn}
 use Rattle.dap_rename.specs.Messages.{Class, AreProper, HasFewIds, HasTooManyIds, IsNormal}
-use Rattle.dap_rename.specs.Messages.{in_whole, normal_of, numbers_of_class, occurrences}
+use Rattle.dap_rename.specs.Messages.{normal_of, numbers_of_class, occurrences}
 use Rattle.dap_rename.specs.Messages.{all_classes, same_class, stops_after}
+use Rattle.dap_rename.specs.Modes.{stop_in}
+use Rattle.dap_rename.specs.declared.mode.Mode.{Mode}
 use Rattle.dap_names.proofs.Additions.{by_bool}
 use Rattle.dap_rename.proofs.Lists.{at_each, each-append, each_left}
 use Rattle.dap_rename.proofs.Occurrences.{class_decides}
 use Rattle.dap_rename.proofs.Classes.{all_reached}
 use Rattle.dap_rename.proofs.Sameness.{in_any, normal_is_unique, same_as_itself}
-use Rattle.dap_rename.proofs.NormalForms.{normal_of_front, some_normal, whole_is_told}
+use Rattle.dap_rename.proofs.NormalForms.{normal_of_front, some_normal}
+use Rattle.dap_rename.proofs.Stops.{mode_is_told}
 use Rattle.dap_input.specs.declared.limits.Limits.{Limits}
 use Rattle.dap_normal.specs.Accepting.{text, Fits, NormalFits, HasGrown, id_limit}
 
@@ -44,48 +47,48 @@ no_numbers cs c (o ∷ os) all none =
         by_bool (same_class c d) (λ yes. absurd (let clash : true ≡ false = rw yes at none in cc))
         (λ no. not_among c cs among (rw no at none))
 
-module _ (limits : Limits) (messages : List Sent) where
+module _ (limits : Limits) (mode : Mode) (messages : List Sent) where
   abbrev IsFew : Class → Type 0
-  IsFew c = length (numbers_of_class in_whole c messages) ≤ limits.ids
+  IsFew c = length (numbers_of_class (stop_in mode) c messages) ≤ limits.ids
 
   each_few : (cs : List Class)
-      → AllByRecursion IsFew cs ⊎ HasTooManyIds in_whole (id_limit limits) messages
+      → AllByRecursion IsFew cs ⊎ HasTooManyIds (stop_in mode) (id_limit limits) messages
   each_few [] = inl tt
   each_few (c ∷ cs) =
-      both (cases_lt limits.ids (length (numbers_of_class in_whole c messages))) (each_few cs)
+      both (cases_lt limits.ids (length (numbers_of_class (stop_in mode) c messages))) (each_few cs)
     where
-      both : (limits.ids < length (numbers_of_class in_whole c messages)) ⊎ IsFew c
-          → AllByRecursion IsFew cs ⊎ HasTooManyIds in_whole (id_limit limits) messages
-          → AllByRecursion IsFew (c ∷ cs) ⊎ HasTooManyIds in_whole (id_limit limits) messages
+      both : (limits.ids < length (numbers_of_class (stop_in mode) c messages)) ⊎ IsFew c
+          → AllByRecursion IsFew cs ⊎ HasTooManyIds (stop_in mode) (id_limit limits) messages
+          → AllByRecursion IsFew (c ∷ cs) ⊎ HasTooManyIds (stop_in mode) (id_limit limits) messages
       both (inl many) rest = inr (record { of = c; many = many })
       both (inr few) (inl rest) = inl (few, rest)
       both (inr few) (inr many) = inr many
 
   -- the classes that there are
   abbrev classes : List Class
-  classes = all_classes (stops_after in_whole 0 messages)
+  classes = all_classes (stops_after (stop_in mode) 0 messages)
 
-  few_of_each : AllByRecursion IsFew classes → HasFewIds in_whole (id_limit limits) messages
+  few_of_each : AllByRecursion IsFew classes → HasFewIds (stop_in mode) (id_limit limits) messages
   unfolding table
   few_of_each each c =
       by_bool (list_any (same_class c) classes)
       (λ among. at_each IsFew c classes each (in_any c classes among))
-      (λ none. let empty = no_numbers classes c (occurrences in_whole 0 messages)
-      (all_reached in_whole messages) none in rw empty (omega arith))
+      (λ none. let empty = no_numbers classes c (occurrences (stop_in mode) 0 messages)
+      (all_reached (stop_in mode) messages) none in rw empty (omega arith))
 
-  pub few_or_many : HasFewIds in_whole (id_limit limits) messages
-      ⊎ HasTooManyIds in_whole (id_limit limits) messages
+  pub few_or_many : HasFewIds (stop_in mode) (id_limit limits) messages
+      ⊎ HasTooManyIds (stop_in mode) (id_limit limits) messages
   few_or_many = decide (each_few classes)
     where
       decide : AllByRecursion IsFew classes
-          ⊎ HasTooManyIds in_whole (id_limit limits) messages
-          → HasFewIds in_whole (id_limit limits) messages
-          ⊎ HasTooManyIds in_whole (id_limit limits) messages
+          ⊎ HasTooManyIds (stop_in mode) (id_limit limits) messages
+          → HasFewIds (stop_in mode) (id_limit limits) messages
+          ⊎ HasTooManyIds (stop_in mode) (id_limit limits) messages
       decide (inl each) = inl (few_of_each each)
       decide (inr many) = inr many
 
-  pub few_not_many : HasFewIds in_whole (id_limit limits) messages
-      → HasTooManyIds in_whole (id_limit limits) messages → ⊥
+  pub few_not_many : HasFewIds (stop_in mode) (id_limit limits) messages
+      → HasTooManyIds (stop_in mode) (id_limit limits) messages → ⊥
   few_not_many few many = let at_most = few many.of in let more = many.many in omega arith
 
 -- ---- texts
@@ -139,14 +142,16 @@ module _ (limits : Limits) where
 
 -- ---- the one normal form
 
-pub normal : (messages : List Sent) → AreProper messages
-    → IsNormal in_whole messages (normal_of in_whole messages)
-normal messages proper = some_normal in_whole whole_is_told messages proper
+pub normal : (mode : Mode) (messages : List Sent) → AreProper messages
+    → IsNormal (stop_in mode) messages (normal_of (stop_in mode) messages)
+normal mode messages proper = some_normal (stop_in mode) (mode_is_told mode) messages proper
 
-pub one_normal : (messages n k : List Sent) → AreProper messages → IsNormal in_whole messages n
-    → IsNormal in_whole messages k → n ≡ k
-one_normal messages n k proper is_n is_k =
-    normal_is_unique in_whole messages messages n k (same_as_itself in_whole messages proper) is_n
+pub one_normal : (mode : Mode) (messages n k : List Sent) → AreProper messages → IsNormal (stop_in
+    mode) messages n
+    → IsNormal (stop_in mode) messages k → n ≡ k
+one_normal mode messages n k proper is_n is_k =
+    normal_is_unique (stop_in mode) messages messages n k (same_as_itself (stop_in mode) messages
+    proper) is_n
     is_k
 
 pub proper_push : (messages : List Sent) (m : Sent) → AreProper messages → is_proper m.doc ≡ true
@@ -157,35 +162,36 @@ proper_push messages m all proper =
 pub proper_front : (messages more : List Sent) → AreProper (messages ++ more) → AreProper messages
 proper_front messages more all = each_left (λ (n : Sent). is_proper n.doc ≡ true) messages more all
 
-module _ (limits : Limits) where
+module _ (limits : Limits) (mode : Mode) where
   -- One normal form that fits is all that fit.
-  pub normal_fits : (messages n : List Sent) → AreProper messages → IsNormal in_whole messages n
-      → Fits limits n → NormalFits limits messages
+  pub normal_fits : (messages n : List Sent) → AreProper messages → IsNormal (stop_in mode) messages
+      n
+      → Fits limits n → NormalFits limits mode messages
   normal_fits messages n proper is_n fits =
-      λ k is_k. subst (Fits limits) (one_normal messages n k proper is_n is_k) fits
+      λ k is_k. subst (Fits limits) (one_normal mode messages n k proper is_n is_k) fits
 
   pub normal_fits_front : (messages more : List Sent) → AreProper (messages ++ more)
-      → NormalFits limits (messages ++ more) → NormalFits limits messages
+      → NormalFits limits mode (messages ++ more) → NormalFits limits mode messages
   normal_fits_front messages more proper fits =
-      let all : List Sent = normal_of in_whole (messages ++ more) in
-      let is_all = normal (messages ++ more) proper in
-      let begins = normal_of_front in_whole whole_is_told messages more all is_all in
+      let all : List Sent = normal_of (stop_in mode) (messages ++ more) in
+      let is_all = normal mode (messages ++ more) proper in
+      let begins = normal_of_front (stop_in mode) (mode_is_told mode) messages more all is_all in
       normal_fits messages begins.0 (proper_front messages more proper) begins.3
       (fits_front limits begins.0 begins.1 (subst (Fits limits) begins.2 (fits all is_all)))
 
   pub fits_or_grew : (messages : List Sent) → AreProper messages
-      → NormalFits limits messages ⊎ HasGrown limits messages
+      → NormalFits limits mode messages ⊎ HasGrown limits mode messages
   fits_or_grew messages proper = decide (fits_or_not limits n)
     where
       n : List Sent
-      n = normal_of in_whole messages
+      n = normal_of (stop_in mode) messages
 
       decide : Fits limits n ⊎ (Fits limits n → ⊥)
-          → NormalFits limits messages ⊎ HasGrown limits messages
-      decide (inl fits) = inl (normal_fits messages n proper (normal messages proper) fits)
+          → NormalFits limits mode messages ⊎ HasGrown limits mode messages
+      decide (inl fits) = inl (normal_fits messages n proper (normal mode messages proper) fits)
       decide (inr grown) =
-          inr (record { normal = n; is_normal = normal messages proper; too_long = grown })
+          inr (record { normal = n; is_normal = normal mode messages proper; too_long = grown })
 
-  pub fits_not_grown : (messages : List Sent) → NormalFits limits messages
-      → HasGrown limits messages → ⊥
+  pub fits_not_grown : (messages : List Sent) → NormalFits limits mode messages
+      → HasGrown limits mode messages → ⊥
   fits_not_grown messages fits grown = grown.too_long (fits grown.normal grown.is_normal)

@@ -1,19 +1,18 @@
 -- An old golden file is accepted, and its messages are those of its recording with other numbers at
 -- the ids of the first rows.
-use Rattle.std.proofs.Common.{◌≡◌, ℕ, true, List, [], ◌∷◌, length, map, refl, sym, ◌∙◌, ap, ap₂, subst}
+use Rattle.std.proofs.Common.{◌≡◌, ℕ, true, List, [], ◌∷◌, map, refl, sym, ◌∙◌, ap, ap₂, subst}
 use Rattle.std.proofs.Common.{arith}
 use Rattle.std.specs.List.{AllByRecursion}
 use Rattle.dap_items.proofs.Ends.{not_empty}
 use Rattle.dap_items.proofs.Streams as items
 use Rattle.dap_tree.specs.Doc.{Doc}
 use Rattle.dap_tree.specs.Ids.{ids}
-use Rattle.dap_tree.specs.Json.{text_of}
 use Rattle.dap_tree.specs.declared.side.Side.{Side}
 use Rattle.dap_tree.proofs.Outcomes.{read_once, read_is_plain}
 use Rattle.dap_profile.specs.Profile.{first_rows}
 use Rattle.dap_message.specs.LaterIds.{first_ids, is_later_sort, with_later_ids}
 use Rattle.dap_message.specs.Message.{Sent, IsTyped, IsTypedContent, IsTypedContentByRows}
-use Rattle.dap_message.specs.Numbers.{has_id_numbers, has_small_ids}
+use Rattle.dap_message.specs.Numbers.{has_small_ids}
 use Rattle.dap_message.proofs.LaterRows.{content_later, marked_in_two}
 use Rattle.dap_message.proofs.MarkedPlaces.{small_ids}
 use Rattle.dap_recording.proofs.Records.{record_grammar, readable}
@@ -24,6 +23,7 @@ use Rattle.dap_rename.proofs.MixedSameness.{same_by_parts}
 use Rattle.dap_rename.proofs.NormalForms.{names_are_small, same_counts}
 use Rattle.dap_rename.proofs.Occurrences.{docs_alike}
 use Rattle.dap_rename.proofs.Sameness.{same_along, same_both_ways}
+use Rattle.dap_rename.specs.declared.mode.Mode.TheVariants.{Whole}
 use Rattle.dap_input.specs.declared.limits.Limits.{Limits}
 use Rattle.dap_input.specs.Limits.{AreSound}
 use Rattle.dap_normal.specs.Accepting.{Held, AreMessages, AreMessagesByRows, IsAccepted, id_limit}
@@ -91,7 +91,7 @@ typed_later (held ∷ records) (f ∷ first) (n ∷ ns) [] h g same small = absu
 
 module _ (limits : Limits) (sound : AreSound limits) (old new : List ℕ)
     (golden : IsOldGolden limits old new) where
-  accepts : IsAccepted limits golden.recording golden.normalises.messages
+  accepts : IsAccepted limits Whole golden.recording golden.normalises.messages
   accepts = golden.normalises.accepts
 
   one_records : golden.accepted.records ≡ accepts.records
@@ -129,7 +129,7 @@ module _ (limits : Limits) (sound : AreSound limits) (old new : List ℕ)
     golden.normalises.is_normal.1,
   )
 
-  old_accepted : IsAccepted limits (text golden.normal) (later golden.normal)
+  old_accepted : IsAccepted limits Whole (text golden.normal) (later golden.normal)
   old_accepted =
       let fits = golden.accepted.fits golden.normal golden.is_normal in
       let few = accepts.few in
@@ -138,19 +138,19 @@ module _ (limits : Limits) (sound : AreSound limits) (old new : List ℕ)
         records = contents_of golden.normal;
         recording = recording_of limits sound golden.normal fits.each;
         typed = typed_and_mixed.0;
-        rules = rules_kept accepts.records golden.normalises.messages (later golden.normal)
+        rules = rules_kept Whole accepts.records golden.normalises.messages (later golden.normal)
             accepts.typed same accepts.rules;
         few = λ c. let count = same_counts in_whole golden.normalises.messages
             (later golden.normal) same c in let most = few c in omega (arith, count, most);
-        fits = normal_fits limits (later golden.normal) golden.normalises.normal
+        fits = normal_fits limits Whole (later golden.normal) golden.normalises.normal
             (messages_proper (contents_of golden.normal) (later golden.normal) typed_and_mixed.0)
             still_normal (accepts.fits golden.normalises.normal golden.normalises.is_normal);
       }
 
-  normalised_anew : Normalises limits old new
+  normalised_anew : Normalises limits Whole old new
   normalised_anew = record {
     messages = later golden.normal;
-    accepts = subst (λ t. IsAccepted limits t (later golden.normal)) (sym golden.old_is)
+    accepts = subst (λ t. IsAccepted limits Whole t (later golden.normal)) (sym golden.old_is)
         old_accepted;
     normal = golden.normalises.normal;
     is_normal = still_normal;

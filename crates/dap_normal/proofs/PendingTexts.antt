@@ -1,6 +1,6 @@
 -- The texts of records that await a write, and where a write stops that fails inside them.
 use Rattle.std.proofs.Common.{◌≡◌, ◌⊎◌, ⊎_elim, inl, inr, ℕ, ℤ, ◌+◌, ◌-◌, ◌<◌, ◌≤◌, List, [], ◌∷◌}
-use Rattle.std.proofs.Common.{◌++◌, length, take, Option, Some, None, Result, Ok, Err, refl, sym, ◌∙◌}
+use Rattle.std.proofs.Common.{◌++◌, length, take, Option, None, refl, sym, ◌∙◌}
 use Rattle.std.proofs.Common.{ap, subst, arith, append_assoc, append-nil, length-append}
 use Rattle.std.proofs.Math.Seq.{take-append-add, take-nil}
 use Rattle.std.proofs.lemmas.Bool.{cases_lt}
@@ -16,6 +16,7 @@ use Rattle.dap_device.specs.declared.reading.Stop.{Stop}
 use Rattle.dap_device.proofs.Sending.{some_of_both}
 use Rattle.dap_message.specs.Message.{Sent}
 use Rattle.dap_input.specs.ReadTo.{IsReadTo}
+use Rattle.dap_rename.specs.declared.mode.Mode.{Mode}
 use Rattle.dap_input.specs.declared.limits.Limits.{Limits}
 use Rattle.dap_normal.specs.declared.normal_records.NormalRecords.{NormalRecords}
 use Rattle.dap_normal.specs.Accepting.{IsAccepted, accepting, text}
@@ -24,25 +25,25 @@ use Rattle.dap_normal.specs.NormalSteps.{HasGone, IsAtHand}
 use Rattle.dap_normal.specs.Normalising.{Normalises}
 use Rattle.dap_normal.specs.Streaming.{HasFailedToWrite}
 use Rattle.dap_normal.proofs.JudgedRecords.{text_push}
-use Rattle.dap_normal.proofs.StreamLoop.{Going}
+use Rattle.dap_normal.proofs.StreamLoop.{Going, normal_before}
 
-module _ (limits : Limits) where
+module _ (limits : Limits) (mode : Mode) where
   -- The records before this one are accepted, and give this text.
   pub record AreBefore (bytes : List ℕ) (number : ℕ) (given : List ℕ) : Type 0 where
     pub values : List Sent
     pub front : List ℕ
     pub rest : List ℕ
     pub split : bytes ≡ front ++ rest
-    pub accepted : IsAccepted limits front values
+    pub accepted : IsAccepted limits mode front values
     pub is_number : number ≡ length values + 1
-    pub gives : Normalises limits front given
+    pub gives : Normalises limits mode front given
 
   -- So many of the bytes that await a write, behind those that went out, end in this record's text.
   pub record StopsIn (bytes sent waiting : List ℕ) (taken : ℕ) : Type 0 where
     pub number : ℕ
     pub given : List ℕ
     pub before : AreBefore bytes number given
-    pub read_to : IsReadTo (accepting limits) bytes number
+    pub read_to : IsReadTo (accepting limits mode) bytes number
     pub next : List ℕ
     pub is_next : (next ≡ []) ⊎ AreBefore bytes (number + 1) (given ++ next)
     pub count : ℕ
@@ -58,8 +59,8 @@ module _ (limits : Limits) where
     pub at_hand : (waiting ≡ []) ⊎ IsAtHand limits records
 
   -- a record behind is not asked for earlier
-  later : (bytes : List ℕ) (earlier number : ℕ) → IsReadTo (accepting limits) bytes earlier
-      → earlier ≤ number → IsReadTo (accepting limits) bytes number
+  later : (bytes : List ℕ) (earlier number : ℕ) → IsReadTo (accepting limits mode) bytes earlier
+      → earlier ≤ number → IsReadTo (accepting limits mode) bytes number
   later bytes earlier number read le = record {
     before = read.before;
     last = read.last;
@@ -72,19 +73,19 @@ module _ (limits : Limits) where
   }
 
 module _ {T R : Type 0} {numbers : T → List ℤ} {table_limit : T → ℕ} (source : Source R)
-    (limits : Limits) (start reader : R) (records : NormalRecords T)
-    (was : Going numbers table_limit source limits start reader records) where
-  given_by : Normalises limits was.stands.front (text was.normal)
+    (limits : Limits) (mode : Mode) (start reader : R) (records : NormalRecords T)
+    (was : Going numbers table_limit source limits mode start reader records) where
+  given_by : Normalises limits mode was.stands.front (text was.normal)
   given_by = record {
     messages = was.messages;
     accepts = was.stands.accepted;
     normal = was.normal;
-    is_normal = was.stands.stands.is_normal;
+    is_normal = normal_before limits mode was.bytes records was.messages was.normal was.stands;
     text_is = refl;
   }
 
   before_behind : (more : List ℕ)
-      → AreBefore limits (was.bytes ++ more) records.records.number (text was.normal)
+      → AreBefore limits mode (was.bytes ++ more) records.records.number (text was.normal)
   before_behind more = record {
     values = was.messages;
     front = was.stands.front;
@@ -96,7 +97,7 @@ module _ {T R : Type 0} {numbers : T → List ℤ} {table_limit : T → ℕ} (so
     gives = given_by;
   }
 
-  before_next : AreBefore limits was.bytes records.records.number (text was.normal)
+  before_next : AreBefore limits mode was.bytes records.records.number (text was.normal)
   before_next = record {
     values = was.messages;
     front = was.stands.front;
@@ -108,14 +109,14 @@ module _ {T R : Type 0} {numbers : T → List ℤ} {table_limit : T → ℕ} (so
   }
 
   -- where all went out
-  pub none_waiting : Waiting limits records was.bytes (text was.normal) (text was.normal) []
+  pub none_waiting : Waiting limits mode records was.bytes (text was.normal) (text was.normal) []
   none_waiting = record {
     text_is = sym (append-nil (text was.normal));
     stops = λ taken few. record {
       number = records.records.number;
       given = text was.normal;
       before = before_next;
-      read_to = later limits was.bytes (length was.messages) records.records.number
+      read_to = later limits mode was.bytes (length was.messages) records.records.number
           was.stands.read_to (let is = was.stands.number_is in omega (arith, is));
       next = [];
       is_next = inl refl;
@@ -127,7 +128,7 @@ module _ {T R : Type 0} {numbers : T → List ℤ} {table_limit : T → ℕ} (so
   }
 
   module _ (sent waiting : List ℕ)
-      (waits : Waiting limits records was.bytes (text was.normal) sent waiting) where
+      (waits : Waiting limits mode records was.bytes (text was.normal) sent waiting) where
     -- a record that is at hand asks for no more
     module _ (after : R) (more : List ℕ) (stop : Option Stop)
         (came : HasComeSoFar source reader after more stop)
@@ -140,20 +141,20 @@ module _ {T R : Type 0} {numbers : T → List ℤ} {table_limit : T → ℕ} (so
 
       -- the bytes that came behind are none
       stops_still : IsAtHand limits records → (taken : ℕ) → taken ≤ length waiting
-          → StopsIn limits (was.bytes ++ more) sent waiting taken
+          → StopsIn limits mode (was.bytes ++ more) sent waiting taken
       stops_still has taken few =
-          subst (λ bytes. StopsIn limits bytes sent waiting taken)
+          subst (λ bytes. StopsIn limits mode bytes sent waiting taken)
           (sym (ap (λ t. was.bytes ++ t) (no_more has) ∙ append-nil was.bytes))
           (waits.stops taken few)
 
       -- where the next record gives no text
-      pub stops_before : IsReadTo (accepting limits) (was.bytes ++ more) records.records.number
+      pub stops_before : IsReadTo (accepting limits mode) (was.bytes ++ more) records.records.number
           → (taken : ℕ) → taken ≤ length waiting
-          → StopsIn limits (was.bytes ++ more) sent waiting taken
+          → StopsIn limits mode (was.bytes ++ more) sent waiting taken
       stops_before read_to taken few =
           ⊎_elim by_none (λ has. stops_still has taken few) waits.at_hand
         where
-          by_none : waiting ≡ [] → StopsIn limits (was.bytes ++ more) sent waiting taken
+          by_none : waiting ≡ [] → StopsIn limits mode (was.bytes ++ more) sent waiting taken
           by_none none = record {
             number = records.records.number;
             given = text was.normal;
@@ -169,7 +170,7 @@ module _ {T R : Type 0} {numbers : T → List ℤ} {table_limit : T → ℕ} (so
 
     -- where it does
     module _ (new : NormalRecords T) (after : R) (longer : List ℕ)
-        (gone : HasGone numbers table_limit source limits was.bytes was.messages was.normal
+        (gone : HasGone numbers table_limit source limits mode was.bytes was.messages was.normal
         records new reader after waiting longer)
         (same_given : IsAtHand limits records → source.given after ≡ source.given reader) where
       added : text (was.normal ++ gone.named ∷ []) ≡ text was.normal ++ record_of gone.named
@@ -182,7 +183,7 @@ module _ {T R : Type 0} {numbers : T → List ℤ} {table_limit : T → ℕ} (so
           ∙ ap (λ t. sent ++ t) (sym gone.appended)
 
       stops_in_it : (taken : ℕ) → length waiting ≤ taken → taken ≤ length longer
-          → StopsIn limits (was.bytes ++ gone.more) sent longer taken
+          → StopsIn limits mode (was.bytes ++ gone.more) sent longer taken
       stops_in_it taken past few =
           let count : ℕ = taken - length waiting in
           let split : taken ≡ length waiting + count = omega (arith, past) in
@@ -209,7 +210,9 @@ module _ {T R : Type 0} {numbers : T → List ℤ} {table_limit : T → ℕ} (so
                 messages = was.messages ++ gone.message ∷ [];
                 accepts = gone.stands.accepted;
                 normal = was.normal ++ gone.named ∷ [];
-                is_normal = gone.stands.stands.is_normal;
+                is_normal = normal_before limits mode (was.bytes ++ gone.more) new
+                    (was.messages ++ gone.message ∷ []) (was.normal ++ gone.named ∷ [])
+                    gone.stands;
                 text_is = sym added;
               };
             });
@@ -227,7 +230,7 @@ module _ {T R : Type 0} {numbers : T → List ℤ} {table_limit : T → ℕ} (so
           }
 
       stops_earlier : IsAtHand limits records → (taken : ℕ) → taken < length waiting
-          → StopsIn limits (was.bytes ++ gone.more) sent longer taken
+          → StopsIn limits mode (was.bytes ++ gone.more) sent longer taken
       stops_earlier has taken early =
           let stop = stops_still after gone.more None gone.came same_given has taken
           (omega (arith, early)) in
@@ -248,7 +251,7 @@ module _ {T R : Type 0} {numbers : T → List ℤ} {table_limit : T → ℕ} (so
           }
 
       pub stops_behind : (taken : ℕ) → taken ≤ length longer
-          → StopsIn limits (was.bytes ++ gone.more) sent longer taken
+          → StopsIn limits mode (was.bytes ++ gone.more) sent longer taken
       stops_behind taken few =
           ⊎_elim (λ early. ⊎_elim
           (λ none. absurd (let long = ap length none in omega (arith, early, long)))
@@ -256,19 +259,21 @@ module _ {T R : Type 0} {numbers : T → List ℤ} {table_limit : T → ℕ} (so
           (λ past. stops_in_it taken past few) (cases_lt taken (length waiting))
 
       pub waits_on : IsAtHand limits new
-          → Waiting limits new (was.bytes ++ gone.more) (text (was.normal ++ gone.named ∷ [])) sent
+          → Waiting limits mode new (was.bytes ++ gone.more) (text (was.normal ++ gone.named ∷ []))
+          sent
           longer
       waits_on has = record { text_is = longer_is; stops = stops_behind; at_hand = inr has }
 
 -- ---- a write that fails
 
-module _ {R W : Type 0} (source : Source R) (sink : Sink W) (limits : Limits) (start after : R)
+module _ {R W : Type 0} (source : Source R) (sink : Sink W) (limits : Limits) (mode : Mode) (start
+    after : R)
     (before writer end : W) (bytes sent waiting : List ℕ) (stop : Option Stop)
     (came : HasComeSoFar source start after bytes stop)
     (written : AllWritten sink before writer sent)
     (front : FrontWritten sink writer end waiting) where
-  pub failed_inside : StopsIn limits bytes sent waiting front.count
-      → HasFailedToWrite source sink limits start after before end
+  pub failed_inside : StopsIn limits mode bytes sent waiting front.count
+      → HasFailedToWrite source sink limits mode start after before end
   failed_inside stops =
       let many : length sent + front.count ≡ length stops.given + stops.count =
       omega (

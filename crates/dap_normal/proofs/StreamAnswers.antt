@@ -7,6 +7,7 @@ use Rattle.dap_message.specs.Message.{Sent}
 use Rattle.dap_session.specs.Rules.{open_requests}
 use Rattle.dap_tree.specs.declared.side.Side.TheVariants.{Client, Adapter}
 use Rattle.dap_normal.specs.declared.checked.Checked.{Checked}
+use Rattle.dap_rename.specs.declared.mode.Mode.{Mode}
 use Rattle.dap_input.specs.declared.limits.Limits.{Limits}
 use Rattle.dap_normal.specs.declared.normal_records.NormalRecords.{NormalRecords}
 use Rattle.dap_input.specs.declared.refused.Refused.{Refused}
@@ -20,23 +21,23 @@ use Rattle.dap_normal.specs.NormalSteps.{HasEnded, HasGone, HasNext, HasStoppedA
 use Rattle.dap_normal.proofs.StreamLoop.{Going, all_came, refuses_next}
 
 module _ {T R : Type 0} {numbers : T → List ℤ} {table_limit : T → ℕ} (source : Source R)
-    (limits : Limits) (start reader : R) (records : NormalRecords T)
-    (was : Going numbers table_limit source limits start reader records)
+    (limits : Limits) (mode : Mode) (start reader : R) (records : NormalRecords T)
+    (was : Going numbers table_limit source limits mode start reader records)
     (new : NormalRecords T) (after : R) where
   abbrev pub Next : List ℕ → List ℕ → Result Bool Refused → Type 0
   Next before longer answer =
-      HasNext numbers table_limit source limits was.bytes was.messages was.normal
+      HasNext numbers table_limit source limits mode was.bytes was.messages was.normal
       records new reader after before longer answer
 
   -- whether a record has come
   pub gone : (some : Bool) (before longer : List ℕ) → Next before longer (Ok some) → some ≡ true
-      → HasGone numbers table_limit source limits was.bytes was.messages was.normal
+      → HasGone numbers table_limit source limits mode was.bytes was.messages was.normal
       records new reader after before longer
   gone true before longer next is = next
   gone false before longer next is = absurd (true≢false (sym is))
 
   pub ended : (some : Bool) (before longer : List ℕ) → Next before longer (Ok some) → some ≡ false
-      → HasEnded numbers table_limit source limits was.bytes was.messages was.normal
+      → HasEnded numbers table_limit source limits mode was.bytes was.messages was.normal
       records new reader after before longer
   ended true before longer next is = absurd (true≢false is)
   ended false before longer next is = next
@@ -45,9 +46,9 @@ module _ {T R : Type 0} {numbers : T → List ℤ} {table_limit : T → ℕ} (so
 
   module _ (complete : Bool) where
     pub check_refuses : (because : Refused)
-        → HasStoppedAt numbers table_limit source limits was.bytes was.messages
+        → HasStoppedAt numbers table_limit source limits mode was.bytes was.messages
         was.normal records new reader after because
-        → Checks source limits complete start after (Err because)
+        → Checks source limits mode complete start after (Err because)
     check_refuses (Incomplete client adapter) stopped =
         absurd (untold (Incomplete client adapter) records.records.number stopped.says.fault refl
         (λ e. absurd (let same = e in cc)) stopped.says.tells)
@@ -57,12 +58,12 @@ module _ {T R : Type 0} {numbers : T → List ℤ} {table_limit : T → ℕ} (so
     check_refuses Memory stopped = tt
     check_refuses because stopped = (
       text was.normal,
-      refuses_next source limits start reader records was after new because stopped
+      refuses_next source limits mode start reader records was after new because stopped
           stopped.says,
     )
 
     module _ (before longer : List ℕ)
-        (end : HasEnded numbers table_limit source limits was.bytes was.messages
+        (end : HasEnded numbers table_limit source limits mode was.bytes was.messages
         was.normal records new reader after before longer) where
       judge_stands : StandsFor numbers table_limit new.judge was.messages was.normal
       judge_stands =
@@ -73,12 +74,12 @@ module _ {T R : Type 0} {numbers : T → List ℤ} {table_limit : T → ℕ} (so
       some_records = let is = was.stands.number_is in let same =
           end.number_is in omega (arith, is, same)
 
-      accepts : Accepts source limits.input (IsAccepted limits) start after was.messages
+      accepts : Accepts source limits.input (IsAccepted limits mode) start after was.messages
       accepts = record {
         whole = was.bytes
             ++ end.more;
         came =
-            all_came source limits start reader records was after new before longer
+            all_came source limits mode start reader records was after new before longer
             end;
         gives = end.accepted;
       }
@@ -94,7 +95,7 @@ module _ {T R : Type 0} {numbers : T → List ℤ} {table_limit : T → ℕ} (so
         pub check_accepts : (checked : Checked) → checked.records + 1 ≡ new.records.number
             → checked.client_open ≡ client → checked.adapter_open ≡ adapter
             → (complete ≡ true → (client ≡ 0) × (adapter ≡ 0))
-            → Checks source limits complete start after (Ok checked)
+            → Checks source limits mode complete start after (Ok checked)
         check_accepts checked count client_is adapter_is answered = record {
           messages = was.messages;
           accepts = accepts;
@@ -109,10 +110,11 @@ module _ {T R : Type 0} {numbers : T → List ℤ} {table_limit : T → ℕ} (so
         }
 
 -- Whether a complete session is asked for does not matter to a refusal.
-pub refuses_all_the_same : {R : Type 0} (source : Source R) (limits : Limits) (complete : Bool)
+pub refuses_all_the_same : {R : Type 0} (source : Source R) (limits : Limits) (mode : Mode)
+    (complete : Bool)
     (start after : R) (because : Refused)
-    → Checks source limits false start after (Err because)
-    → Checks source limits complete start after (Err because)
-refuses_all_the_same source limits complete start after (Incomplete client adapter)
+    → Checks source limits mode false start after (Err because)
+    → Checks source limits mode complete start after (Err because)
+refuses_all_the_same source limits mode complete start after (Incomplete client adapter)
     is = absurd (true≢false (sym is.asked))
-refuses_all_the_same source limits complete start after because is = is
+refuses_all_the_same source limits mode complete start after because is = is

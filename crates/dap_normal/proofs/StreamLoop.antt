@@ -1,6 +1,6 @@
 -- What an engine keeps that judges a recording record by record, as its bytes come.
 use Rattle.std.proofs.Common.{◌≡◌, ℕ, ℤ, ◌+◌, ◌≤◌, true, false, Ok, Bool, List, []}
-use Rattle.std.proofs.Common.{◌∷◌, ◌++◌, length, Option, Some, None, refl, ◌∙◌, ap, arith}
+use Rattle.std.proofs.Common.{◌∷◌, ◌++◌, length, Option, Some, None, refl, ◌∙◌, ap, subst, arith}
 use Rattle.std.proofs.Common.{append_assoc, length-append}
 use Rattle.std.proofs.lemmas.List.{length_push}
 use Rattle.dap_device.specs.declared.device.Source.{Ghosts as Source}
@@ -9,6 +9,9 @@ use Rattle.dap_device.specs.Reading.{HasCome}
 use Rattle.dap_device.specs.declared.reading.Stop.{Stop}
 use Rattle.dap_device.specs.declared.reading.Stop.TheVariants.{End}
 use Rattle.dap_message.specs.Message.{Sent}
+use Rattle.dap_rename.specs.Messages.{IsNormal}
+use Rattle.dap_rename.specs.Modes.{stop_in}
+use Rattle.dap_rename.specs.declared.mode.Mode.{Mode}
 use Rattle.dap_input.specs.declared.limits.Limits.{Limits}
 use Rattle.dap_normal.specs.declared.normal_records.NormalRecords.{NormalRecords}
 use Rattle.dap_input.specs.declared.refused.Refused.{Refused}
@@ -33,21 +36,30 @@ module _ {R : Type 0} (source : Source R) where
         stopped = came.paused;
       }
 
+-- What the judge stands for is the normal form in the mode of the input.
+pub normal_before : {T : Type 0} {numbers : T → List ℤ} {table_limit : T
+    → ℕ} (limits : Limits) (mode : Mode) (bytes : List ℕ) (records : NormalRecords T)
+    (messages normal : List Sent)
+    → StandsBefore numbers table_limit limits mode bytes records messages normal
+    → IsNormal (stop_in mode) messages normal
+normal_before limits mode bytes records messages normal stands =
+    subst (λ k. IsNormal (stop_in k) messages normal) stands.judge_mode_is stands.stands.is_normal
+
 module _ {T R : Type 0} (numbers : T → List ℤ) (table_limit : T → ℕ) (source : Source R)
-    (limits : Limits) where
+    (limits : Limits) (mode : Mode) where
   -- So much has come, and the records before the next one are accepted.
   pub record Going (start reader : R) (records : NormalRecords T) : Type 0 where
     pub bytes : List ℕ
     pub came : HasComeSoFar source start reader bytes None
     pub messages : List Sent
     pub normal : List Sent
-    pub stands : StandsBefore numbers table_limit limits bytes records messages normal
+    pub stands : StandsBefore numbers table_limit limits mode bytes records messages normal
 
 module _ {T R : Type 0} {numbers : T → List ℤ} {table_limit : T → ℕ} (source : Source R)
-    (limits : Limits) where
+    (limits : Limits) (mode : Mode) where
   abbrev pub at_start : (reader : R) (records : NormalRecords T)
-      → StandsBefore numbers table_limit limits [] records [] []
-      → Going numbers table_limit source limits reader reader records
+      → StandsBefore numbers table_limit limits mode [] records [] []
+      → Going numbers table_limit source limits mode reader reader records
   at_start reader records stands =
       record {
         bytes = [];
@@ -58,13 +70,13 @@ module _ {T R : Type 0} {numbers : T → List ℤ} {table_limit : T → ℕ} (so
       }
 
   module _ (start reader : R) (records : NormalRecords T)
-      (was : Going numbers table_limit source limits start reader records) where
+      (was : Going numbers table_limit source limits mode start reader records) where
     -- ---- one more record
 
     abbrev pub on : (new : NormalRecords T) (after : R) (before longer : List ℕ)
-        → HasGone numbers table_limit source limits was.bytes was.messages was.normal
+        → HasGone numbers table_limit source limits mode was.bytes was.messages was.normal
         records new reader after before longer
-        → Going numbers table_limit source limits start after new
+        → Going numbers table_limit source limits mode start after new
     on new after before longer gone = record {
       bytes = was.bytes ++ gone.more;
       came = came_on source start reader after was.bytes gone.more None was.came
@@ -75,7 +87,7 @@ module _ {T R : Type 0} {numbers : T → List ℤ} {table_limit : T → ℕ} (so
     }
 
     pub gone_taken : (new : NormalRecords T) (after : R) (before longer : List ℕ)
-        → HasGone numbers table_limit source limits was.bytes was.messages was.normal
+        → HasGone numbers table_limit source limits mode was.bytes was.messages was.normal
         records new reader after before longer
         → source.given after ≤ source.given start + limits.input + 1
     gone_taken new after before longer gone =
@@ -89,7 +101,7 @@ module _ {T R : Type 0} {numbers : T → List ℤ} {table_limit : T → ℕ} (so
     -- ---- an input of which so much has come
 
     abbrev pub before_in : (input : Input) (tail : List ℕ) → input.bytes ≡ was.bytes ++ tail
-        → AcceptedBefore (accepting limits) input records.records.number
+        → AcceptedBefore (accepting limits mode) input records.records.number
     before_in input tail split = record {
       values = was.messages;
       front = was.stands.front;
@@ -101,10 +113,10 @@ module _ {T R : Type 0} {numbers : T → List ℤ} {table_limit : T → ℕ} (so
     }
 
     abbrev pub next_in : (new : NormalRecords T) (after : R) (before longer : List ℕ)
-        (gone : HasGone numbers table_limit source limits was.bytes was.messages
+        (gone : HasGone numbers table_limit source limits mode was.bytes was.messages
         was.normal records new reader after before longer)
         → (input : Input) (tail : List ℕ) → input.bytes ≡ (was.bytes ++ gone.more) ++ tail
-        → AcceptedBefore (accepting limits) input (records.records.number + 1)
+        → AcceptedBefore (accepting limits mode) input (records.records.number + 1)
     next_in new after before longer gone input tail split = record {
       values = was.messages ++ gone.message ∷ [];
       front = gone.stands.front;
@@ -121,7 +133,7 @@ module _ {T R : Type 0} {numbers : T → List ℤ} {table_limit : T → ℕ} (so
 
     module _ (after : R) (more : List ℕ) (stop : Option Stop)
         (came : HasComeSoFar source reader after more stop) where
-      abbrev pub records_before : AcceptedBefore (accepting limits)
+      abbrev pub records_before : AcceptedBefore (accepting limits mode)
           (so_far (was.bytes ++ more) stop) records.records.number
       records_before = record {
         values = was.messages;
@@ -133,8 +145,9 @@ module _ {T R : Type 0} {numbers : T → List ℤ} {table_limit : T → ℕ} (so
         is_number = was.stands.number_is;
       }
 
-      abbrev pub come_to : IsReadTo (accepting limits) (was.bytes ++ more) records.records.number
-          → HasComeTo source limits start after stop records.records.number
+      abbrev pub come_to : IsReadTo (accepting limits mode) (was.bytes ++ more)
+          records.records.number
+          → HasComeTo source limits mode start after stop records.records.number
           (text was.normal)
       come_to read_to = record {
         bytes = was.bytes ++ more;
@@ -146,21 +159,22 @@ module _ {T R : Type 0} {numbers : T → List ℤ} {table_limit : T → ℕ} (so
               messages = was.messages;
               accepts = was.stands.accepted;
               normal = was.normal;
-              is_normal = was.stands.stands.is_normal;
+              is_normal = normal_before limits mode was.bytes records was.messages was.normal
+                  was.stands;
               text_is = refl;
             };
       }
 
     module _ (after : R) (new : NormalRecords T) (because : Refused)
-        (stopped : HasStoppedAt numbers table_limit source limits was.bytes
+        (stopped : HasStoppedAt numbers table_limit source limits mode was.bytes
         was.messages was.normal records new reader after because) where
-      abbrev pub refused_to : HasComeTo source limits start after stopped.stop
+      abbrev pub refused_to : HasComeTo source limits mode start after stopped.stop
           records.records.number (text was.normal)
       refused_to = come_to after stopped.more stopped.stop stopped.came stopped.read_to
 
-      pub refuses_next : RefusesAt (accepting limits)
+      pub refuses_next : RefusesAt (accepting limits mode)
           (so_far (was.bytes ++ stopped.more) stopped.stop) records.records.number because
-          → RefusesNext source limits start after because (text was.normal)
+          → RefusesNext source limits mode start after because (text was.normal)
       refuses_next says =
           record {
             number = records.records.number;
@@ -180,7 +194,7 @@ module _ {T R : Type 0} {numbers : T → List ℤ} {table_limit : T → ℕ} (so
     -- ---- at the end
 
     module _ (after : R) (new : NormalRecords T) (before longer : List ℕ)
-        (ended : HasEnded numbers table_limit source limits was.bytes was.messages
+        (ended : HasEnded numbers table_limit source limits mode was.bytes was.messages
         was.normal records new reader after before longer) where
       pub all_came : HasCome source start after limits.input (was.bytes ++ ended.more) End
       all_came = whole_came source start after limits.input (was.bytes ++ ended.more)
@@ -195,7 +209,7 @@ module _ {T R : Type 0} {numbers : T → List ℤ} {table_limit : T → ℕ} (so
           omega (arith, so_many, behind, within, length-append was.bytes ended.more)
 
     pub passed_taken : (new : NormalRecords T) (after : R) (before longer : List ℕ) (some : Bool)
-        → HasNext numbers table_limit source limits was.bytes was.messages was.normal
+        → HasNext numbers table_limit source limits mode was.bytes was.messages was.normal
         records new reader after before longer (Ok some)
         → source.given after ≤ source.given start + limits.input + 1
     passed_taken new after before longer true gone = gone_taken new after before longer gone

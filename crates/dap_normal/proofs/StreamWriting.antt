@@ -11,6 +11,7 @@ use Rattle.dap_device.proofs.Sending.{all_then_all}
 use Rattle.dap_input.specs.Limits.{AreSound}
 use Rattle.dap_input.specs.ReadTo.{IsReadTo}
 use Rattle.dap_input.specs.Streaming.{AnswersRefusal}
+use Rattle.dap_rename.specs.declared.mode.Mode.{Mode}
 use Rattle.dap_input.specs.declared.limits.Limits.{Limits}
 use Rattle.dap_input.specs.declared.refused.Refused.{Refused}
 use Rattle.dap_input.specs.declared.refused.Refused.TheVariants.{Memory}
@@ -27,65 +28,71 @@ use Rattle.dap_normal.proofs.AcceptingFacts.{accepted_facts}
 use Rattle.dap_normal.proofs.NormalFormLaws.{canonical}
 use Rattle.dap_normal.proofs.NormalTexts.{normal}
 use Rattle.dap_normal.proofs.PendingTexts.{Waiting, failed_inside, stops_before}
-use Rattle.dap_normal.proofs.StreamLoop.{Going, all_came, come_to, refused_to}
+use Rattle.dap_normal.proofs.StreamLoop.{Going, all_came, come_to, normal_before, refused_to}
 
-module _ {R W : Type 0} (source : Source R) (sink : Sink W) (limits : Limits) (start : R)
+module _ {R W : Type 0} (source : Source R) (sink : Sink W) (limits : Limits) (mode : Mode) (start :
+    R)
     (before : W) where
   -- Nothing has been read or written.
-  pub given_up : HasGivenUp source sink limits start start before before
+  pub given_up : HasGivenUp source sink limits mode start start before before
   given_up =
       let accepted =
-      (accepted_facts limits).accepted_of_run [] [] (run_none (accepting limits) [] 0) in
-      ends.given_up (accepting limits) (Normalises limits) (IsCanonical limits) source sink start
+      (accepted_facts limits mode).accepted_of_run [] [] (run_none (accepting limits mode) [] 0) in
+      ends.given_up (accepting limits mode) (Normalises limits mode) (IsCanonical limits mode)
+      source sink start
       before accepted (record {
         messages = [];
         accepts = accepted;
         normal = [];
-        is_normal = normal [] tt;
+        is_normal = normal mode [] tt;
         text_is = refl;
       })
 
   module _ {T : Type 0} {numbers : T → List ℤ} {table_limit : T
       → ℕ} (reader : R) (records : NormalRecords T)
-      (was : Going numbers table_limit source limits start reader records)
+      (was : Going numbers table_limit source limits mode start reader records)
       (writer : W)
       (written : AllWritten sink before writer (text was.normal))
       (new : NormalRecords T) (after : R) where
     -- ---- no more
 
     abbrev pub Answer : W → Result (Unit {0}) Refused → Type 0
-    Answer end answer = Streams source sink limits start after before end answer
+    Answer end answer = Streams source sink limits mode start after before end answer
 
     pub has_streamed : AreSound limits → (text_before longer : List ℕ)
-        → HasEnded numbers table_limit source limits was.bytes was.messages
+        → HasEnded numbers table_limit source limits mode was.bytes was.messages
         was.normal records new reader after text_before longer
         → (end : W) (answer : Result (Unit {0}) Refused)
         → Flushes sink writer end (Ok tt) answer → Answer end answer
     has_streamed sound text_before longer ended =
-        ends.streamed (accepting limits) (Normalises limits) (IsCanonical limits) source sink start
+        ends.streamed (accepting limits mode) (Normalises limits mode) (IsCanonical limits mode)
+        source sink start
         before after writer (Some End) records.records.number (text was.normal)
-        (come_to source limits start reader records was after ended.more (Some End) ended.came
+        (come_to source limits mode start reader records was after ended.more (Some End) ended.came
         ended.read_to) written (record {
           whole = was.bytes ++ ended.more;
-          came = all_came source limits start reader records was after new text_before longer ended;
-          gives = canonical limits sound (was.bytes ++ ended.more) (text was.normal)
+          came = all_came source limits mode start reader records was after new text_before longer
+              ended;
+          gives = canonical limits mode sound (was.bytes ++ ended.more) (text was.normal)
               (record {
                 messages = was.messages;
                 accepts = ended.accepted;
                 normal = was.normal;
-                is_normal = was.stands.stands.is_normal;
+                is_normal = normal_before limits mode was.bytes records was.messages was.normal
+                    was.stands;
                 text_is = refl;
               });
         })
 
-module _ {R W : Type 0} (source : Source R) (sink : Sink W) (limits : Limits) (start : R)
+module _ {R W : Type 0} (source : Source R) (sink : Sink W) (limits : Limits) (mode : Mode) (start :
+    R)
     (before : W) where
   module _ {T : Type 0} {numbers : T → List ℤ} {table_limit : T
       → ℕ} (reader : R) (records : NormalRecords T)
-      (was : Going numbers table_limit source limits start reader records)
+      (was : Going numbers table_limit source limits mode start reader records)
       (writer : W) (sent waiting : List ℕ)
       (written : AllWritten sink before writer sent)
-      (waits : Waiting limits records was.bytes (text was.normal) sent waiting)
+      (waits : Waiting limits mode records was.bytes (text was.normal) sent waiting)
       (new : NormalRecords T) (after : R)
       (same_given : IsAtHand limits records → source.given after ≡ source.given reader) where
     all_written : (mid : W) → AllWritten sink writer mid waiting
@@ -95,26 +102,28 @@ module _ {R W : Type 0} (source : Source R) (sink : Sink W) (limits : Limits) (s
         (all_then_all sink before writer mid sent waiting written all)
 
     failed : (more : List ℕ) (stop : Option Stop) → HasComeSoFar source reader after more stop
-        → IsReadTo (accepting limits) (was.bytes ++ more) records.records.number → (end : W)
+        → IsReadTo (accepting limits mode) (was.bytes ++ more) records.records.number → (end : W)
         → FrontWritten sink writer end waiting
-        → HasFailedToWrite source sink limits start after before end
+        → HasFailedToWrite source sink limits mode start after before end
     failed more stop came read_to end front =
-        failed_inside source sink limits start after before writer end (was.bytes ++ more) sent
+        failed_inside source sink limits mode start after before writer end (was.bytes ++ more) sent
         waiting stop (came_on source start reader after was.bytes more stop was.came came) written
-        front (stops_before source limits start reader records was sent waiting waits after more
+        front (stops_before source limits mode start reader records was sent waiting waits after
+        more
         stop came same_given read_to front.count front.within)
 
     pub all_streamed : AreSound limits → (text_before longer : List ℕ)
-        → HasEnded numbers table_limit source limits was.bytes was.messages
+        → HasEnded numbers table_limit source limits mode was.bytes was.messages
         was.normal records new reader after text_before longer
         → (end : W) (answer : Result (Unit {0}) Refused)
         → Ends sink waiting writer end (Ok tt) answer
-        → Streams source sink limits start after before end answer
+        → Streams source sink limits mode start after before end answer
     all_streamed sound text_before longer end_is end answer (inl (mid, all, given)) =
-        has_streamed source sink limits start before reader records was mid (all_written mid all)
+        has_streamed source sink limits mode start before reader records was mid (all_written mid
+        all)
         new after sound text_before longer end_is end answer given
     all_streamed sound text_before longer end_is end answer (inr (front, is)) =
-        subst (Streams source sink limits start after before end) (sym is)
+        subst (Streams source sink limits mode start after before end) (sym is)
         (failed end_is.more (Some End) end_is.came end_is.read_to end front)
 
     refused_at : (mid end : W) (because : Refused) (answer : Result (Unit {0}) Refused)
@@ -123,17 +132,18 @@ module _ {R W : Type 0} (source : Source R) (sink : Sink W) (limits : Limits) (s
     refused_at mid end because answer given = given
 
     pub all_refused : (because : Refused)
-        → HasStoppedAt numbers table_limit source limits was.bytes was.messages
+        → HasStoppedAt numbers table_limit source limits mode was.bytes was.messages
         was.normal records new reader after because
         → (end : W) (answer : Result (Unit {0}) Refused)
         → Ends sink waiting writer end (Err because) answer
-        → Streams source sink limits start after before end answer
+        → Streams source sink limits mode start after before end answer
     all_refused because stopped end answer (inl (mid, all, given)) =
-        ends.refused (accepting limits) (Normalises limits) (IsCanonical limits) source sink start
+        ends.refused (accepting limits mode) (Normalises limits mode) (IsCanonical limits mode)
+        source sink start
         before after mid stopped.stop records.records.number (text was.normal)
-        (refused_to source limits start reader records was after new because stopped)
+        (refused_to source limits mode start reader records was after new because stopped)
         (all_written mid all) because (stopped.says, stopped.cut) end answer
         (refused_at mid end because answer given)
     all_refused because stopped end answer (inr (front, is)) =
-        subst (Streams source sink limits start after before end) (sym is)
+        subst (Streams source sink limits mode start after before end) (sym is)
         (failed stopped.more stopped.stop stopped.came stopped.read_to end front)

@@ -8,6 +8,7 @@ use Rattle.dap_device.specs.Pieces.{HasComeSoFar, HasPaused}
 use Rattle.dap_device.specs.declared.reading.Stop.{Stop}
 use Rattle.dap_device.specs.declared.reading.Stop.TheVariants.{End, Full, Failed}
 use Rattle.dap_message.specs.Message.{Sent, IsTypedContent}
+use Rattle.dap_rename.specs.declared.mode.Mode.{Mode}
 use Rattle.dap_input.specs.declared.limits.Limits.{Limits}
 use Rattle.dap_normal.specs.declared.normal_records.NormalRecords.{NormalRecords}
 use Rattle.dap_input.specs.declared.refused.Refused.{Refused}
@@ -25,7 +26,7 @@ use Rattle.dap_input.proofs.Refusals.{refused_as, refused_in}
 use Rattle.dap_recording.proofs.Records.{readable}
 use Rattle.dap_normal.proofs.NormalFormLaws.{canonical}
 use Rattle.dap_input.proofs.Coming.{came_on}
-use Rattle.dap_normal.proofs.StreamLoop.{Going}
+use Rattle.dap_normal.proofs.StreamLoop.{Going, normal_before}
 
 are_typed : (records : List Held) (messages : List Sent) → AreMessages records messages
     → AreTyped messages
@@ -38,9 +39,9 @@ are_typed (held ∷ records) (m ∷ messages) (is, typed) = (
 )
 
 -- A normal text holds the messages of its recording.
-pub holds_of : (limits : Limits) (bytes written : List ℕ) → Normalises limits bytes written
-    → HoldsSome written
-holds_of limits bytes written is = (
+pub holds_of : (limits : Limits) (mode : Mode) (bytes written : List ℕ)
+    → Normalises limits mode bytes written → HoldsSome record { mode = mode; bytes = written }
+holds_of limits mode bytes written is = (
   is.messages,
   record {
     typed = are_typed is.accepts.records is.messages is.accepts.typed;
@@ -58,13 +59,13 @@ memory = record {
   failures = λ source. 0;
 }
 
-module _ (limits : Limits) (sound : AreSound limits) (bytes : List ℕ) where
+module _ (limits : Limits) (mode : Mode) (sound : AreSound limits) (bytes : List ℕ) where
   abbrev pub start : GivenBytes
   start = record { left = bytes; given = 0 }
 
   module _ {T : Type 0} {numbers : T → List ℤ} {table_limit : T
       → ℕ} (reader : GivenBytes) (records : NormalRecords T)
-      (was : Going numbers table_limit memory limits start reader records)
+      (was : Going numbers table_limit memory limits mode start reader records)
       (after : GivenBytes) where
     -- What has come is a front of the bytes.
     split : (more : List ℕ) (stop : Option Stop)
@@ -75,30 +76,30 @@ module _ (limits : Limits) (sound : AreSound limits) (bytes : List ℕ) where
         came).came
 
     module _ (new : NormalRecords T) (text_before longer : List ℕ)
-        (end : HasEnded numbers table_limit memory limits was.bytes
+        (end : HasEnded numbers table_limit memory limits mode was.bytes
         was.messages was.normal records new reader after text_before longer) where
       whole : bytes ≡ was.bytes ++ end.more
       whole = split end.more (Some End) end.came
           ∙ ap (λ t. (was.bytes ++ end.more) ++ t) end.came.paused.0
           ∙ append-nil (was.bytes ++ end.more)
 
-      pub normalised_whole : Normalises limits bytes (text was.normal)
+      pub normalised_whole : Normalises limits mode bytes (text was.normal)
       normalised_whole = record {
         messages = was.messages;
-        accepts = subst (λ t. IsAccepted limits t was.messages) (sym whole) end.accepted;
+        accepts = subst (λ t. IsAccepted limits mode t was.messages) (sym whole) end.accepted;
         normal = was.normal;
-        is_normal = was.stands.stands.is_normal;
+        is_normal = normal_before limits mode was.bytes records was.messages was.normal was.stands;
         text_is = refl;
       }
 
       pub canonical_whole : (written : List ℕ) → written ≡ text was.normal
-          → IsCanonical limits bytes written
+          → IsCanonical limits mode bytes written
       canonical_whole written same =
-          subst (IsCanonical limits bytes) (sym same)
-          (canonical limits sound bytes (text was.normal) normalised_whole)
+          subst (IsCanonical limits mode bytes) (sym same)
+          (canonical limits mode sound bytes (text was.normal) normalised_whole)
 
     module _ (new : NormalRecords T) (because : Refused)
-        (stopped : HasStoppedAt numbers table_limit memory limits was.bytes
+        (stopped : HasStoppedAt numbers table_limit memory limits mode was.bytes
         was.messages was.normal records new reader after because) where
       abbrev all : List ℕ
       all = was.bytes ++ stopped.more
@@ -115,23 +116,26 @@ module _ (limits : Limits) (sound : AreSound limits) (bytes : List ℕ) where
       is_of (Some Failed) split paused = absurd (omega (arith, paused))
 
       told : (fault : Fault) → Tells because records.records.number fault
-          → IsRefusedAt (accepting limits) given_input records.records.number fault
-          → IsRefused (accepting limits) bytes because
+          → IsRefusedAt (accepting limits mode) given_input records.records.number fault
+          → IsRefused (accepting limits mode) bytes because
       told (refused why) tells is =
-          refused_as (accepting limits) bytes because records.records.number why tells is.0
+          refused_as (accepting limits mode) bytes because records.records.number why tells is.0
       told read_fault tells is = absurd (true≢false (sym is.0))
 
-      refuses_input : RefusesAt (accepting limits) (so_far all stopped.stop) records.records.number
-          because → IsRefused (accepting limits) bytes because
+      refuses_input : RefusesAt (accepting limits mode) (so_far all stopped.stop)
+          records.records.number
+          because → IsRefused (accepting limits mode) bytes because
       refuses_input says =
-          let here = refused_in (accepting limits) (readable limits.frame) (value_laws limits)
-          (accepted_facts limits) all records.records.number because given_input stopped.stop
+          let here = refused_in (accepting limits mode) (readable limits.frame) (value_laws limits
+          mode)
+          (accepted_facts limits mode) all records.records.number because given_input stopped.stop
           (is_of stopped.stop (split stopped.more stopped.stop stopped.came) stopped.came.paused)
           says stopped.cut in
           told here.fault here.tells here.is_refused
 
     pub refuses_bytes : (new : NormalRecords T) (because : Refused)
-        → HasStoppedAt numbers table_limit memory limits was.bytes
-        was.messages was.normal records new reader after because → RefusesBytes limits bytes because
+        → HasStoppedAt numbers table_limit memory limits mode was.bytes
+        was.messages was.normal records new reader after because → RefusesBytes limits mode bytes
+        because
     refuses_bytes new Memory stopped = tt
     refuses_bytes new because stopped = refuses_input new because stopped stopped.says

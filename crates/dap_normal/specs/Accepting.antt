@@ -10,7 +10,9 @@ use Rattle.dap_profile.specs.Profile.{profile}
 use Rattle.dap_profile.specs.ProfileRows.{ProfileRow}
 use Rattle.dap_message.specs.Message.{Sent, IsTypedContentByRows, HasRefusal}
 use Rattle.dap_recording.specs.Recording.{IsRecording, record_text, records}
-use Rattle.dap_rename.specs.Messages.{HasFewIds, HasTooManyIds, IsNormal, in_whole}
+use Rattle.dap_rename.specs.Messages.{HasFewIds, HasTooManyIds, IsNormal}
+use Rattle.dap_rename.specs.Modes.{stop_in}
+use Rattle.dap_rename.specs.declared.mode.Mode.{Mode}
 use Rattle.dap_session.specs.Rules.{KeepsRules, first_broken}
 use Rattle.dap_input.specs.declared.limits.Limits.{Limits}
 use Rattle.dap_input.specs.Limits.{AreSound}
@@ -57,80 +59,84 @@ pub record Fits (limits : Limits) (messages : List Sent) : Type 0 where
       ≤ limits.frame.content) messages
   pub whole : length (text messages) ≤ limits.input
 
--- how many distinct ids of a sort there may be
+-- how many distinct ids there may be in a class of a sort
 abbrev pub id_limit : Limits → Sort → ℕ
 id_limit limits sort = limits.ids
 
 -- The normal form of the messages keeps within the limits.
-abbrev pub NormalFits : Limits → List Sent → Type 0
-NormalFits limits messages = (normal : List Sent) → IsNormal in_whole messages normal
+abbrev pub NormalFits : Limits → Mode → List Sent → Type 0
+NormalFits limits mode messages = (normal : List Sent) → IsNormal (stop_in mode) messages normal
     → Fits limits normal
 
 -- The normal form of the messages passes a limit.
-pub record HasGrown (limits : Limits) (messages : List Sent) : Type 0 where
+pub record HasGrown (limits : Limits) (mode : Mode) (messages : List Sent) : Type 0 where
   pub normal : List Sent
-  pub is_normal : IsNormal in_whole messages normal
+  pub is_normal : IsNormal (stop_in mode) messages normal
   pub too_long : Fits limits normal → ⊥
 
 -- The bytes are a recording of these messages, which are typed by these rows, within the limits.
--- The messages keep the rules of a session and have few ids, and their normal form keeps within the
--- limits.
-pub record IsAcceptedByRows (rows : List ProfileRow) (limits : Limits) (bytes : List ℕ)
+-- The messages keep the rules of a session and have few ids in each class of the mode, and their
+-- normal form keeps within the limits.
+pub record IsAcceptedByRows (rows : List ProfileRow) (limits : Limits) (mode : Mode) (bytes : List
+    ℕ)
     (messages : List Sent) : Type 0 where
   pub short : length bytes ≤ limits.input
   pub records : List Held
   pub recording : IsRecording limits.frame bytes records
   pub typed : AreMessagesByRows rows records messages
   pub rules : KeepsRules messages
-  pub few : HasFewIds in_whole (id_limit limits) messages
-  pub fits : NormalFits limits messages
+  pub few : HasFewIds (stop_in mode) (id_limit limits) messages
+  pub fits : NormalFits limits mode messages
 
 -- So it is by the profile.
-abbrev pub IsAccepted : Limits → List ℕ → List Sent → Type 0
+abbrev pub IsAccepted : Limits → Mode → List ℕ → List Sent → Type 0
 IsAccepted = IsAcceptedByRows profile
 
 -- The message that a record holds is accepted behind these.
-pub record IsNext (limits : Limits) (before : List Sent) (held : Held) (message : Sent) : Type 0
+pub record IsNext (limits : Limits) (mode : Mode) (before : List Sent) (held : Held) (message :
+    Sent) : Type 0
   where
     pub is_message : IsMessage held message
     pub keeps : first_broken before message ≡ None
-    pub few : HasFewIds in_whole (id_limit limits) (before ++ message ∷ [])
-    pub fits : NormalFits limits (before ++ message ∷ [])
+    pub few : HasFewIds (stop_in mode) (id_limit limits) (before ++ message ∷ [])
+    pub fits : NormalFits limits mode (before ++ message ∷ [])
 
 -- Behind these messages, what a record holds is refused for this, in this order.
-abbrev pub Objects : Limits → List Sent → Held → Objection → Type 0
-Objects limits before held (no_message why) = HasRefusal held.1 why
-Objects limits before held (broken rule) = (message : Sent) × IsMessage held message
+abbrev pub Objects : Limits → Mode → List Sent → Held → Objection → Type 0
+Objects limits mode before held (no_message why) = HasRefusal held.1 why
+Objects limits mode before held (broken rule) = (message : Sent) × IsMessage held message
     × (first_broken before message ≡ Some rule)
-Objects limits before held too_many_ids =
+Objects limits mode before held too_many_ids =
     (message : Sent) × IsMessage held message × (first_broken before message ≡ None)
-    × HasTooManyIds in_whole (id_limit limits) (before ++ message ∷ [])
-Objects limits before held grew =
+    × HasTooManyIds (stop_in mode) (id_limit limits) (before ++ message ∷ [])
+Objects limits mode before held grew =
     (message : Sent) × IsMessage held message × (first_broken before message ≡ None)
-    × HasFewIds in_whole (id_limit limits) (before ++ message ∷ [])
-    × HasGrown limits (before ++ message ∷ [])
+    × HasFewIds (stop_in mode) (id_limit limits) (before ++ message ∷ [])
+    × HasGrown limits mode (before ++ message ∷ [])
 
 -- recordings as they are judged
-abbrev pub accepting : Limits → Judging
-accepting limits = record {
+abbrev pub accepting : Limits → Mode → Judging
+accepting limits mode = record {
   Held = Held;
   Value = Sent;
   input = limits.input;
   records = records limits.frame;
-  IsNext = IsNext limits;
-  Objects = Objects limits;
-  IsAccepted = IsAccepted limits;
+  IsNext = IsNext limits mode;
+  Objects = Objects limits mode;
+  IsAccepted = IsAccepted limits mode;
 }
 
 -- An input is accepted as one list of messages, or has one refusal, and not both.
 abbrev pub RecordingHasOneOutcome : Type 0
-RecordingHasOneOutcome = (limits : Limits) → AreSound limits → HasOneOutcome (accepting limits)
+RecordingHasOneOutcome = (limits : Limits) (mode : Mode) → AreSound limits → HasOneOutcome
+    (accepting limits mode)
 
 -- A refusal stays when more bytes come, unless the record was only cut.
 abbrev pub RecordingRefusalStays : Type 0
-RecordingRefusalStays = (limits : Limits) → AreSound limits → RefusalStays (accepting limits)
+RecordingRefusalStays = (limits : Limits) (mode : Mode) → AreSound limits → RefusalStays (accepting
+    limits mode)
 
 -- What was read no further than a record asks for is bounded there.
 abbrev pub ReadingIsBounded : Type 0
-ReadingIsBounded = (limits : Limits) → (bytes : List ℕ) (number : ℕ)
-    → IsReadTo (accepting limits) bytes number → IsBounded (accepting limits) bytes number
+ReadingIsBounded = (limits : Limits) (mode : Mode) → (bytes : List ℕ) (number : ℕ)
+    → IsReadTo (accepting limits mode) bytes number → IsBounded (accepting limits mode) bytes number

@@ -3,6 +3,7 @@ use Rattle.std.specs.Prelude.{◌≡◌, ℕ, Bool, true, List, length, Result, 
 use Rattle.dap_device.specs.declared.device.Source.{Ghosts as Source}
 use Rattle.dap_tree.specs.declared.side.Side.TheVariants.{Client, Adapter}
 use Rattle.dap_message.specs.Message.{Sent}
+use Rattle.dap_rename.specs.declared.mode.Mode.{Mode}
 use Rattle.dap_session.specs.Rules.{open_requests}
 use Rattle.dap_normal.specs.declared.checked.Checked.{Checked}
 use Rattle.dap_input.specs.declared.limits.Limits.{Limits}
@@ -19,14 +20,14 @@ pub record AreCounted (checked : Checked) (messages : List Sent) : Type 0 where
   pub client : checked.client_open ≡ open_requests Client messages
   pub adapter : checked.adapter_open ≡ open_requests Adapter messages
 
--- `check` over a reader, by what this tells of its bytes and its failures, with limits, and with
--- whether each request must have a response.
-module _ {R : Type 0} (source : Source R) (limits : Limits) (complete : Bool) where
+-- `check` over a reader, by what this tells of its bytes and its failures, with limits, with the
+-- mode of names, and with whether each request must have a response.
+module _ {R : Type 0} (source : Source R) (limits : Limits) (mode : Mode) (complete : Bool) where
   -- The input is accepted, with these numbers; where that is asked for, each request has a
   -- response.
   pub record HasChecked (old new : R) (checked : Checked) : Type 0 where
     pub messages : List Sent
-    pub accepts : Accepts source limits.input (IsAccepted limits) old new messages
+    pub accepts : Accepts source limits.input (IsAccepted limits mode) old new messages
     pub counted : AreCounted checked messages
     pub answered : complete ≡ true → (checked.client_open ≡ 0) × (checked.adapter_open ≡ 0)
 
@@ -35,7 +36,7 @@ module _ {R : Type 0} (source : Source R) (limits : Limits) (complete : Bool) wh
   pub record IsIncomplete (old new : R) (client adapter : ℕ) : Type 0 where
     pub asked : complete ≡ true
     pub messages : List Sent
-    pub accepts : Accepts source limits.input (IsAccepted limits) old new messages
+    pub accepts : Accepts source limits.input (IsAccepted limits mode) old new messages
     pub client_is : client ≡ open_requests Client messages
     pub adapter_is : adapter ≡ open_requests Adapter messages
     pub some : client ≡ 0 → adapter ≡ 0 → ⊥
@@ -46,4 +47,4 @@ module _ {R : Type 0} (source : Source R) (limits : Limits) (complete : Bool) wh
   Checks old new (Err WriteFault) = ⊥
   Checks old new (Err Memory) = Unit {0}
   Checks old new (Err refused) = (text : List ℕ)
-      × RefusesNext source limits old new refused text
+      × RefusesNext source limits mode old new refused text

@@ -1,10 +1,12 @@
 -- What it is that two normal texts hold messages that are the same. Source: own.
-use Rattle.std.specs.Prelude.{ℕ, List}
+use Rattle.std.specs.Prelude.{List}
 use Rattle.dap_message.specs.Message.{Sent}
-use Rattle.dap_rename.specs.Messages.{AreSame, in_whole}
-use Rattle.dap_normal.specs.Normalised.{Holds}
+use Rattle.dap_rename.specs.Messages.{AreSame}
+use Rattle.dap_rename.specs.Modes.{stop_in}
+use Rattle.dap_normal.specs.Normalised.{NormalText, Holds}
 
--- The one holds some messages, and the other some, and a renaming carries the one to the other.
-abbrev pub HoldTheSame : List ℕ → List ℕ → Type 0
-HoldTheSame bytes others = (messages : List Sent) × (held : List Sent) × Holds bytes messages
-    × Holds others held × AreSame in_whole messages held
+-- The one holds some messages, and the other some, and a renaming in the mode of the first carries
+-- the one to the other.
+abbrev pub HoldTheSame : NormalText → NormalText → Type 0
+HoldTheSame one other = (messages : List Sent) × (held : List Sent) × Holds one messages
+    × Holds other held × AreSame (stop_in one.mode) messages held

@@ -6,9 +6,10 @@ use Rattle.dap_tree.specs.declared.sort.Sort.{Sort}
 use Rattle.dap_message.specs.Message.{Sent}
 use Rattle.dap_recording.specs.Recording.{record_text}
 use Rattle.dap_recording.specs.declared.record.Record.{Record as WholeRecord}
-use Rattle.dap_rename.specs.Messages.{AreProper, IsNormal, in_whole}
+use Rattle.dap_rename.specs.Messages.{AreProper, IsNormal}
+use Rattle.dap_rename.specs.Modes.{stop_in}
 use Rattle.dap_rename.specs.Names.{StandFor, limit_in, mode_of}
-use Rattle.dap_rename.specs.declared.mode.Mode.TheVariants.{Whole}
+use Rattle.dap_rename.specs.declared.mode.Mode.{Mode}
 use Rattle.dap_session.specs.Standing.{Stands}
 use Rattle.dap_normal.specs.declared.judging.Judge.{Judge}
 use Rattle.dap_input.specs.declared.limits.Limits.{Limits}
@@ -24,16 +25,19 @@ held_of whole = (whole.side, whole.content)
 abbrev pub judge_limits : {T : Type 0} → Judge T → Limits
 judge_limits judge = judge.limits
 
+-- in which mode its names are
+abbrev pub judge_mode : {T : Type 0} → Judge T → Mode
+judge_mode judge = mode_of judge.names
+
 module _ {T : Type 0} (numbers : T → List ℤ) (table_limit : T → ℕ) where
   -- The judge stands for these messages, with this normal form: its session and its names do, and
-  -- it knows how long the text is. The names are those of the whole recording.
+  -- it knows how long the text is.
   pub record StandsFor (judge : Judge T) (messages normal : List Sent) : Type 0 where
     pub session : Stands judge.session messages
     pub names : StandFor numbers table_limit judge.names messages
-    pub mode : mode_of judge.names ≡ Whole
     pub name_limits : (s : Sort) → limit_in table_limit judge.names s ≡ judge.limits.ids
     pub proper : AreProper messages
-    pub is_normal : IsNormal in_whole messages normal
+    pub is_normal : IsNormal (stop_in (judge_mode judge)) messages normal
     pub fits : Fits judge.limits normal
     pub written : judge.written ≡ length (text normal)
 
@@ -59,7 +63,7 @@ module _ {T : Type 0} (numbers : T → List ℤ) (table_limit : T → ℕ) where
   pub record IsTaken (messages normal : List Sent) (held : Held) (judge : Judge T)
       (old new : List ℕ) : Type 0 where
     pub message : Sent
-    pub is_next : IsNext judge.limits messages held message
+    pub is_next : IsNext judge.limits (judge_mode judge) messages held message
     pub named : Sent
     pub stands : StandsFor numbers table_limit judge (messages ++ message ∷ []) (normal ++ named
         ∷ [])
@@ -71,4 +75,4 @@ module _ {T : Type 0} (numbers : T → List ℤ) (table_limit : T → ℕ) where
   JudgesRecord messages normal held n before after old new (Ok done) =
       IsTaken messages normal held after old new
   JudgesRecord messages normal held n before after old new (Err because) =
-      RefusesHeld (Objects before.limits messages held) n because
+      RefusesHeld (Objects before.limits (judge_mode before) messages held) n because

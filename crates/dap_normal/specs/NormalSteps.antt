@@ -7,13 +7,14 @@ use Rattle.dap_device.specs.declared.reading.Stop.{Stop}
 use Rattle.dap_device.specs.declared.reading.Stop.TheVariants.{End}
 use Rattle.dap_items.specs.Items.{HasItem}
 use Rattle.dap_message.specs.Message.{Sent}
+use Rattle.dap_rename.specs.declared.mode.Mode.{Mode}
 use Rattle.dap_recording.specs.declared.record_fault.RecordCause.TheVariants.{Cut}
 use Rattle.dap_input.specs.declared.limits.Limits.{Limits}
 use Rattle.dap_normal.specs.declared.normal_records.NormalRecords.{NormalRecords}
 use Rattle.dap_input.specs.declared.refused.Refused.{Refused}
 use Rattle.dap_input.specs.declared.refused.Refused.TheVariants.{Record}
 use Rattle.dap_normal.specs.Accepting.{IsAccepted, accepting}
-use Rattle.dap_normal.specs.JudgingSteps.{StandsFor, judge_limits, record_of}
+use Rattle.dap_normal.specs.JudgingSteps.{StandsFor, judge_limits, judge_mode, record_of}
 use Rattle.dap_input.specs.InputSteps.{Says}
 use Rattle.dap_input.specs.ItemReading.{StandsForRecord, record_items}
 use Rattle.dap_input.specs.ReadTo.{IsReadTo}
@@ -22,10 +23,10 @@ use Rattle.dap_input.specs.RecordSteps.{StandsBetween}
 -- Of these bytes, which have come, what is unread begins behind records that are accepted as these
 -- messages, for which the judge stands, with this normal form.
 pub record StandsBefore {T : Type 0} (numbers : T → List ℤ) (table_limit : T
-    → ℕ) (limits : Limits) (bytes : List ℕ) (records : NormalRecords T)
+    → ℕ) (limits : Limits) (mode : Mode) (bytes : List ℕ) (records : NormalRecords T)
     (messages normal : List Sent) : Type 0 where
   pub front : List ℕ
-  pub accepted : IsAccepted limits front messages
+  pub accepted : IsAccepted limits mode front messages
   pub came : bytes ≡ front ++ records.records.pieces.unread
   pub taken : records.records.pieces.taken ≡ length bytes
   pub limit_is : records.records.pieces.limit ≡ limits.input
@@ -33,9 +34,10 @@ pub record StandsBefore {T : Type 0} (numbers : T → List ℤ) (table_limit : T
   pub number_is : records.records.number ≡ length messages + 1
   -- no more records than bytes, so that a number that counts bytes can count records
   pub few : records.records.number ≤ length front + 1
-  pub read_to : IsReadTo (accepting limits) bytes (length messages)
+  pub read_to : IsReadTo (accepting limits mode) bytes (length messages)
   pub stands : StandsFor numbers table_limit records.judge messages normal
   pub judge_limits_are : judge_limits records.judge ≡ limits
+  pub judge_mode_is : judge_mode records.judge ≡ mode
 
 -- The whole next record is among the bytes that have come.
 abbrev pub IsAtHand : {T : Type 0} → Limits → NormalRecords T → Type 0
@@ -48,7 +50,7 @@ remaining records =
     records.records.pieces.unread
 
 module _ {T R : Type 0} (numbers : T → List ℤ) (table_limit : T → ℕ) (source : Source R)
-    (limits : Limits) (bytes : List ℕ) (messages normal : List Sent)
+    (limits : Limits) (mode : Mode) (bytes : List ℕ) (messages normal : List Sent)
     (old new : NormalRecords T) (before after : R) where
   -- One more record is accepted, and the record of its normal form is appended.
   pub record HasGone (text longer : List ℕ) : Type 0 where
@@ -56,9 +58,10 @@ module _ {T R : Type 0} (numbers : T → List ℤ) (table_limit : T → ℕ) (so
     pub came : HasComeSoFar source before after more None
     pub message : Sent
     pub named : Sent
-    pub stands : StandsBefore numbers table_limit limits (bytes ++ more) new (messages ++ message
+    pub stands : StandsBefore numbers table_limit limits mode (bytes ++ more) new (messages
+        ++ message
         ∷ []) (normal ++ named ∷ [])
-    pub read_to : IsReadTo (accepting limits) (bytes ++ more) old.records.number
+    pub read_to : IsReadTo (accepting limits mode) (bytes ++ more) old.records.number
     pub shorter : remaining new < remaining old
     pub appended : longer ≡ text ++ record_of named
 
@@ -66,8 +69,8 @@ module _ {T R : Type 0} (numbers : T → List ℤ) (table_limit : T → ℕ) (so
   pub record HasEnded (text longer : List ℕ) : Type 0 where
     pub more : List ℕ
     pub came : HasComeSoFar source before after more (Some End)
-    pub accepted : IsAccepted limits (bytes ++ more) messages
-    pub read_to : IsReadTo (accepting limits) (bytes ++ more) old.records.number
+    pub accepted : IsAccepted limits mode (bytes ++ more) messages
+    pub read_to : IsReadTo (accepting limits mode) (bytes ++ more) old.records.number
     pub judge_is : new.judge ≡ old.judge
     pub number_is : new.records.number ≡ old.records.number
     pub kept : longer ≡ text
@@ -78,8 +81,8 @@ module _ {T R : Type 0} (numbers : T → List ℤ) (table_limit : T → ℕ) (so
     pub stop : Option Stop
     pub came : HasComeSoFar source before after more stop
     pub within : length (bytes ++ more) ≤ limits.input + 1
-    pub read_to : IsReadTo (accepting limits) (bytes ++ more) old.records.number
-    pub says : Says (accepting limits) (bytes ++ more) stop old.records.number refused
+    pub read_to : IsReadTo (accepting limits mode) (bytes ++ more) old.records.number
+    pub says : Says (accepting limits mode) (bytes ++ more) stop old.records.number refused
     pub cut : (n : ℕ) → refused ≡ Record n Cut → stop ≡ Some End
 
   abbrev pub HasNext : List ℕ → List ℕ → Result Bool Refused → Type 0

@@ -2,7 +2,9 @@
 use Rattle.std.specs.Prelude.{◌≡◌, ℕ, List}
 use Rattle.std.specs.List.{AllByRecursion}
 use Rattle.dap_message.specs.Message.{Sent, IsTypedContent}
-use Rattle.dap_rename.specs.Messages.{IsNormal, in_whole}
+use Rattle.dap_rename.specs.Messages.{IsNormal}
+use Rattle.dap_rename.specs.Modes.{stop_in}
+use Rattle.dap_rename.specs.declared.mode.Mode.{Mode}
 use Rattle.dap_normal.specs.Accepting.{text}
 
 -- Each message is that of some content.
@@ -11,13 +13,19 @@ AreTyped messages =
     AllByRecursion (λ message. (content : List ℕ)
     × IsTypedContent message.side content message.doc) messages
 
--- The bytes hold these messages: they are typed, and the bytes are the text of their normal form.
-pub record Holds (bytes : List ℕ) (messages : List Sent) : Type 0 where
+-- A normal text, and the mode of the names in it.
+pub record NormalText : Type 0 where
+  pub mode : Mode
+  pub bytes : List ℕ
+
+-- The text holds these messages: they are typed, and it is the text of their normal form in its
+-- mode.
+pub record Holds (one : NormalText) (messages : List Sent) : Type 0 where
   pub typed : AreTyped messages
   pub normal : List Sent
-  pub is_normal : IsNormal in_whole messages normal
-  pub text_is : bytes ≡ text normal
+  pub is_normal : IsNormal (stop_in one.mode) messages normal
+  pub text_is : one.bytes ≡ text normal
 
--- They hold some.
-abbrev pub HoldsSome : List ℕ → Type 0
-HoldsSome bytes = (messages : List Sent) × Holds bytes messages
+-- It holds some.
+abbrev pub HoldsSome : NormalText → Type 0
+HoldsSome one = (messages : List Sent) × Holds one messages

@@ -1,9 +1,10 @@
 -- Normal texts that were written by the first rows of the profile, before ids of threads and of
--- breakpoints were renamed: what they are normalised to. Source: own.
+-- breakpoints were renamed: what they are normalised to, with the names of the whole. Source: own.
 use Rattle.std.specs.Prelude.{◌≡◌, ℕ, List}
 use Rattle.dap_profile.specs.Profile.{first_rows}
 use Rattle.dap_message.specs.Message.{Sent}
 use Rattle.dap_rename.specs.Messages.{IsNormal, in_whole}
+use Rattle.dap_rename.specs.declared.mode.Mode.TheVariants.{Whole}
 use Rattle.dap_input.specs.declared.limits.Limits.{Limits}
 use Rattle.dap_input.specs.Limits.{AreSound}
 use Rattle.dap_normal.specs.Accepting.{IsAcceptedByRows, text}
@@ -14,13 +15,13 @@ use Rattle.dap_normal.specs.Normalising.{Normalises}
 pub record IsOldGolden (limits : Limits) (old new : List ℕ) : Type 0 where
   pub recording : List ℕ
   pub first : List Sent
-  pub accepted : IsAcceptedByRows first_rows limits recording first
+  pub accepted : IsAcceptedByRows first_rows limits Whole recording first
   pub normal : List Sent
   pub is_normal : IsNormal in_whole first normal
   pub old_is : old ≡ text normal
-  pub normalises : Normalises limits recording new
+  pub normalises : Normalises limits Whole recording new
 
 -- An old golden file is normalised to the new text of its recording.
 abbrev pub OldGoldenFiles : Type 0
 OldGoldenFiles = (limits : Limits) → AreSound limits → (old new : List ℕ)
-    → IsOldGolden limits old new → Normalises limits old new
+    → IsOldGolden limits old new → Normalises limits Whole old new

@@ -9,30 +9,34 @@ use Rattle.dap_input.specs.Streaming as engine
 use Rattle.dap_input.specs.declared.limits.Limits.{Limits}
 use Rattle.dap_input.specs.declared.refused.Refused.{Refused}
 use Rattle.dap_input.specs.declared.refused.Refused.TheVariants.{Memory, WriteFault}
+use Rattle.dap_rename.specs.declared.mode.Mode.{Mode}
 use Rattle.dap_normal.specs.Accepting.{accepting}
 use Rattle.dap_normal.specs.Normalising.{IsCanonical, Normalises}
 
-module _ {R : Type 0} (source : Source R) (limits : Limits) where
+module _ {R : Type 0} (source : Source R) (limits : Limits) (mode : Mode) where
   abbrev pub HasComeTo : R → R → Option Stop → ℕ → List ℕ → Type 0
-  HasComeTo = engine.HasComeTo (accepting limits) (Normalises limits) source
+  HasComeTo = engine.HasComeTo (accepting limits mode) (Normalises limits mode) source
 
   -- This record is refused, or the reader fails at it. The records before it have this normal text.
   abbrev pub RefusesNext : R → R → Refused → List ℕ → Type 0
-  RefusesNext = engine.RefusesNext (accepting limits) (Normalises limits) source
+  RefusesNext = engine.RefusesNext (accepting limits mode) (Normalises limits mode) source
 
-module _ {R W : Type 0} (source : Source R) (sink : Sink W) (limits : Limits) where
+module _ {R W : Type 0} (source : Source R) (sink : Sink W) (limits : Limits) (mode : Mode) where
   abbrev pub HasGivenUp : R → R → W → W → Type 0
   HasGivenUp =
-      engine.HasGivenUp (accepting limits) (Normalises limits) (IsCanonical limits) source sink
+      engine.HasGivenUp (accepting limits mode) (Normalises limits mode) (IsCanonical limits mode)
+      source sink
 
   abbrev pub HasFailedToWrite : R → R → W → W → Type 0
   HasFailedToWrite =
-      engine.HasFailedToWrite (accepting limits) (Normalises limits) (IsCanonical limits) source
+      engine.HasFailedToWrite (accepting limits mode) (Normalises limits mode) (IsCanonical limits
+      mode) source
       sink
 
   -- The normal text of the records goes out as they are judged.
   abbrev pub Streams : {U : Type 0} → R → R → W → W → Result U Refused → Type 0
-  Streams = engine.Streams (accepting limits) (Normalises limits) (IsCanonical limits) source sink
+  Streams = engine.Streams (accepting limits mode) (Normalises limits mode) (IsCanonical limits
+      mode) source sink
 
 -- The answer is given: where memory was refused, at once, and else once the writer is flushed.
 abbrev pub Answers : {W : Type 0} → Sink W → W → W → Result (Unit {0}) Refused

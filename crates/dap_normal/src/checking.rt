@@ -11,7 +11,7 @@ use crate::normal_records::NormalRecords;
 use dap_device::Source;
 use dap_input::{Limits, Refused};
 use dap_message::Side;
-use dap_rename::{NameTable, Tables};
+use dap_rename::{Mode, NameTable, Tables};
 use std::alloc::Global;
 
 /// Reads a recording and judges it: its records, their messages, the rules of the session, how many
@@ -31,6 +31,7 @@ pub fn check<R: Source>(
     reader: &mut R,
     limits: Limits,
     complete: bool,
+    mode: Mode,
 ) -> Result<Checked, Refused>
     requires limits { AreSound limits }
     requires given { R.given reader.old < 2 ^ 62 }
@@ -39,12 +40,13 @@ pub fn check<R: Source>(
     // The numbers of an accepted recording are answered, or its first refusal. That it is
     // incomplete is answered exactly where that is asked for, and that the reader failed exactly
     // where it did.
-    ensures answer { Checks R.Source limits complete reader.old reader.new result }
+    ensures answer { Checks R.Source limits mode complete reader.old reader.new result }
 
     // It takes at most one byte past the limit.
     ensures taken { R.given reader.new ≤ R.given reader.old + limits.input + 1 }
 {
-    check_with(alloc, reader, limits, complete, index_tables(alloc, limits))
+    let tables = index_tables(alloc, limits);
+    check_with(alloc, reader, limits, complete, tables, mode)
 }
 
 /// Does what [`check`] does, with these tables for the names of ids. They have to be empty, each
@@ -59,6 +61,7 @@ pub fn check_with<R: Source, T: NameTable + Drop>(
     limits: Limits,
     complete: bool,
     tables: Tables<T>,
+    mode: Mode,
 ) -> Result<Checked, Refused>
     requires limits { AreSound limits }
     requires tables { AreReady T.numbers T.limit limits tables }
@@ -66,10 +69,10 @@ pub fn check_with<R: Source, T: NameTable + Drop>(
     requires failures { R.failures reader.old < 2 ^ 62 }
 
     // What `check` promises, whatever the tables are.
-    ensures answer { Checks R.Source limits complete reader.old reader.new result }
+    ensures answer { Checks R.Source limits mode complete reader.old reader.new result }
     ensures taken { R.given reader.new ≤ R.given reader.old + limits.input + 1 }
 {
-    let checked = count_records(alloc, reader, limits, tables)?;
+    let checked = count_records(alloc, reader, limits, tables, mode)?;
     if complete && (checked.client_open != 0 || checked.adapter_open != 0) {
         return Err(Refused::Incomplete(checked.client_open, checked.adapter_open));
     }
@@ -82,18 +85,19 @@ fn count_records<R: Source, T: NameTable + Drop>(
     reader: &mut R,
     limits: Limits,
     tables: Tables<T>,
+    mode: Mode,
 ) -> Result<Checked, Refused>
     requires limits { AreSound limits }
     requires tables { AreReady T.numbers T.limit limits tables }
     requires given { R.given reader.old < 2 ^ 62 }
     requires failures { R.failures reader.old < 2 ^ 62 }
-    ensures answer { Checks R.Source limits false reader.old reader.new result }
+    ensures answer { Checks R.Source limits mode false reader.old reader.new result }
     ensures taken { R.given reader.new ≤ R.given reader.old + limits.input + 1 }
 {
-    let Ok(mut records) = NormalRecords::new(alloc, limits, tables) else {
+    let Ok(mut records) = NormalRecords::new(alloc, limits, tables, mode) else {
         return Err(Refused::Memory);
     };
-    judge_records(alloc, &mut records, reader, limits)
+    judge_records(alloc, &mut records, reader, limits, mode)
 }
 
 /// Judges the records of an input, of which nothing has been read.
@@ -102,12 +106,13 @@ fn judge_records<R: Source, T: NameTable + Drop>(
     records: &mut NormalRecords<T>,
     reader: &mut R,
     limits: Limits,
+    mode: Mode,
 ) -> Result<Checked, Refused>
     requires limits { AreSound limits }
-    requires stands { StandsBefore T.numbers T.limit limits [] records.old [] [] }
+    requires stands { StandsBefore T.numbers T.limit limits mode [] records.old [] [] }
     requires given { R.given reader.old < 2 ^ 62 }
     requires failures { R.failures reader.old < 2 ^ 62 }
-    ensures answer { Checks R.Source limits false reader.old reader.new result }
+    ensures answer { Checks R.Source limits mode false reader.old reader.new result }
     ensures taken { R.given reader.new ≤ R.given reader.old + limits.input + 1 }
 {
     let mut text = Vec::new(alloc);

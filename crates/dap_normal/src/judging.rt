@@ -33,17 +33,19 @@ pub struct Judge<T> {
 
 impl<T: NameTable + Drop> Judge<T> {
     ghost use Rattle.dap_normal.specs.JudgingSteps.{JudgesRecord, StandsFor, held_of, judge_limits};
+    ghost use Rattle.dap_normal.specs.JudgingSteps.{judge_mode};
 
     /// A judge before the first record.
-    pub fn new(alloc: Global, limits: Limits, tables: Tables<T>) -> Judge<T>
+    pub fn new(alloc: Global, limits: Limits, tables: Tables<T>, mode: Mode) -> Judge<T>
         requires limits { AreSound limits }
         requires tables { AreReady T.numbers T.limit limits tables }
         ensures stands { StandsFor T.numbers T.limit result [] [] }
         ensures limits { judge_limits result ≡ limits }
+        ensures mode { judge_mode result ≡ mode }
     {
         Judge {
             session: Session::new(alloc),
-            names: Names::new(alloc, tables, Mode::Whole),
+            names: Names::new(alloc, tables, mode),
             written: 0,
             limits,
             scratch: Scratch::new(alloc),
@@ -64,6 +66,7 @@ impl<T: NameTable + Drop> Judge<T> {
             → JudgesRecord T.numbers T.limit messages normal (held_of whole.now) number self.old
             self.new out.old.items out.new.items result }
         ensures limits { judge_limits self.new ≡ judge_limits self.old }
+        ensures mode { judge_mode self.new ≡ judge_mode self.old }
         ensures kept { OnErr result (out.new.items ≡ out.old.items) }
     {
         let message = read_message(

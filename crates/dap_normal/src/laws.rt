@@ -5,6 +5,7 @@ ghost use Rattle.dap_normal.specs.Accepting.{RecordingRefusalStays};
 ghost use Rattle.dap_normal.specs.Normalising.{HasOneNormalForm, NormalIsAccepted};
 ghost use Rattle.dap_normal.specs.Normalising.{AcceptedIsNormalised, OneNormalText};
 ghost use Rattle.dap_normal.specs.Normalising.{NormalStandsStill, EqualTextsTell};
+ghost use Rattle.dap_normal.specs.Normalising.{WholeTextIsNormalised};
 ghost use Rattle.dap_normal.specs.OldGoldenFiles.{OldGoldenFiles};
 
 /// A recording is accepted as one list of messages, or has one refusal, and not both. A
@@ -37,6 +38,12 @@ pub fn equal_texts_tell()
 /// to the normal text of its recording, if the recording is accepted then and now.
 pub fn old_golden_files()
     ensures { OldGoldenFiles }
+{}
+
+/// A golden file with the names of the whole recording is normalised to the text of its recording
+/// with names that begin again at each stop, if both modes accept the recording.
+pub fn golden_files_of_the_whole()
+    ensures { WholeTextIsNormalised }
 {}
 
 /// What `normalise`, `check` and `compare` have read at a record: at most 65,536 bytes past it, or

@@ -10,6 +10,7 @@ use dap_frame::FrameFault;
 use dap_input::{Limits, Refused};
 use dap_message::{Message, MessageFault, Side, typed};
 use dap_recording::write_record;
+use dap_rename::Mode;
 use dap_tree::{Scratch, TreeFault, read_tree_with};
 use std::alloc::Global;
 
@@ -23,8 +24,8 @@ pub fn read_message(
     scratch: &mut Scratch,
 ) -> Result<Message, Refused>
     ensures ok { IfOk result (λ message. IsMessage (side, content.now) (sent message)) }
-    ensures err { IfErr result (λ because. (limits : Limits) (messages : List Sent)
-        → RefusesHeld (Objects limits messages (side, content.now)) number because) }
+    ensures err { IfErr result (λ because. (limits : Limits) (mode : Mode) (messages : List Sent)
+        → RefusesHeld (Objects limits mode messages (side, content.now)) number because) }
     ensures only { IfErr result
         (λ because. RefusesHeld (HoldsNoMessage (side, content.now)) number because) }
 {

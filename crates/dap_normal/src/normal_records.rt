@@ -16,7 +16,7 @@ use dap_device::Source;
 use dap_input::{Limits, Records, Refused};
 use dap_message::Side;
 use dap_recording::RecordReader;
-use dap_rename::{NameFault, NameTable, Renaming, Tables};
+use dap_rename::{Mode, NameFault, NameTable, Renaming, Tables};
 use std::alloc::{AllocError, Global};
 
 /// The records of an input, of which those before the next one are accepted. One record is held at
@@ -36,16 +36,17 @@ impl<T: NameTable + Drop> NormalRecords<T> {
         alloc: Global,
         limits: Limits,
         tables: Tables<T>,
+        mode: Mode,
     ) -> Result<NormalRecords<T>, AllocError>
         requires limits { AreSound limits }
         requires tables { AreReady T.numbers T.limit limits tables }
         ensures stands { IfOk result
-            (λ records. StandsBefore T.numbers T.limit limits [] records [] []) }
+            (λ records. StandsBefore T.numbers T.limit limits mode [] records [] []) }
     {
         let reader = RecordReader::new(alloc, limits.frame);
         Ok(NormalRecords {
             records: Records::new(alloc, reader, limits.input)?,
-            judge: Judge::new(alloc, limits, tables),
+            judge: Judge::new(alloc, limits, tables, mode),
         })
     }
 
@@ -68,8 +69,9 @@ impl<T: NameTable + Drop> NormalRecords<T> {
     /// Whether the whole next record is among the bytes that have come, so that
     /// [`next`](NormalRecords::next) reads nothing. Takes no memory.
     pub fn has_next(&self) -> bool
-        ensures { (limits : Limits) (bytes : List ℕ) (messages normal : List Sent)
-            → StandsBefore T.numbers T.limit limits bytes self.now messages normal
+        ensures { (limits : Limits) (mode : Mode) (bytes : List ℕ)
+            (messages normal : List Sent)
+            → StandsBefore T.numbers T.limit limits mode bytes self.now messages normal
             → IsTrue result → IsAtHand limits self.now }
     {
         self.records.has_next()
@@ -87,15 +89,17 @@ impl<T: NameTable + Drop> NormalRecords<T> {
         requires given { R.given
             reader.old + (self.old.records.pieces.limit - self.old.records.pieces.taken) < 2 ^ 63 }
         requires failures { R.failures reader.old < 2 ^ 63 }
-        ensures next { (limits : Limits) (bytes : List ℕ) (messages normal : List Sent)
-            → StandsBefore T.numbers T.limit limits bytes self.old messages normal
-            → HasNext T.numbers T.limit R.Source limits bytes messages normal
+        ensures next { (limits : Limits) (mode : Mode) (bytes : List ℕ)
+            (messages normal : List Sent)
+            → StandsBefore T.numbers T.limit limits mode bytes self.old messages normal
+            → HasNext T.numbers T.limit R.Source limits mode bytes messages normal
             self.old self.new reader.old reader.new text.old.items text.new.items result }
         ensures kept { OnErr result (text.new.items ≡ text.old.items) }
 
         // Where the record is at hand, nothing is read.
-        ensures at_hand { (limits : Limits) (bytes : List ℕ) (messages normal : List Sent)
-            → StandsBefore T.numbers T.limit limits bytes self.old messages normal
+        ensures at_hand { (limits : Limits) (mode : Mode) (bytes : List ℕ)
+            (messages normal : List Sent)
+            → StandsBefore T.numbers T.limit limits mode bytes self.old messages normal
             → IsAtHand limits self.old → R.given reader.new ≡ R.given reader.old }
     {
         let number = self.records.number();

@@ -1,39 +1,48 @@
 //! The text of a normal form.
 ghost use Rattle.std.specs.Prelude.{◌≡◌};
 
+use dap_rename::Mode;
 use std::marker::Model;
 
-/// The text of the normal form of some messages, each of which some content is typed as.
+/// The text of the normal form of some messages, each of which some content is typed as, and the
+/// mode of the names in it.
 #[derive(Drop)]
 pub struct Normalised {
+    mode: Mode,
     bytes: Vec<u8>,
 }
 
 impl Model for Normalised {
-    ghost use Rattle.std.specs.Prelude.{ℕ, List};
-    ghost use Rattle.dap_normal.specs.Normalised.{HoldsSome};
+    ghost use Rattle.dap_normal.specs.Normalised.{HoldsSome, NormalText};
 
-    ghost Value = { List ℕ };
+    ghost Value = { NormalText };
 
-    ghost view = { λ n. n.bytes.items };
+    ghost view = { λ n. record { mode = n.mode; bytes = n.bytes.items } };
 
-    ghost invariant = { λ n. HoldsSome n.bytes.items };
+    ghost invariant = { λ n. HoldsSome (record { mode = n.mode; bytes = n.bytes.items }) };
 }
 
 impl Normalised {
     ghost use Rattle.dap_normal.specs.Normalised.{HoldsSome};
 
-    pub(crate) fn new(bytes: Vec<u8>) -> Normalised
-        requires { HoldsSome bytes.items }
-        ensures { result ≡ bytes.items }
+    pub(crate) fn new(mode: Mode, bytes: Vec<u8>) -> Normalised
+        requires { HoldsSome (record { mode = mode; bytes = bytes.items }) }
+        ensures { result ≡ record { mode = mode; bytes = bytes.items } }
     {
-        Normalised { bytes }
+        Normalised { mode, bytes }
+    }
+
+    /// In which mode its ids have names. It takes no memory.
+    pub fn mode(&self) -> Mode
+        ensures { result ≡ self.now.mode }
+    {
+        self.mode
     }
 
     /// The text. It takes no memory.
     pub fn bytes(&self) -> &[u8]
-        ensures same { result.now ≡ self.now }
-        ensures holds { HoldsSome result.now }
+        ensures same { result.now ≡ self.now.bytes }
+        ensures holds { HoldsSome self.now }
     {
         self.bytes.as_slice()
     }

@@ -1,5 +1,5 @@
 //! Normalises recordings.
-ghost use Rattle.std.specs.Prelude.{◌+◌, ◌<◌, ◌≤◌, ◌^◌, [], IfErr, IfOk};
+ghost use Rattle.std.specs.Prelude.{◌≡◌, ◌+◌, ◌<◌, ◌≤◌, ◌^◌, [], IfErr, IfOk};
 ghost use Rattle.dap_input.specs.Limits.{AreSound};
 ghost use Rattle.dap_normal.specs.NameTables.{AreReady};
 ghost use Rattle.dap_normal.specs.NormalSteps.{StandsBefore};
@@ -11,7 +11,7 @@ use crate::normal_records::NormalRecords;
 use crate::normalised::Normalised;
 use dap_device::{MemorySource, Sink, Source, write_all};
 use dap_input::{Limits, Refused};
-use dap_rename::{NameTable, Tables};
+use dap_rename::{Mode, NameTable, Tables};
 use std::alloc::Global;
 
 /// How long a text grows before it is written, though the next record is at hand.
@@ -22,27 +22,34 @@ const PIECE: usize = 65_536;
 ///
 /// Each sort of ids counts by first appearance over the whole recording: the sequence numbers of
 /// each side, frame ids, variables references, of which a 0 stays, thread ids and breakpoint ids.
+/// With [`Mode::PerStop`] frame ids and references count anew behind each `stopped` event.
 /// Capabilities that an `initialize` response leaves out are false in it.
 ///
 /// # Errors
 ///
 /// The first refusal of the recording, or `Memory`.
-pub fn normalise_bytes(alloc: Global, bytes: &[u8], limits: Limits) -> Result<Normalised, Refused>
+pub fn normalise_bytes(
+    alloc: Global,
+    bytes: &[u8],
+    limits: Limits,
+    mode: Mode,
+) -> Result<Normalised, Refused>
     requires limits { AreSound limits }
 
     // The text is answered exactly where the recording is accepted, and its first refusal exactly
     // where it is not.
-    ensures ok { IfOk result (λ text. IsCanonical limits bytes.now text) }
-    ensures err { IfErr result (λ refused. RefusesBytes limits bytes.now refused) }
+    ensures ok { IfOk result (λ text. IsCanonical limits mode bytes.now text.bytes) }
+    ensures err { IfErr result (λ refused. RefusesBytes limits mode bytes.now refused) }
+    ensures mode { IfOk result (λ text. text.mode ≡ mode) }
 {
     let tables = index_tables(alloc, limits);
-    let Ok(mut records) = NormalRecords::new(alloc, limits, tables) else {
+    let Ok(mut records) = NormalRecords::new(alloc, limits, tables, mode) else {
         return Err(Refused::Memory);
     };
     let mut reader = MemorySource::new(bytes);
     let mut text = Vec::new(alloc);
     while records.next(alloc, &mut reader, &mut text)? {}
-    Ok(Normalised::new(text))
+    Ok(Normalised::new(mode, text))
 }
 
 /// Gives the answer once all that was written is flushed.
@@ -89,6 +96,7 @@ pub fn normalise<R: Source, W: Sink>(
     reader: &mut R,
     writer: &mut W,
     limits: Limits,
+    mode: Mode,
 ) -> Result<(), Refused>
     requires limits { AreSound limits }
     requires given { R.given reader.old < 2 ^ 62 }
@@ -99,13 +107,14 @@ pub fn normalise<R: Source, W: Sink>(
     // those before it does and is; where memory is refused, no flush comes behind it; where the
     // writer fails, a front of the text goes out. A fault of a device is answered exactly where
     // that device failed.
-    ensures answer { Streams R.Source W.Sink limits reader.old reader.new
+    ensures answer { Streams R.Source W.Sink limits mode reader.old reader.new
         writer.old writer.new result }
 
     // It takes at most one byte past the limit.
     ensures taken { R.given reader.new ≤ R.given reader.old + limits.input + 1 }
 {
-    normalise_with(alloc, reader, writer, limits, index_tables(alloc, limits))
+    let tables = index_tables(alloc, limits);
+    normalise_with(alloc, reader, writer, limits, tables, mode)
 }
 
 /// Does what [`normalise`] does, with these tables for the names of ids. They have to be empty,
@@ -120,6 +129,7 @@ pub fn normalise_with<R: Source, W: Sink, T: NameTable + Drop>(
     writer: &mut W,
     limits: Limits,
     tables: Tables<T>,
+    mode: Mode,
 ) -> Result<(), Refused>
     requires limits { AreSound limits }
     requires tables { AreReady T.numbers T.limit limits tables }
@@ -128,14 +138,14 @@ pub fn normalise_with<R: Source, W: Sink, T: NameTable + Drop>(
     requires write_failures { W.failures writer.old < 2 ^ 62 }
 
     // What `normalise` promises, whatever the tables are.
-    ensures answer { Streams R.Source W.Sink limits reader.old reader.new
+    ensures answer { Streams R.Source W.Sink limits mode reader.old reader.new
         writer.old writer.new result }
     ensures taken { R.given reader.new ≤ R.given reader.old + limits.input + 1 }
 {
-    let Ok(mut records) = NormalRecords::new(alloc, limits, tables) else {
+    let Ok(mut records) = NormalRecords::new(alloc, limits, tables, mode) else {
         return Err(Refused::Memory);
     };
-    write_records(alloc, &mut records, reader, writer, limits)
+    write_records(alloc, &mut records, reader, writer, limits, mode)
 }
 
 /// Writes the normal text of each record of an input, of which nothing has been read. The texts of
@@ -146,13 +156,14 @@ fn write_records<R: Source, W: Sink, T: NameTable + Drop>(
     reader: &mut R,
     writer: &mut W,
     limits: Limits,
+    mode: Mode,
 ) -> Result<(), Refused>
     requires limits { AreSound limits }
-    requires stands { StandsBefore T.numbers T.limit limits [] records.old [] [] }
+    requires stands { StandsBefore T.numbers T.limit limits mode [] records.old [] [] }
     requires given { R.given reader.old < 2 ^ 62 }
     requires read_failures { R.failures reader.old < 2 ^ 62 }
     requires write_failures { W.failures writer.old < 2 ^ 62 }
-    ensures answer { Streams R.Source W.Sink limits reader.old reader.new
+    ensures answer { Streams R.Source W.Sink limits mode reader.old reader.new
         writer.old writer.new result }
     ensures taken { R.given reader.new ≤ R.given reader.old + limits.input + 1 }
 {

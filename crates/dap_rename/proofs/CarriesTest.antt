@@ -55,7 +55,8 @@ related_rest r (o ∷ a) b (p ∷ c) d n h = related_rest r a b c d (omega (arit
 abbrev pub ids_related : List (Class × ℤ × ℤ) → ℕ → List (Sort × ℤ) → List (Sort × ℤ) → Type 0
 ids_related r k is js = AreRelated r (map (occurrence k) is) (map (occurrence k) js)
 
-pub ids_append : (r : List (Class × ℤ × ℤ)) (k : ℕ) (a b c d : List (Sort × ℤ)) → ids_related r k a c
+pub ids_append : (r : List (Class × ℤ × ℤ)) (k : ℕ) (a b c d : List (Sort × ℤ)) → ids_related r k a
+    c
     → ids_related r k b d → ids_related r k (a ++ b) (c ++ d)
 ids_append r k a b c d h g =
     rw (map-append (occurrence k) a b, map-append (occurrence k) c d)
@@ -125,7 +126,8 @@ abbrev pub DocsCarried : List Pair → ℕ → Doc → Doc → Type 0
 DocsCarried ps n d e = (skeleton d ≡ skeleton e) × ids_related (entries ps) n (ids d) (ids e)
 
 mutual
-  pub doc_carried : (ps : List Pair) (n : ℕ) (d e : Doc) → carries_doc ps n d e ≡ true → DocsCarried ps n d e
+  pub doc_carried : (ps : List Pair) (n : ℕ) (d e : Doc) → carries_doc ps n d e ≡ true → DocsCarried
+      ps n d e
   doc_carried ps n null null h = (refl, tt)
   doc_carried ps n (boolean a) (boolean b) h = (ap boolean ((booleans_Decides a b).0 h), tt)
   doc_carried ps n (whole x) (whole y) h = (ap whole ((Decides-int_eq x y).0 h), tt)
@@ -154,7 +156,8 @@ mutual
       )
   items_carried ps n ds es h = absurd cc
 
-  pub members_carried : (ps : List Pair) (n : ℕ) (ms ns : Members) → carries_members ps n ms ns ≡ true
+  pub members_carried : (ps : List Pair) (n : ℕ) (ms ns : Members) → carries_members ps n ms ns
+      ≡ true
       → (members_skeleton ms ≡ members_skeleton ns)
       × ids_related (entries ps) n (members_ids ms) (members_ids ns)
   members_carried ps n no_members no_members h = (refl, tt)
@@ -187,7 +190,8 @@ mutual
       (in_has_pair ps (class_after n s) x y k.1)
   carried_doc ps n d e h k = absurd cc
 
-  pub carried_items : (ps : List Pair) (n : ℕ) (ds es : Items) → items_skeleton ds ≡ items_skeleton es
+  pub carried_items : (ps : List Pair) (n : ℕ) (ds es : Items) → items_skeleton ds ≡ items_skeleton
+      es
       → ids_related (entries ps) n (items_ids ds) (items_ids es) → carries_items ps n ds es ≡ true
   carried_items ps n no_items no_items h k = refl
   carried_items ps n (item d ds) (item e es) h k =
@@ -201,7 +205,8 @@ mutual
 
   pub carried_members : (ps : List Pair) (n : ℕ) (ms ns : Members)
       → members_skeleton ms ≡ members_skeleton ns
-      → ids_related (entries ps) n (members_ids ms) (members_ids ns) → carries_members ps n ms ns ≡ true
+      → ids_related (entries ps) n (members_ids ms) (members_ids ns) → carries_members ps n ms ns
+      ≡ true
   carried_members ps n no_members no_members h k = refl
   carried_members ps n (member l d ms) (member m e ns) h k =
       let name : l ≡ m = cc in
@@ -243,7 +248,8 @@ list_carried ps stop told k (m ∷ ms) (n ∷ ns) h =
     same_sent m.side n.side _ _ (same_side_told m.side n.side b.0) first.0 in
     let rest = list_carried ps stop told (k + stop m) ms ns a.1 in (
       same_cons (message_skeleton m) (message_skeleton n) _ _ alike rest.0,
-      related-append (entries ps) (map (occurrence k) (ids m.doc)) (occurrences stop (k + stop m) ms)
+      related-append (entries ps) (map (occurrence k) (ids m.doc)) (occurrences stop (k + stop m)
+          ms)
           (map (occurrence k) (ids n.doc)) (occurrences stop (k + stop n) ns) first.1
           (subst (λ j. AreRelated (entries ps) (occurrences stop (k + stop m) ms)
           (occurrences stop (k + j) ns)) (told m n alike) rest.1),

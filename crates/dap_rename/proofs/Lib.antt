@@ -7,6 +7,7 @@ pub mod Classes
 pub mod Sameness
 pub mod NormalForms
 pub mod Stops
+pub mod FinerSameness
 pub mod ListGrowth
 pub mod TableContents
 pub mod CarriesTest

@@ -1,45 +1,19 @@
 -- Two lists of messages are the same whose ids of some sorts are those of two lists that are the
 -- same, and whose other ids are equal.
 use Rattle.std.proofs.Common.{◌≡◌, ℤ, Bool, not, List, [], ◌∷◌, ◌++◌, map, refl, sym, ◌∙◌, ap}
-use Rattle.std.proofs.lemmas.List.{map-append}
-use Rattle.dap_tree.specs.Ids.{ids, sorts_of}
+use Rattle.dap_tree.specs.Ids.{ids}
 use Rattle.dap_tree.specs.declared.sort.Sort.{Sort}
-use Rattle.dap_tree.proofs.IdNumbers.{sorts_alike}
 use Rattle.dap_message.specs.Message.{Sent}
 use Rattle.dap_names.specs.Numbering.{named}
 use Rattle.dap_names.proofs.Additions.{by_bool}
-use Rattle.dap_names.proofs.MixedNames.{part, firsts, part-append, names_of_parts}
+use Rattle.dap_names.proofs.MixedNames.{part, part-append, names_of_parts}
 use Rattle.dap_rename.specs.Laws.{of_sorts, AreMixed, SameByParts}
 use Rattle.dap_rename.specs.Messages.{Class, class_after, in_whole, message_skeleton, occurrence}
 use Rattle.dap_rename.specs.Messages.{occurrences, same_class}
-use Rattle.dap_rename.proofs.Lists.{head_of, tail_of}
-use Rattle.dap_rename.proofs.Occurrences.{class_decides, class_sort, docs_alike, proper_occurrences}
+use Rattle.dap_rename.proofs.NormalForms.{whole_is_told}
+use Rattle.dap_rename.proofs.Occurrences.{class_decides, class_sort, firsts_alike}
+use Rattle.dap_rename.proofs.Occurrences.{proper_occurrences}
 use Rattle.dap_rename.proofs.Sameness.{alike, same_of}
-
--- ---- the classes of ids
-
-firsts_of : (is js : List (Sort × ℤ)) → sorts_of is ≡ sorts_of js
-    → firsts (map (occurrence 0) is) ≡ firsts (map (occurrence 0) js)
-firsts_of [] [] h = refl
-firsts_of [] (j ∷ js) h = absurd cc
-firsts_of (i ∷ is) [] h = absurd cc
-firsts_of (i ∷ is) (j ∷ js) h =
-    let one : i.0 ≡ j.0 = cc in
-    let more : sorts_of is ≡ sorts_of js = cc in
-    rw (one, firsts_of is js more) refl
-
-firsts_alike : (ms ns : List Sent) → map message_skeleton ms ≡ map message_skeleton ns
-    → firsts (occurrences in_whole 0 ms) ≡ firsts (occurrences in_whole 0 ns)
-firsts_alike [] [] h = refl
-firsts_alike [] (n ∷ ns) h = absurd cc
-firsts_alike (m ∷ ms) [] h = absurd cc
-firsts_alike (m ∷ ms) (n ∷ ns) h =
-    let class : Class × ℤ → Class = λ o. o.0 in
-    let one = firsts_of (ids m.doc) (ids n.doc)
-    (sorts_alike m.doc n.doc (docs_alike m n (head_of h))) in
-    map-append class (map (occurrence 0) (ids m.doc)) (occurrences in_whole 0 ms)
-    ∙ rw (one, firsts_alike ms ns (tail_of h)) refl
-    ∙ sym (map-append class (map (occurrence 0) (ids n.doc)) (occurrences in_whole 0 ns))
 
 -- ---- the ids of some sorts
 
@@ -109,7 +83,7 @@ same_by_parts p ms ns os qs same h left right =
     (record {
       skeletons = skeletons;
       names = names_of_parts same_class class_decides (λ c. p c.0) xs ys
-          (firsts_alike os qs skeletons) (equal_of p ms ns os qs h) names;
+          (firsts_alike in_whole whole_is_told 0 os qs skeletons) (equal_of p ms ns os qs h) names;
       left = proper_occurrences in_whole 0 os left;
       right = proper_occurrences in_whole 0 qs right;
     })

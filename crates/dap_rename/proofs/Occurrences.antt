@@ -2,21 +2,22 @@
 -- its skeletons and its ids.
 use Rattle.std.proofs.Common.{◌≡◌, ℕ, ◌+◌, ℤ, true, false, List, [], ◌∷◌, ◌++◌, map, length, refl}
 use Rattle.std.proofs.Common.{sym}
-use Rattle.std.proofs.Common.{◌∙◌, ap, arith, append_assoc, append-nil}
-use Rattle.std.proofs.lemmas.List.{length-append, length-map}
+use Rattle.std.proofs.Common.{◌∙◌, ap, ap₂, subst, arith, append_assoc, append-nil}
+use Rattle.std.proofs.lemmas.List.{length-append, length-map, map-append}
 use Rattle.std.proofs.lemmas.Bool.Decides.{Decides-and, Decides-eqb, Decides-like}
 use Rattle.std.specs.Bool.{Decides}
 use Rattle.std.specs.List.{AllByRecursion}
 use lib.Dec.{eqb}
 use Rattle.dap_tree.specs.Doc.{Doc}
-use Rattle.dap_tree.specs.Ids.{ids, skeleton, numbers_of, with_ids}
+use Rattle.dap_tree.specs.Ids.{ids, skeleton, numbers_of, sorts_of, with_ids}
 use Rattle.dap_tree.specs.declared.side.Side.{Side}
 use Rattle.dap_tree.specs.declared.sort.Sort.{Sort}
 use Rattle.dap_tree.specs.declared.sort.Sort.TheVariants.{Frame}
 use Rattle.dap_tree.proofs.Booleans.{and_left, and_right, and_both}
-use Rattle.dap_tree.proofs.IdNumbers.{count_alike, count_ids, with_own, with_others}
+use Rattle.dap_tree.proofs.IdNumbers.{count_alike, count_ids, sorts_alike, with_own, with_others}
 use Rattle.dap_message.specs.Message.{Sent}
 use Rattle.dap_message.specs.Numbers.{is_proper_number, are_proper}
+use Rattle.dap_names.proofs.MixedNames.{firsts}
 use Rattle.dap_rename.specs.Messages.{Class, IsProperId, AreProper, class_after, occurrence}
 use Rattle.dap_rename.specs.Messages.{occurrences, message_skeleton, same_class}
 use Rattle.dap_rename.specs.Sorts.{sort_number, same_sort}
@@ -121,6 +122,34 @@ occurrences_alike stop j k (m ∷ ms) (n ∷ ns) h =
       length-map (ids m.doc) (occurrence j),
       length-map (ids n.doc) (occurrence k),
     )
+
+-- the classes of ids are told by skeletons
+firsts_of : (k : ℕ) (is js : List (Sort × ℤ)) → sorts_of is ≡ sorts_of js
+    → firsts (map (occurrence k) is) ≡ firsts (map (occurrence k) js)
+firsts_of k [] [] h = refl
+firsts_of k [] (j ∷ js) h = absurd cc
+firsts_of k (i ∷ is) [] h = absurd cc
+firsts_of k (i ∷ is) (j ∷ js) h =
+    let one : i.0 ≡ j.0 = cc in
+    let more : sorts_of is ≡ sorts_of js = cc in
+    rw (one, firsts_of k is js more) refl
+
+pub firsts_alike : (stop : Sent → ℕ) → IsToldBySkeleton stop → (k : ℕ) (ms ns : List Sent)
+    → map message_skeleton ms ≡ map message_skeleton ns
+    → firsts (occurrences stop k ms) ≡ firsts (occurrences stop k ns)
+firsts_alike stop told k [] [] h = refl
+firsts_alike stop told k [] (n ∷ ns) h = absurd cc
+firsts_alike stop told k (m ∷ ms) [] h = absurd cc
+firsts_alike stop told k (m ∷ ms) (n ∷ ns) h =
+    let class : Class × ℤ → Class = λ o. o.0 in
+    let one = firsts_of k (ids m.doc) (ids n.doc)
+    (sorts_alike m.doc n.doc (docs_alike m n (head_of h))) in
+    let rest =
+    subst (λ j. firsts (occurrences stop (k + stop m) ms) ≡ firsts (occurrences stop (k + j) ns))
+    (told m n (head_of h)) (firsts_alike stop told (k + stop m) ms ns (tail_of h)) in
+    map-append class (map (occurrence k) (ids m.doc)) (occurrences stop (k + stop m) ms)
+    ∙ ap₂ (λ a b. a ++ b) one rest
+    ∙ sym (map-append class (map (occurrence k) (ids n.doc)) (occurrences stop (k + stop n) ns))
 
 -- ---- messages are told by their skeletons and their ids
 

@@ -299,7 +299,8 @@ unfolding table
 stand_new stop numbers_of limit names none empty =
     record {
       stops = ap length none;
-      classes = λ c. ap (λ past. get_or (past_lists past c.0 ++ numbers_of (table_of names.tables c.0)
+      classes = λ c. ap (λ past. get_or (past_lists past c.0 ++ numbers_of (table_of names.tables
+          c.0)
           ∷ []) c.1 []) none
           ∙ ap (λ t. get_or (past_lists [] c.0 ++ t ∷ []) c.1 []) (empty c.0)
           ∙ empty_last (past_lists [] c.0) c.1 ∙ nothing c.0 c.1;

@@ -61,6 +61,11 @@ abbrev pub FrontHasFewIds : Type 0
 FrontHasFewIds = (stop : Sent → ℕ) (limit : Sort → ℕ) (ms more : List Sent)
     → HasFewIds stop limit (ms ++ more) → HasFewIds stop limit ms
 
+-- Lists that are the same in the whole are the same in each mode of names.
+abbrev pub SameInEachMode : Type 0
+SameInEachMode = (mode : Mode) (ms ns : List Sent) → AreSame in_whole ms ns
+    → AreSame (stop_in mode) ms ns
+
 -- ---- other ids beside them
 
 -- The ids of the sorts that pass.

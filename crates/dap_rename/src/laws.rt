@@ -1,8 +1,8 @@
 //! Theorems on renamings and on the normal form, which hold of all lists of messages. Each function
 //! does nothing: a call of it gives its clauses to a proof.
 ghost use Rattle.dap_rename.specs.Laws.{WholeIsTold, ModeIsTold, SameAsItself, SameBothWays};
-ghost use Rattle.dap_rename.specs.Laws.{SameAlong};
-ghost use Rattle.dap_rename.specs.Laws.{SameIsProper, SameFronts, SameCounts, FrontHasFewIds};
+ghost use Rattle.dap_rename.specs.Laws.{SameAlong, SameIsProper, SameFronts, SameCounts};
+ghost use Rattle.dap_rename.specs.Laws.{FrontHasFewIds, SameInEachMode};
 ghost use Rattle.dap_rename.specs.Laws.{FreshIsUnique, NormalIsUnique, NormalIsComplete};
 ghost use Rattle.dap_rename.specs.Laws.{NamedIsNormal, SomeNormal, NormalIsItsOwn, NormalOfFront};
 ghost use Rattle.dap_rename.specs.Laws.{NormalOfNext, NamesAreCounted, NamesAreSmall};
@@ -26,6 +26,11 @@ pub fn same_share()
 /// Lists that are the same stay so with further ids that are equal, of other sorts.
 pub fn same_with_other_ids()
     ensures { SameByParts }
+{}
+
+/// Lists that are the same in the whole of a recording are the same where names begin again.
+pub fn same_in_each_mode()
+    ensures { SameInEachMode }
 {}
 
 /// Lists have one normal form exactly where they are the same.

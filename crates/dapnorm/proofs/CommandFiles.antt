@@ -16,13 +16,14 @@ use Rattle.clap.specs.Walk.{Row, Rule, Text, action_of, answers_to, default_rows
 use Rattle.clap.specs.Walk.{first_of, has_row, more_values, most_values, nothing_held, reading_by}
 use Rattle.clap.specs.Walk.{rows_after, stop_after, used, used_as, values_or_missing, walk_from}
 use Rattle.clap.specs.Walk.{walked, with_default, with_values, without}
-use Rattle.clap.specs.declared.builder.action.ArgAction.TheVariants.{Set, Help}
+use Rattle.clap.specs.declared.builder.action.ArgAction.TheVariants.{Set, SetTrue, Help}
 use Rattle.clap.specs.declared.builder.value_parser.Reading.{Reading}
 use Rattle.clap.specs.declared.parser.matches.ValueSource.{ValueSource}
 use Rattle.clap.specs.declared.parser.matches.ValueSource.TheVariants.{CommandLine, DefaultValue}
 use Rattle.clap.proofs.WalkLemmas.{both}
-use Rattle.dapnorm.specs.CommandLine.{Told, file, is_set, job_named, masker, names_job}
-use Rattle.dapnorm.specs.CommandLine.{of_two_files, over_files, program, two_files}
+use Rattle.dapnorm.specs.CommandLine.{Told, asks_per_stop, file, is_set, job_named, masker}
+use Rattle.dapnorm.specs.CommandLine.{names_job, of_two_files, over_files, per_stop_flag, program}
+use Rattle.dapnorm.specs.CommandLine.{two_files}
 use Rattle.dapnorm.specs.CommandLine as line
 use Rattle.dapnorm.proofs.CommandWalk.{finished_keeps}
 
@@ -83,6 +84,20 @@ set_use again a is_set one (v ∷ vs) rows passes was =
     (values_added a.id (reading_by a) CommandLine (v ∷ vs) (without a.id rows) (omega arith)
     (row_removed a.id rows was))
 
+-- a flag, which stands for a value of its own where none is given
+flag_use : (again : Bool) (a : Rule) → action_of a ≡ SetTrue → 0 < length a.missing
+    → UseHasValues again a
+flag_use again a is_flag some values rows passes was =
+    subst
+    (λ x. HaveValues (used_as x a.id (reading_by a) (values_or_missing a values) rows))
+    (sym is_flag)
+    (values_added a.id (reading_by a) CommandLine (values_or_missing a values) (without a.id rows)
+    (given values) (row_removed a.id rows was))
+  where
+    given : (values : List Text) → 0 < length (values_or_missing a values)
+    given [] = some
+    given (v ∷ vs) = omega arith
+
 -- the flag for help, which no parse takes
 no_use : (again : Bool) (a : Rule) → action_of a ≡ Help → UseHasValues again a
 no_use again a is_help values rows passes was =
@@ -110,12 +125,15 @@ abbrev built_of_two : Text → Shape
 built_of_two name =
     built_leaf (inherited (with_leaf_noted (marked_built program.top)) (of_two_files name).top)
 
--- its arguments: two files and the flag for help
+-- its arguments: two files, its flag and the flag for help
 abbrev first_file : Rule
 first_file = with_index 1 (filled (file (codes "A")))
 
 abbrev second_file : Rule
 second_file = with_index 2 (filled (file (codes "B")))
+
+abbrev stop_flag : Rule
+stop_flag = with_index 3 (filled per_stop_flag)
 
 abbrev help_flag : Rule
 help_flag = with_index 3 (filled help_rule)
@@ -124,7 +142,10 @@ each_rule : (name : Text)
     → AllByRecursion (UseHasValues (built_of_two name).args_override_self) (built_of_two name).rules
 each_rule name = (
   set_use false first_file refl refl,
-  (set_use false second_file refl refl, (no_use false help_flag refl, tt)),
+  (
+    set_use false second_file refl refl,
+    (flag_use false stop_flag refl (omega arith), (no_use false help_flag refl, tt)),
+  ),
 )
 
 some_first : (values : List Text) → 0 < length values → is_some (slice_get values 0) ≡ true
@@ -276,11 +297,17 @@ module _ (word : Text) (shape : Shape) (Has : List Row → Type 0) (only : IsOnl
 
 -- ---- the job
 
-both_files : (job : Text → Text → Told) (a b : Option Text) → is_some a ≡ true
-    → is_some b ≡ true → is_some (over_files job (two_files a b)) ≡ true
-both_files job None b some other = absurd (true≢false (sym some))
-both_files job (Some a) None some other = absurd (true≢false (sym other))
-both_files job (Some a) (Some b) some other = refl
+both_files : (job : Text → Text → Bool → Told) (given : List Row) → HasFiles given
+    → is_some (over_files job given) ≡ true
+both_files job given files =
+    by_names (first_of (codes "A") given) (first_of (codes "B") given) files.0 files.1
+  where
+    by_names : (a b : Option Text) → is_some a ≡ true → is_some b ≡ true
+        → is_some (option_map (λ files. job files.0 files.1 (asks_per_stop given)) (two_files a b))
+        ≡ true
+    by_names None b some other = absurd (true≢false (sym some))
+    by_names (Some a) None some other = absurd (true≢false (sym other))
+    by_names (Some a) (Some b) some other = refl
 
 mask_there : (rules : Option Text) → is_some rules ≡ true
     → is_some (option_map line.mask rules) ≡ true
@@ -288,37 +315,38 @@ mask_there None some = some
 mask_there (Some rules) some = refl
 
 by_name : (compact record_trace normalise check show mask rows compare diff : Bool)
-    (checked row : Told) (masked files apart : Option Told)
+    (normalised checked row : Told) (masked files apart : Option Told)
     → (mask ≡ true → is_some masked ≡ true) → (compare ≡ true → is_some files ≡ true)
     → (diff ≡ true → is_some apart ≡ true)
     → (compact || (record_trace
     || (normalise || (check || (show || (mask || (rows || (compare || diff)))))))) ≡ true
     → is_some (cond compact (Some line.compact)
     (cond record_trace (Some line.recording)
-    (cond normalise (Some line.normalise)
+    (cond normalise (Some normalised)
     (cond check (Some checked)
     (cond show (Some line.show)
     (cond mask masked
     (cond rows (Some row) (cond compare files (cond diff apart None))))))))) ≡ true
-by_name true r n k s m o c d checked row masked files apart has both_there two_there one = refl
-by_name false true n k s m o c d checked row masked files apart has both_there two_there one =
-    refl
-by_name false false true k s m o c d checked row masked files apart has both_there two_there one =
-    refl
-by_name false false false true s m o c d checked row masked files apart has both_there two_there
-    one = refl
-by_name false false false false true m o c d checked row masked files apart has both_there
-    two_there one = refl
-by_name false false false false false true o c d checked row masked files apart has both_there
-    two_there one = has refl
-by_name false false false false false false true c d checked row masked files apart has both_there
-    two_there one = refl
-by_name false false false false false false false true d checked row masked files apart has
-    both_there two_there one = both_there refl
-by_name false false false false false false false false true checked row masked files apart has
-    both_there two_there one = two_there refl
-by_name false false false false false false false false false checked row masked files apart has
-    both_there two_there one = absurd (true≢false (sym one))
+by_name true r n k s m o c d normalised checked row masked files apart
+    has both_there two_there one = refl
+by_name false true n k s m o c d normalised checked row masked files apart
+    has both_there two_there one = refl
+by_name false false true k s m o c d normalised checked row masked files apart
+    has both_there two_there one = refl
+by_name false false false true s m o c d normalised checked row masked files apart
+    has both_there two_there one = refl
+by_name false false false false true m o c d normalised checked row masked files apart
+    has both_there two_there one = refl
+by_name false false false false false true o c d normalised checked row masked files apart
+    has both_there two_there one = has refl
+by_name false false false false false false true c d normalised checked row masked files apart
+    has both_there two_there one = refl
+by_name false false false false false false false true d normalised checked row masked files apart
+    has both_there two_there one = both_there refl
+by_name false false false false false false false false true normalised checked row masked files apart
+    has both_there two_there one = two_there refl
+by_name false false false false false false false false false normalised checked row masked files apart
+    has both_there two_there one = absurd (true≢false (sym one))
 
 -- Words that a parse takes with one of the subcommands name a job.
 pub takes_job : (words : List Text) → takes program words ≡ true
@@ -326,14 +354,13 @@ pub takes_job : (words : List Text) → takes program words ≡ true
     → is_some (job_named (subcommand_of program words)) ≡ true
 takes_job words taken names = by_subcommand (subcommand_of program words) refl names
   where
-    there : (job : Text → Text → Told) (word : Text) → IsOnly word (built_of_two word)
+    there : (job : Text → Text → Bool → Told) (word : Text) → IsOnly word (built_of_two word)
         → (p : Text × List Row) → bytes_eq p.0 word ≡ true → subcommand_of program words ≡ Some p
-        → is_some (over_files job (two_files (first_of (codes "A") p.1) (first_of (codes "B") p.1)))
-        ≡ true
+        → is_some (over_files job p.1) ≡ true
     there job word only p named is =
-        let files = has_given word (built_of_two word) HasFiles only (level_has_files word) words
-        p.0 p.1 named taken is in
-        both_files job (first_of (codes "A") p.1) (first_of (codes "B") p.1) files.0 files.1
+        both_files job p.1
+        (has_given word (built_of_two word) HasFiles only (level_has_files word) words p.0 p.1 named
+        taken is)
 
     by_subcommand : (named : Option (Text × List Row)) → subcommand_of program words ≡ named
         → names_job named ≡ true → is_some (job_named named) ≡ true
@@ -344,11 +371,11 @@ takes_job words taken names = by_subcommand (subcommand_of program words) refl n
         (bytes_eq p.0 (codes "show")) (bytes_eq p.0 (codes "mask"))
         (bytes_eq p.0 (codes "rows")) (bytes_eq p.0 (codes "compare"))
         (bytes_eq p.0 (codes "diff"))
-        (line.check (is_set (first_of (codes "complete") p.1)))
+        (line.normalise (asks_per_stop p.1))
+        (line.check (is_set (first_of (codes "complete") p.1)) (asks_per_stop p.1))
         (line.rows (first_of (codes "N") p.1))
         (option_map line.mask (first_of (codes "RULES") p.1))
-        (over_files line.compare (two_files (first_of (codes "A") p.1) (first_of (codes "B") p.1)))
-        (over_files line.diff (two_files (first_of (codes "A") p.1) (first_of (codes "B") p.1)))
+        (over_files line.compare p.1) (over_files line.diff p.1)
         (λ masks. mask_there (first_of (codes "RULES") p.1)
         (has_given (codes "mask") built_masker HasRules only_mask level_has_rules words p.0 p.1
         masks taken is))

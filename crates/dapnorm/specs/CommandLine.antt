@@ -25,9 +25,18 @@ abbrev pub complete_flag : Rule
 complete_flag =
     record (new_rule (codes "complete")) { long = Some (codes "complete"); action = Some SetTrue }
 
--- the subcommand `check`, with its flag
+-- the flag `--per-stop`
+abbrev pub per_stop_flag : Rule
+per_stop_flag =
+    record (new_rule (codes "per-stop")) { long = Some (codes "per-stop"); action = Some SetTrue }
+
+-- the subcommand `normalise`, with its flag
+abbrev pub normaliser : App
+normaliser = with_rule (new_app (codes "normalise")) per_stop_flag
+
+-- the subcommand `check`, with its flags
 abbrev pub checker : App
-checker = with_rule (new_app (codes "check")) complete_flag
+checker = with_rule (with_rule (new_app (codes "check")) complete_flag) per_stop_flag
 
 -- the subcommand `rows`, with the number of a row
 abbrev pub row_teller : App
@@ -38,9 +47,11 @@ row_teller =
 abbrev pub file : Text → Rule
 file name = record (new_rule name) { required = true; action = Some Set }
 
--- a subcommand with its two files
+-- a subcommand with its two files and its flag
 abbrev pub of_two_files : Text → App
-of_two_files name = with_rule (with_rule (new_app name) (file (codes "A"))) (file (codes "B"))
+of_two_files name =
+    with_rule (with_rule (with_rule (new_app name) (file (codes "A"))) (file (codes "B")))
+    per_stop_flag
 
 -- the subcommands `compare` and `diff`
 abbrev pub comparer : App
@@ -70,7 +81,7 @@ program =
     (with_subcommand
     (with_subcommand
     (with_subcommand (with_subcommand bare (plain (codes "compact")).top)
-    (plain (codes "record")).top) (plain (codes "normalise")).top) checker.top)
+    (plain (codes "record")).top) normaliser.top) checker.top)
     (plain (codes "show")).top)
     masker.top)
     row_teller.top)
@@ -85,24 +96,24 @@ IsCommand app command = (app_of command ≡ app) × ((fields_of command).has_glo
 pub data Told : Type 0 where
   compact : Told
   recording : Told
-  normalise : Told
-  check : Bool → Told
+  normalise : Bool → Told
+  check : Bool → Bool → Told
   show : Told
   mask : Text → Told
   rows : Option Text → Told
-  compare : Text → Text → Told
-  diff : Text → Text → Told
+  compare : Text → Text → Bool → Told
+  diff : Text → Text → Bool → Told
 
 abbrev pub told : Job → Told
 told job.Compact = compact
 told job.Record = recording
-told job.Normalise = normalise
-told (job.Check complete) = check complete
+told (job.Normalise per_stop) = normalise per_stop
+told (job.Check complete per_stop) = check complete per_stop
 told job.Show = show
 told (job.Mask rules) = mask rules.now
 told (job.Rows number) = rows (option_map (λ text. text.now) number)
-told (job.Compare a b) = compare a.now b.now
-told (job.Diff a b) = diff a.now b.now
+told (job.Compare a b per_stop) = compare a.now b.now per_stop
+told (job.Diff a b per_stop) = diff a.now b.now per_stop
 
 -- the text behind a reference that may be there
 abbrev pub text_in : Option (Bor Text) → Option Text
@@ -122,25 +133,30 @@ abbrev pub two_files : Option Text → Option Text → Option (Text × Text)
 two_files (Some a) (Some b) = Some (a, b)
 two_files _ _ = None
 
+-- whether names begin again at each stop, as the words say
+abbrev pub asks_per_stop : List Row → Bool
+asks_per_stop given = is_set (first_of (codes "per-stop") given)
+
 -- a job over two files
-abbrev pub over_files : (Text → Text → Told) → Option (Text × Text) → Option Told
-over_files job = option_map (λ files. job files.0 files.1)
+abbrev pub over_files : (Text → Text → Bool → Told) → List Row → Option Told
+over_files job given =
+    option_map (λ files. job files.0 files.1 (asks_per_stop given))
+    (two_files (first_of (codes "A") given) (first_of (codes "B") given))
 
 -- the job of a subcommand with the words that it was given
 abbrev pub job_of : Text → List Row → Option Told
 job_of name given =
     if bytes_eq name (codes "compact") then Some compact
     else if bytes_eq name (codes "record") then Some recording
-    else if bytes_eq name (codes "normalise") then Some normalise
+    else if bytes_eq name (codes "normalise") then Some
+    (normalise (asks_per_stop given))
     else if bytes_eq name (codes "check") then Some
-    (check (is_set (first_of (codes "complete") given)))
+    (check (is_set (first_of (codes "complete") given)) (asks_per_stop given))
     else if bytes_eq name (codes "show") then Some show
     else if bytes_eq name (codes "mask") then option_map mask (first_of (codes "RULES") given)
     else if bytes_eq name (codes "rows") then Some (rows (first_of (codes "N") given))
-    else if bytes_eq name (codes "compare") then over_files compare
-    (two_files (first_of (codes "A") given) (first_of (codes "B") given))
-    else if bytes_eq name (codes "diff") then over_files diff
-    (two_files (first_of (codes "A") given) (first_of (codes "B") given))
+    else if bytes_eq name (codes "compare") then over_files compare given
+    else if bytes_eq name (codes "diff") then over_files diff given
     else None
 
 -- The subcommand is one of the program's.

@@ -6,6 +6,7 @@ use Rattle.dap_device.specs.declared.device.Sink.{Ghosts as Sink}
 use Rattle.dap_diff.specs.Diffs.{TellsDifference}
 use Rattle.dap_diff.specs.declared.answer.Diff.{Diff}
 use Rattle.dap_diff.specs.declared.answer.Diff.TheVariants.{Same, Differ}
+use Rattle.dap_rename.specs.declared.mode.Mode.{Mode}
 use Rattle.dap_input.specs.declared.limits.Limits.{Limits}
 use Rattle.dapnorm.specs.ComparingRun.{ComparisonIsTold, differ_line, same_line}
 
@@ -29,9 +30,10 @@ diff_status (Differ number lines) = 1
 
 -- What `diff` answers of the readers is printed or told.
 pub record DiffIsTold {R S W E : Type 0} (source_a : Source R) (source_b : Source S)
-    (sink : Sink W) (errors : Sink E) (limits : Limits) (old_a new_a : R) (old_b new_b : S)
+    (sink : Sink W) (errors : Sink E) (limits : Limits) (mode : Mode) (old_a new_a : R) (old_b new_b
+    : S)
     (before after : W) (silent spoken : E) (status : ℕ) : Type 0 where
   pub answer : Result Diff CompareRefused
-  pub differs : TellsDifference source_a source_b limits old_a new_a old_b new_b answer
+  pub differs : TellsDifference source_a source_b limits mode old_a new_a old_b new_b answer
   pub tells : ComparisonIsTold sink errors diff_text diff_status answer before after silent spoken
       status

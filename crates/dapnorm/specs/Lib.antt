@@ -2,6 +2,7 @@ pub mod CommandLine
 pub mod ComparingRun
 pub mod DiffRun
 pub mod FaultLine
+pub mod Jobs
 pub mod MaskRun
 pub mod RowsRun
 pub mod Run

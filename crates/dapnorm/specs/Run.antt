@@ -4,6 +4,7 @@ use Rattle.std.specs.Prelude.{decimal, string_bytes}
 use Rattle.dap_device.specs.declared.device.Source.{Ghosts as Source}
 use Rattle.dap_device.specs.declared.device.Sink.{Ghosts as Sink}
 use Rattle.dap_normal.specs.declared.checked.Checked.{Checked}
+use Rattle.dap_rename.specs.declared.mode.Mode.{Mode}
 use Rattle.dapnorm.specs.FaultLine.{fault_line, refused_text}
 use Rattle.dapnorm.specs.declared.jobs.UsageFault.{UsageFault}
 use Rattle.dapnorm.specs.declared.jobs.UsageFault.TheVariants as usage
@@ -71,10 +72,11 @@ module _ {W : Type 0} (sink : Sink W) where
 -- What `check` answers of the reader is printed. Where it is refused, or cannot be printed, that is
 -- told.
 pub record CheckIsTold {R W E : Type 0} (source : Source R) (sink : Sink W) (errors : Sink E)
-    (limits : Limits) (complete : Bool) (old new : R) (before after : W) (silent spoken : E)
+    (limits : Limits) (mode : Mode) (complete : Bool) (old new : R) (before after : W) (silent
+    spoken : E)
     (status : ℕ) : Type 0 where
   pub answer : Result Checked Refused
-  pub checks : Checks source limits complete old new answer
+  pub checks : Checks source limits mode complete old new answer
   pub ended : Result (Unit {0}) Refused
   pub printed : CheckIsPrinted sink answer before after ended
   pub tells : IsTold errors silent spoken ended

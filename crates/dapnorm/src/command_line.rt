@@ -2,11 +2,13 @@
 ghost use Rattle.std.specs.Prelude.{[], ◌≡◌, codes, IfOk, IfErr, Some, true, false, map};
 ghost use Rattle.std.specs.Prelude.{option_map};
 ghost use Rattle.clap.specs.Words.{fault_of as faults_of, app_of, first_of, found_of, rows_of};
-ghost use Rattle.clap.specs.Words.{subcommand_of};
+ghost use Rattle.clap.specs.Words.{rule_of, subcommand_of};
 ghost use Rattle.clap.specs.Words.{subcommand_rows_of, takes, kind_of, with_subcommand};
 ghost use Rattle.clap.specs.declared.Command.TheViews.{out-Command as fields_of};
-ghost use Rattle.dapnorm.specs.CommandLine.{IsCommand, IsToldFor, IsToldOf, bare, checker};
-ghost use Rattle.dapnorm.specs.CommandLine.{is_asked, is_set, of_two_files, plain};
+ghost use Rattle.dapnorm.specs.CommandLine.{IsCommand, IsToldFor, IsToldOf, asks_per_stop};
+ghost use Rattle.dapnorm.specs.CommandLine.{bare, checker, file};
+ghost use Rattle.dapnorm.specs.CommandLine.{is_asked, is_set, normaliser, of_two_files};
+ghost use Rattle.dapnorm.specs.CommandLine.{per_stop_flag, plain};
 ghost use Rattle.dapnorm.specs.CommandLine.{mask, masker};
 ghost use Rattle.dapnorm.specs.CommandLine.{job_named, job_of, names_job, program, row_teller};
 ghost use Rattle.dapnorm.specs.CommandLine.{text_in, texts_in, told, two_files};
@@ -44,6 +46,28 @@ fn with_plain<'a>(
     command.subcommand(Command::new(alloc, name).about(about).after_help(example))
 }
 
+/// The flag of a subcommand that gives names.
+fn per_stop_flag<'a>(alloc: Global) -> Arg<'a>
+    ensures rule { rule_of result ≡ per_stop_flag }
+    ensures local { result.global ≡ false }
+{
+    Arg::new(alloc, "per-stop")
+        .long("per-stop")
+        .action(ArgAction::SetTrue)
+        .help(
+            "Counts frame ids and references anew behind each `stopped` event, for an adapter that begins them again there",
+        )
+}
+
+/// The subcommand `normalise`.
+fn normalise_command<'a>(alloc: Global) -> Result<Command<'a>, AllocError>
+    ensures { IfOk result (IsCommand normaliser) }
+{
+    Command::new(alloc, "normalise")
+        .about("Writes the normal form of a recording, from standard input to standard output")
+        .arg(per_stop_flag(alloc))
+}
+
 /// The subcommand `check`.
 fn check_command<'a>(alloc: Global) -> Result<Command<'a>, AllocError>
     ensures { IfOk result (IsCommand checker) }
@@ -54,7 +78,19 @@ fn check_command<'a>(alloc: Global) -> Result<Command<'a>, AllocError>
         .help("Refuses a recording in which some request has no response");
     Command::new(alloc, "check")
         .about("Judges a recording from standard input")
-        .arg(complete)
+        .arg(complete)?
+        .arg(per_stop_flag(alloc))
+}
+
+/// The name of a file, which is needed.
+fn file<'a>(alloc: Global, name: &'a str, help: &'a str) -> Arg<'a>
+    ensures rule { rule_of result ≡ file name.entry.now }
+    ensures local { result.global ≡ false }
+{
+    Arg::new(alloc, name)
+        .required(true)
+        .action(ArgAction::Set)
+        .help(help)
 }
 
 /// A subcommand of two files.
@@ -65,31 +101,20 @@ fn two_files_command<'a>(
 ) -> Result<Command<'a>, AllocError>
     ensures { IfOk result (IsCommand (of_two_files name.entry.now)) }
 {
-    let first = Arg::new(alloc, "A")
-        .required(true)
-        .action(ArgAction::Set)
-        .help("The file of a recording");
-    let second = Arg::new(alloc, "B")
-        .required(true)
-        .action(ArgAction::Set)
-        .help("The file of another");
     Command::new(alloc, name)
         .about(about)
-        .arg(first)?
-        .arg(second)
+        .arg(file(alloc, "A", "The file of a recording"))?
+        .arg(file(alloc, "B", "The file of another"))?
+        .arg(per_stop_flag(alloc))
 }
 
 /// The subcommand `mask`.
 fn mask_command<'a>(alloc: Global) -> Result<Command<'a>, AllocError>
     ensures { IfOk result (IsCommand masker) }
 {
-    let rules = Arg::new(alloc, "RULES")
-        .required(true)
-        .action(ArgAction::Set)
-        .help("The file of the rules");
     Command::new(alloc, "mask")
         .about("Takes away of a recording what changes from run to run, as the rules say")
-        .arg(rules)
+        .arg(file(alloc, "RULES", "The file of the rules"))
 }
 
 /// The subcommand `rows`.
@@ -121,6 +146,7 @@ fn with_other<'a>(
 fn command<'a>(alloc: Global) -> Result<Command<'a>, AllocError>
     ensures { IfOk result (λ c. app_of c ≡ program) }
 {
+    let normalise = normalise_command(alloc)?;
     let check = check_command(alloc)?;
     let compare = two_files_command(
         alloc,
@@ -148,15 +174,13 @@ fn command<'a>(alloc: Global) -> Result<Command<'a>, AllocError>
         "Makes a recording of a trace, from standard input to standard output",
         "Example: dapnorm record < session.trace > session.rec",
     )?;
-    let normalise = with_plain(
+    let normalising = with_other(
         tracing,
-        alloc,
-        "normalise",
-        "Writes the normal form of a recording, from standard input to standard output",
+        normalise,
         "Example: dapnorm normalise < session.rec > session.golden",
     )?;
     let judged = with_other(
-        normalise,
+        normalising,
         check,
         "Example: dapnorm check --complete < session.rec",
     )?;
@@ -223,6 +247,13 @@ fn masking<'a>(rules: Option<&'a str>) -> Option<Job<'a>>
     }
 }
 
+/// Whether a subcommand's names begin again at each stop.
+fn asks_per_stop(rows: &ArgMatches<'_>) -> bool
+    ensures { result ≡ asks_per_stop (rows_of (found_of rows.now)) }
+{
+    is_true(rows.get_str("per-stop"))
+}
+
 /// The job of a subcommand with its matches.
 fn job_by<'a>(name: &str, rows: &ArgMatches<'a>) -> Option<Job<'a>>
     ensures { option_map told result ≡ job_of name.now (rows_of (found_of rows.now)) }
@@ -230,10 +261,14 @@ fn job_by<'a>(name: &str, rows: &ArgMatches<'a>) -> Option<Job<'a>>
     match name {
         "compact" => Some(Job::Compact),
         "record" => Some(Job::Record),
-        "normalise" => Some(Job::Normalise),
+        "normalise" => {
+            let per_stop = asks_per_stop(rows);
+            Some(Job::Normalise { per_stop })
+        }
         "check" => {
             let complete = is_true(rows.get_str("complete"));
-            Some(Job::Check { complete })
+            let per_stop = asks_per_stop(rows);
+            Some(Job::Check { complete, per_stop })
         }
         "show" => Some(Job::Show),
         "mask" => masking(rows.get_str("RULES")),
@@ -242,11 +277,13 @@ fn job_by<'a>(name: &str, rows: &ArgMatches<'a>) -> Option<Job<'a>>
         }),
         "compare" => {
             let (a, b) = files_of(rows)?;
-            Some(Job::Compare { a, b })
+            let per_stop = asks_per_stop(rows);
+            Some(Job::Compare { a, b, per_stop })
         }
         "diff" => {
             let (a, b) = files_of(rows)?;
-            Some(Job::Diff { a, b })
+            let per_stop = asks_per_stop(rows);
+            Some(Job::Diff { a, b, per_stop })
         }
         _ => None,
     }

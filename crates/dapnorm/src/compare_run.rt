@@ -2,7 +2,7 @@
 ghost use Rattle.std.specs.Prelude.{◌≡◌, ◌+◌, ◌<◌, ◌≤◌, ◌^◌};
 ghost use Rattle.std.specs.List.{flat_map};
 ghost use Rattle.dapnorm.specs.ComparingRun.{CompareIsTold, differ_line, first_line, pair_line};
-ghost use Rattle.dapnorm.specs.ComparingRun.{pairs_in, refusal_status, same_line};
+ghost use Rattle.dapnorm.specs.ComparingRun.{pairs_in, refusal_status, same_line, tells_stop};
 ghost use Rattle.dapnorm.specs.ComparingRun.{verdict_status, verdict_text};
 ghost use Rattle.dap_device.specs.Written.{HasSentAll, HasWrittenAll};
 ghost use Rattle.dap_input.specs.Limits.{AreSound};
@@ -15,23 +15,38 @@ use dap_compare::{CompareRefused, Verdict, compare_with};
 use dap_device::{DeviceFault, Sink, Source, write_all};
 use dap_input::{Limits, Refused};
 use dap_normal::index_tables;
-use dap_rename::{NameTable, Pair, Tables};
+use dap_rename::{Mode, NameTable, Pair, Tables};
+use dap_tree::Sort;
 use itoa::Buffer;
 use std::alloc::Global;
 
 /// The line of a pair, with its LF.
-fn line_of(pair: Pair) -> ArrayString<LINE>
-    ensures { result.bytes ≡ pair_line pair }
+fn line_of(mode: Mode, pair: Pair) -> ArrayString<LINE>
+    ensures { result.bytes ≡ pair_line mode pair }
 {
     let mut number = Buffer::new();
     let mut line = ArrayString::new();
     line.push_str(pair.sort.word());
+    if tells_stop(mode, pair.sort) {
+        line.push_str("@");
+        line.push_str(number.format(pair.stop));
+    }
     line.push_str(" ");
     line.push_str(number.format(pair.from));
     line.push_str(" ");
     line.push_str(number.format(pair.to));
     line.push_str("\n");
     line
+}
+
+/// Whether the line of a pair of this sort tells its stop: where the names of the sort begin again.
+fn tells_stop(mode: Mode, sort: Sort) -> bool
+    ensures { result ≡ tells_stop mode sort }
+{
+    match (mode, sort) {
+        (Mode::PerStop, Sort::Frame | Sort::Reference) => true,
+        _ => false,
+    }
 }
 
 /// The line that two recordings are the same, with its LF.
@@ -76,23 +91,24 @@ fn pairs(verdict: &Verdict) -> &[Pair]
 }
 
 /// Sends the lines of pairs out.
-fn write_pairs<W: Sink>(writer: &mut W, pairs: &[Pair]) -> Result<(), DeviceFault>
+fn write_pairs<W: Sink>(writer: &mut W, mode: Mode, pairs: &[Pair]) -> Result<(), DeviceFault>
     requires { W.failures writer.old < 2 ^ 63 }
-    ensures { HasWrittenAll W.Sink writer.old writer.new result (flat_map pair_line pairs.now) }
+    ensures { HasWrittenAll W.Sink writer.old writer.new result
+        (flat_map (pair_line mode) pairs.now) }
 {
     for pair in pairs {
-        write_all(writer, line_of(*pair).as_bytes())?;
+        write_all(writer, line_of(mode, *pair).as_bytes())?;
     }
     Ok(())
 }
 
 /// Sends the lines of a verdict out and flushes.
-fn print<W: Sink>(writer: &mut W, verdict: &Verdict) -> Result<(), DeviceFault>
+fn print<W: Sink>(writer: &mut W, mode: Mode, verdict: &Verdict) -> Result<(), DeviceFault>
     requires { W.failures writer.old < 2 ^ 62 }
-    ensures { HasSentAll W.Sink writer.old writer.new result (verdict_text verdict.now) }
+    ensures { HasSentAll W.Sink writer.old writer.new result (verdict_text mode verdict.now) }
 {
     write_all(writer, first_line_of(verdict).as_bytes())?;
-    write_pairs(writer, pairs(verdict))?;
+    write_pairs(writer, mode, pairs(verdict))?;
     writer.flush()
 }
 
@@ -121,8 +137,9 @@ pub(crate) fn refusal_status(refused: CompareRefused) -> u8
 ///
 /// Of recordings that are the same `same` goes to `writer`, and then a line for each pair of ids,
 /// `W FROM TO`, where W is `client-seq`, `adapter-seq`, `frame`, `reference`, `thread` or
-/// `breakpoint`. Of others `differ K` goes there, with the number of the first record where they
-/// differ.
+/// `breakpoint`; with [`Mode::PerStop`] it is `frame@K` or `reference@K` in the place of `frame`
+/// and `reference`, for the ids behind K stops. Of others `differ K` goes there, with the number of
+/// the first record where they differ.
 ///
 /// The status is 0 where they are the same, 1 where they differ, 2 where an input is refused, 4
 /// where a device failed and 5 for want of memory.
@@ -133,6 +150,7 @@ pub fn run_compare<A: Source, B: Source, W: Sink, E: Sink>(
     writer: &mut W,
     errors: &mut E,
     limits: Limits,
+    mode: Mode,
 ) -> u8
     requires limits { AreSound limits }
     requires given_a { A.given reader_a.old < 2 ^ 62 }
@@ -144,8 +162,9 @@ pub fn run_compare<A: Source, B: Source, W: Sink, E: Sink>(
 
     // The output is the lines of the verdict, flushed, a refusal is told, and so is a writer that
     // failed; and the status is that of what was answered or told.
-    ensures told { CompareIsTold A.Source B.Source W.Sink E.Sink limits reader_a.old reader_a.new
-        reader_b.old reader_b.new writer.old writer.new errors.old errors.new result }
+    ensures told { CompareIsTold A.Source B.Source W.Sink E.Sink limits mode
+        reader_a.old reader_a.new reader_b.old reader_b.new writer.old writer.new
+        errors.old errors.new result }
 
     // It takes at most one byte past the limit of each.
     ensures taken_a { A.given reader_a.new ≤ A.given reader_a.old + limits.input + 1 }
@@ -160,6 +179,7 @@ pub fn run_compare<A: Source, B: Source, W: Sink, E: Sink>(
         limits,
         index_tables(alloc, limits),
         index_tables(alloc, limits),
+        mode,
     )
 }
 
@@ -174,6 +194,7 @@ pub fn run_compare_with<A: Source, B: Source, W: Sink, E: Sink, T: NameTable + D
     limits: Limits,
     tables_a: Tables<T>,
     tables_b: Tables<T>,
+    mode: Mode,
 ) -> u8
     requires limits { AreSound limits }
     requires tables_a { AreReady T.numbers T.limit limits tables_a }
@@ -186,19 +207,20 @@ pub fn run_compare_with<A: Source, B: Source, W: Sink, E: Sink, T: NameTable + D
     requires error_failures { E.failures errors.old < 2 ^ 62 }
 
     // What `run_compare` promises, whatever the tables are.
-    ensures told { CompareIsTold A.Source B.Source W.Sink E.Sink limits reader_a.old reader_a.new
-        reader_b.old reader_b.new writer.old writer.new errors.old errors.new result }
+    ensures told { CompareIsTold A.Source B.Source W.Sink E.Sink limits mode
+        reader_a.old reader_a.new reader_b.old reader_b.new writer.old writer.new
+        errors.old errors.new result }
     ensures taken_a { A.given reader_a.new ≤ A.given reader_a.old + limits.input + 1 }
     ensures taken_b { B.given reader_b.new ≤ B.given reader_b.old + limits.input + 1 }
 {
-    let verdict = match compare_with(alloc, reader_a, reader_b, limits, tables_a, tables_b) {
+    let verdict = match compare_with(alloc, reader_a, reader_b, limits, tables_a, tables_b, mode) {
         Ok(verdict) => verdict,
         Err(refused) => {
             tell_of_input(errors, refused);
             return refusal_status(refused);
         }
     };
-    match print(writer, &verdict) {
+    match print(writer, mode, &verdict) {
         Ok(()) => status(&verdict),
         Err(_) => {
             tell(errors, Refused::WriteFault);

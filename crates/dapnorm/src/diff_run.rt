@@ -13,7 +13,7 @@ use dap_device::{DeviceFault, Sink, Source, write_all};
 use dap_diff::{Diff, diff_with};
 use dap_input::{Limits, Refused};
 use dap_normal::index_tables;
-use dap_rename::{NameTable, Tables};
+use dap_rename::{Mode, NameTable, Tables};
 use std::alloc::Global;
 
 /// The first line, with its LF.
@@ -71,6 +71,7 @@ pub fn run_diff<A: Source, B: Source, W: Sink, E: Sink>(
     writer: &mut W,
     errors: &mut E,
     limits: Limits,
+    mode: Mode,
 ) -> u8
     requires limits { AreSound limits }
     requires given_a { A.given reader_a.old < 2 ^ 62 }
@@ -82,7 +83,7 @@ pub fn run_diff<A: Source, B: Source, W: Sink, E: Sink>(
 
     // The output is the lines, flushed, a refusal is told, and so is a writer that failed; and the
     // status is that of what was answered or told.
-    ensures told { DiffIsTold A.Source B.Source W.Sink E.Sink limits reader_a.old reader_a.new
+    ensures told { DiffIsTold A.Source B.Source W.Sink E.Sink limits mode reader_a.old reader_a.new
         reader_b.old reader_b.new writer.old writer.new errors.old errors.new result }
 
     // It takes at most one byte past the limit of each.
@@ -98,6 +99,7 @@ pub fn run_diff<A: Source, B: Source, W: Sink, E: Sink>(
         limits,
         index_tables(alloc, limits),
         index_tables(alloc, limits),
+        mode,
     )
 }
 
@@ -112,6 +114,7 @@ pub fn run_diff_with<A: Source, B: Source, W: Sink, E: Sink, T: NameTable + Drop
     limits: Limits,
     tables_a: Tables<T>,
     tables_b: Tables<T>,
+    mode: Mode,
 ) -> u8
     requires limits { AreSound limits }
     requires tables_a { AreReady T.numbers T.limit limits tables_a }
@@ -124,12 +127,12 @@ pub fn run_diff_with<A: Source, B: Source, W: Sink, E: Sink, T: NameTable + Drop
     requires error_failures { E.failures errors.old < 2 ^ 62 }
 
     // What `run_diff` promises, whatever the tables are.
-    ensures told { DiffIsTold A.Source B.Source W.Sink E.Sink limits reader_a.old reader_a.new
+    ensures told { DiffIsTold A.Source B.Source W.Sink E.Sink limits mode reader_a.old reader_a.new
         reader_b.old reader_b.new writer.old writer.new errors.old errors.new result }
     ensures taken_a { A.given reader_a.new ≤ A.given reader_a.old + limits.input + 1 }
     ensures taken_b { B.given reader_b.new ≤ B.given reader_b.old + limits.input + 1 }
 {
-    let answer = match diff_with(alloc, reader_a, reader_b, limits, tables_a, tables_b) {
+    let answer = match diff_with(alloc, reader_a, reader_b, limits, tables_a, tables_b, mode) {
         Ok(answer) => answer,
         Err(refused) => {
             tell_of_input(errors, refused);

@@ -3,8 +3,8 @@
 pub use dap_compact::laws::compact_has_one_outcome;
 pub use dap_compare::laws::two_recordings_have_one_verdict;
 pub use dap_normal::laws::{
-    equal_texts_tell, normal_form_stands, old_golden_files, reading_is_bounded,
-    recording_has_one_outcome,
+    equal_texts_tell, golden_files_of_the_whole, normal_form_stands, old_golden_files,
+    reading_is_bounded, recording_has_one_outcome,
 };
 pub use dap_show::laws::show_has_one_outcome;
 pub use dap_trace::laws::trace_has_one_outcome;

@@ -8,6 +8,7 @@ ghost use Rattle.dap_input.specs.Refusals.{IsRefused};
 ghost use Rattle.dap_normal.specs.NameTables.{AreReady};
 ghost use Rattle.dap_normal.specs.Streaming.{Streams};
 ghost use Rattle.dap_rows.specs.RowLines.{lines_of};
+ghost use Rattle.dapnorm.specs.Jobs.{mode_for};
 ghost use Rattle.dapnorm.specs.RowsRun.{TellsRows};
 ghost use Rattle.dapnorm.specs.Run.{Answered, CheckIsPrinted, CheckIsTold, IsTold};
 ghost use Rattle.dapnorm.specs.Run.{TellsUsage, accepted_line, status_of};
@@ -95,9 +96,9 @@ pub fn run_stream<R: Source, W: Sink, E: Sink>(
     errors: &mut E,
     limits: Limits,
 ) -> u8
-    requires stream { (a b : _) → job.now ≡ Job.Compare a b → ⊥ }
+    requires stream { (a b per_stop : _) → job.now ≡ Job.Compare a b per_stop → ⊥ }
     requires no_rules { (rules : _) → job.now ≡ Job.Mask rules → ⊥ }
-    requires no_diff { (a b : _) → job.now ≡ Job.Diff a b → ⊥ }
+    requires no_diff { (a b per_stop : _) → job.now ≡ Job.Diff a b per_stop → ⊥ }
     requires limits { AreSound limits }
     requires given { R.given reader.old < 2 ^ 62 }
     requires read_failures { R.failures reader.old < 2 ^ 62 }
@@ -117,15 +118,15 @@ pub fn run_stream<R: Source, W: Sink, E: Sink>(
         (IsTold E.Sink errors.old errors.new) result }
 
     // The output is the normal text that `normalise` writes, and the status that of its answer.
-    ensures normalise { job.now ≡ Job.Normalise
-        → Answered (Streams R.Source W.Sink limits reader.old reader.new writer.old writer.new)
-        (IsTold E.Sink errors.old errors.new) result }
+    ensures normalise { (per_stop : Bool) → job.now ≡ Job.Normalise per_stop
+        → Answered (Streams R.Source W.Sink limits (mode_for per_stop) reader.old reader.new
+        writer.old writer.new) (IsTold E.Sink errors.old errors.new) result }
 
     // The output is the line of what `check` accepts, and the status that of its answer or of a
     // writer that failed.
-    ensures check { (complete : Bool) → job.now ≡ Job.Check complete
-        → CheckIsTold R.Source W.Sink E.Sink limits complete reader.old reader.new writer.old
-        writer.new errors.old errors.new result }
+    ensures check { (complete per_stop : Bool) → job.now ≡ Job.Check complete per_stop
+        → CheckIsTold R.Source W.Sink E.Sink limits (mode_for per_stop) complete reader.old
+        reader.new writer.old writer.new errors.old errors.new result }
 
     // The output is the lines that `show` writes, and the status that of its answer.
     ensures show { job.now ≡ Job.Show
@@ -164,9 +165,9 @@ pub fn run_stream_with<R: Source, W: Sink, E: Sink, T: NameTable + Drop>(
     limits: Limits,
     tables: Tables<T>,
 ) -> u8
-    requires stream { (a b : _) → job.now ≡ Job.Compare a b → ⊥ }
+    requires stream { (a b per_stop : _) → job.now ≡ Job.Compare a b per_stop → ⊥ }
     requires no_rules { (rules : _) → job.now ≡ Job.Mask rules → ⊥ }
-    requires no_diff { (a b : _) → job.now ≡ Job.Diff a b → ⊥ }
+    requires no_diff { (a b per_stop : _) → job.now ≡ Job.Diff a b per_stop → ⊥ }
     requires limits { AreSound limits }
     requires tables { AreReady T.numbers T.limit limits tables }
     requires given { R.given reader.old < 2 ^ 62 }
@@ -182,12 +183,12 @@ pub fn run_stream_with<R: Source, W: Sink, E: Sink, T: NameTable + Drop>(
     ensures record_trace { job.now ≡ Job.Record
         → Answered (RecordsTrace R.Source W.Sink limits reader.old reader.new writer.old writer.new)
         (IsTold E.Sink errors.old errors.new) result }
-    ensures normalise { job.now ≡ Job.Normalise
-        → Answered (Streams R.Source W.Sink limits reader.old reader.new writer.old writer.new)
-        (IsTold E.Sink errors.old errors.new) result }
-    ensures check { (complete : Bool) → job.now ≡ Job.Check complete
-        → CheckIsTold R.Source W.Sink E.Sink limits complete reader.old reader.new writer.old
-        writer.new errors.old errors.new result }
+    ensures normalise { (per_stop : Bool) → job.now ≡ Job.Normalise per_stop
+        → Answered (Streams R.Source W.Sink limits (mode_for per_stop) reader.old reader.new
+        writer.old writer.new) (IsTold E.Sink errors.old errors.new) result }
+    ensures check { (complete per_stop : Bool) → job.now ≡ Job.Check complete per_stop
+        → CheckIsTold R.Source W.Sink E.Sink limits (mode_for per_stop) complete reader.old
+        reader.new writer.old writer.new errors.old errors.new result }
     ensures show { job.now ≡ Job.Show
         → Answered (Answers R.Source W.Sink limits.input (IsShownBy limits)
         (IsRefused (showing limits)) reader.old reader.new writer.old writer.new)
@@ -201,10 +202,10 @@ pub fn run_stream_with<R: Source, W: Sink, E: Sink, T: NameTable + Drop>(
     let answer = match *job {
         Job::Compact => compact(alloc, reader, writer, limits),
         Job::Record => record(alloc, reader, writer, limits),
-        Job::Normalise => normalise_with(alloc, reader, writer, limits, tables),
-        Job::Check { complete } => print(
+        Job::Normalise { .. } => normalise_with(alloc, reader, writer, limits, tables, job.mode()),
+        Job::Check { complete, .. } => print(
             writer,
-            check_with(alloc, reader, limits, complete, tables),
+            check_with(alloc, reader, limits, complete, tables, job.mode()),
         ),
         Job::Show => show(alloc, reader, writer, limits),
         Job::Rows { number } => return tell_rows(alloc, number, writer, errors),

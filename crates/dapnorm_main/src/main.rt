@@ -8,7 +8,7 @@ ghost use Rattle.dapnorm.specs.NameTables.{AreReady};
 
 use dap_frame::FrameLimits;
 use dapnorm::{
-    IndexNames, Job, Limits, StdSink, StdSource, Tables, UsageFault, job, run_compare_with,
+    IndexNames, Job, Limits, Mode, StdSink, StdSource, Tables, UsageFault, job, run_compare_with,
     run_diff_with, run_mask, run_stream_with, run_usage,
 };
 use std::alloc::Global;
@@ -49,9 +49,9 @@ fn tables(alloc: Global, limits: Limits, hasher: RandomState) -> Tables<IndexNam
 
 /// Does the job over the standard streams.
 fn perform(rt: &HostRuntime, job: &Job, hasher: RandomState) -> u8
-    requires stream { (a b : _) → job.now ≡ Job.Compare a b → ⊥ }
+    requires stream { (a b per_stop : _) → job.now ≡ Job.Compare a b per_stop → ⊥ }
     requires no_rules { (rules : _) → job.now ≡ Job.Mask rules → ⊥ }
-    requires no_diff { (a b : _) → job.now ≡ Job.Diff a b → ⊥ }
+    requires no_diff { (a b per_stop : _) → job.now ≡ Job.Diff a b per_stop → ⊥ }
 {
     let mut reader = StdSource::new(rt.stdin());
     let mut writer = StdSink::new(rt.stdout());
@@ -82,7 +82,7 @@ fn open_both(rt: &HostRuntime, a: &str, b: &str) -> Result<(File, File), u8> {
 }
 
 /// Compares the recordings of two files.
-fn compare_files(rt: &HostRuntime, a: &str, b: &str, hasher: RandomState) -> u8 {
+fn compare_files(rt: &HostRuntime, a: &str, b: &str, mode: Mode, hasher: RandomState) -> u8 {
     let (file_a, file_b) = match open_both(rt, a, b) {
         Ok(files) => files,
         Err(status) => return status,
@@ -100,11 +100,12 @@ fn compare_files(rt: &HostRuntime, a: &str, b: &str, hasher: RandomState) -> u8 
         LIMITS,
         tables(rt.alloc(), LIMITS, hasher),
         tables(rt.alloc(), LIMITS, hasher),
+        mode,
     )
 }
 
 /// Tells how the recordings of two files differ.
-fn diff_files(rt: &HostRuntime, a: &str, b: &str, hasher: RandomState) -> u8 {
+fn diff_files(rt: &HostRuntime, a: &str, b: &str, mode: Mode, hasher: RandomState) -> u8 {
     let (file_a, file_b) = match open_both(rt, a, b) {
         Ok(files) => files,
         Err(status) => return status,
@@ -122,6 +123,7 @@ fn diff_files(rt: &HostRuntime, a: &str, b: &str, hasher: RandomState) -> u8 {
         LIMITS,
         tables(rt.alloc(), LIMITS, hasher),
         tables(rt.alloc(), LIMITS, hasher),
+        mode,
     )
 }
 
@@ -182,9 +184,10 @@ fn run_words(rt: &HostRuntime, alloc: Global, words: &[String]) -> u8 {
     let Ok(hasher) = RandomState::new(rt) else {
         return tell_unread(rt);
     };
+    let mode = job.mode();
     match job {
-        Job::Compare { a, b } => compare_files(rt, a, b, hasher),
-        Job::Diff { a, b } => diff_files(rt, a, b, hasher),
+        Job::Compare { a, b, .. } => compare_files(rt, a, b, mode, hasher),
+        Job::Diff { a, b, .. } => diff_files(rt, a, b, mode, hasher),
         Job::Mask { rules } => mask_by_file(rt, rules),
         job => perform(rt, &job, hasher),
     }

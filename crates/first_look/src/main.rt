@@ -7,6 +7,7 @@ use dap_device::{StdSink, StdSource};
 use dap_frame::FrameLimits;
 use dap_input::Limits;
 use dap_normal::normalise;
+use dap_rename::Mode;
 use std::process::ExitCode;
 
 const LIMITS: Limits = Limits {
@@ -21,7 +22,7 @@ const LIMITS: Limits = Limits {
 fn main(rt: HostRuntime) -> ExitCode {
     let mut reader = StdSource::new(rt.stdin());
     let mut writer = StdSink::new(rt.stdout());
-    match normalise(rt.alloc(), &mut reader, &mut writer, LIMITS) {
+    match normalise(rt.alloc(), &mut reader, &mut writer, LIMITS, Mode::Whole) {
         Ok(()) => ExitCode::SUCCESS,
         Err(refused) => {
             let _ = eprintln!(rt; "first_look: {refused}");

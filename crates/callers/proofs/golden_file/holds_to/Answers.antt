@@ -17,15 +17,18 @@ equal xs text golden r is shown =
 pub returns-clause-held : goal.returns-clause-held
 returns-clause-held c =
     let later = c.in_ok-normal.ensures.ok in
-    let same = equal c.bytes.result.now c.in_ok-normal.normal c.args.golden.now c.eq.result
+    let same = equal c.bytes.result.now c.in_ok-normal.normal.bytes c.args.golden.now c.eq.result
     c.eq.ensures c.bytes.ensures.same in
     record {
       messages = later.normalises.messages;
       accepts = later.normalises.accepts;
       exact = (
-        (λ yes. subst (Normalises c.args.limits c.args.later.now) (same.0 yes) later.normalises),
-        (λ golden. same.1 (c.normal_form_stands.ensures.one_text c.args.limits c.requires
-            c.args.later.now c.in_ok-normal.normal c.args.golden.now later.normalises golden)),
+        (λ yes. subst (Normalises c.args.limits c.args.mode c.args.later.now) (same.0 yes)
+            later.normalises),
+        (λ golden. same.1 (c.normal_form_stands.ensures.one_text c.args.limits c.args.mode
+            c.requires
+            c.args.later.now c.in_ok-normal.normal.bytes c.args.golden.now later.normalises
+            golden)),
       );
       tells = λ recording made.
           let tells = later.tells recording c.args.golden.now made in

@@ -9,5 +9,6 @@ returns-clause-told c =
       messages_b = b.messages;
       accepts_a = a.accepts;
       accepts_b = b.accepts;
-      told = c.same.ensures.recordings c.args.limits c.requires c.args.a.now c.args.b.now a b;
+      told = c.same.ensures.recordings c.args.limits c.args.mode c.requires c.args.a.now
+          c.args.b.now a b;
     }

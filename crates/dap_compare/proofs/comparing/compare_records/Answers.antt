@@ -11,10 +11,10 @@ use Rattle.dap_compare.proofs.comparing.compare_records.Goals as goal
 pub records-init : goal.records-init
 records-init g c =
     record {
-      a = at_start g.A.Source c.args.limits
+      a = at_start g.A.Source c.args.limits c.args.mode
           c.args.reader_a.now
           c.args.records_a.now c.requires.stands_a;
-      b = at_start g.B.Source c.args.limits
+      b = at_start g.B.Source c.args.limits c.args.mode
           c.args.reader_b.now
           c.args.records_b.now c.requires.stands_b;
       alike = refl;
@@ -23,12 +23,12 @@ records-init g c =
 pub returns-in_err-some_a-clause-answer : goal.returns-in_err-some_a-clause-answer
 returns-in_err-some_a-clause-answer g c =
     let because = err_from_is_err_and c.from_residual.result c.from_residual.ensures.1 in
-    let told = (c.in_err-some_a.ensures c.args.limits c.records.invariant.a.bytes
+    let told = (c.in_err-some_a.ensures c.args.limits c.args.mode c.records.invariant.a.bytes
     c.records.invariant.a.messages c.records.invariant.a.normal
     c.records.invariant.a.stands) in
     rw (because.1, because.2)
     (told_by_a g.A.Source
-    g.B.Source c.args.limits
+    g.B.Source c.args.limits c.args.mode
     c.args.reader_a.now c.records.reader_a c.records.records_a c.records.invariant.a
     c.args.reader_b.now c.records.reader_b c.records.records_b c.records.invariant.b
     c.records.invariant.alike c.next_text.new.records c.next_text.new.reader told.0 _ told.2
@@ -36,10 +36,10 @@ returns-in_err-some_a-clause-answer g c =
 
 pub returns-in_err-some_a-clause-taken_a : goal.returns-in_err-some_a-clause-taken_a
 returns-in_err-some_a-clause-taken_a g c =
-    let told = (c.in_err-some_a.ensures c.args.limits c.records.invariant.a.bytes
+    let told = (c.in_err-some_a.ensures c.args.limits c.args.mode c.records.invariant.a.bytes
     c.records.invariant.a.messages c.records.invariant.a.normal
     c.records.invariant.a.stands) in
-    few_taken g.A.Source c.args.limits
+    few_taken g.A.Source c.args.limits c.args.mode
     c.args.reader_a.now c.records.reader_a c.records.records_a c.records.invariant.a
     c.next_text.new.reader c.next_text.new.records _ told.1
 
@@ -48,20 +48,21 @@ returns-in_err-some_b-clause-answer g c =
     let because =
     err_from_is_err_and c.from_residual-in_err-some_b.result
     c.from_residual-in_err-some_b.ensures.1 in
-    let told = (c.in_err-some_b.ensures c.args.limits c.records.invariant.b.bytes
+    let told = (c.in_err-some_b.ensures c.args.limits c.args.mode c.records.invariant.b.bytes
     c.records.invariant.b.messages c.records.invariant.b.normal
     c.records.invariant.b.stands) in
     let passed = passed_by g.A.Source
-    g.B.Source c.args.limits
+    g.B.Source c.args.limits c.args.mode
     c.args.reader_a.now c.records.reader_a c.records.records_a c.records.invariant.a
     c.args.reader_b.now c.records.reader_b c.records.records_b c.records.invariant.b
     c.records.invariant.alike c.next_text.new.records c.next_text.new.reader _ _
-    c.in_ok-some_a.some_a (c.in_ok-some_a.ensures c.args.limits c.records.invariant.a.bytes
+    c.in_ok-some_a.some_a (c.in_ok-some_a.ensures c.args.limits c.args.mode
+    c.records.invariant.a.bytes
     c.records.invariant.a.messages c.records.invariant.a.normal
     c.records.invariant.a.stands) in
     rw (because.1, because.2)
     (told_by_b g.A.Source
-    g.B.Source c.args.limits
+    g.B.Source c.args.limits c.args.mode
     c.args.reader_a.now c.records.reader_a c.records.records_a c.records.invariant.a
     c.args.reader_b.now c.records.reader_b c.records.records_b c.records.invariant.b
     c.records.invariant.alike c.next_text.new.reader passed.0 passed.1 passed.2
@@ -70,112 +71,112 @@ returns-in_err-some_b-clause-answer g c =
 
 pub returns-in_err-some_b-clause-taken_a : goal.returns-in_err-some_b-clause-taken_a
 returns-in_err-some_b-clause-taken_a g c =
-    passed_taken g.A.Source c.args.limits
+    passed_taken g.A.Source c.args.limits c.args.mode
     c.args.reader_a.now c.records.reader_a c.records.records_a c.records.invariant.a
     c.next_text.new.records c.next_text.new.reader _ _ c.in_ok-some_a.some_a
-    (c.in_ok-some_a.ensures c.args.limits c.records.invariant.a.bytes
+    (c.in_ok-some_a.ensures c.args.limits c.args.mode c.records.invariant.a.bytes
     c.records.invariant.a.messages c.records.invariant.a.normal
     c.records.invariant.a.stands)
 
 pub returns-in_err-some_b-clause-taken_b : goal.returns-in_err-some_b-clause-taken_b
 returns-in_err-some_b-clause-taken_b g c =
-    let told = (c.in_err-some_b.ensures c.args.limits c.records.invariant.b.bytes
+    let told = (c.in_err-some_b.ensures c.args.limits c.args.mode c.records.invariant.b.bytes
     c.records.invariant.b.messages c.records.invariant.b.normal
     c.records.invariant.b.stands) in
-    few_taken g.B.Source c.args.limits
+    few_taken g.B.Source c.args.limits c.args.mode
     c.args.reader_b.now c.records.reader_b c.records.records_b c.records.invariant.b
     c.next_text-in-records.new.reader
     c.next_text-in-records.new.records _ told.1
 
 pub returns-in-Apart-clause-taken_a : goal.returns-in-Apart-clause-taken_a
 returns-in-Apart-clause-taken_a g c =
-    passed_taken g.A.Source c.args.limits
+    passed_taken g.A.Source c.args.limits c.args.mode
     c.args.reader_a.now c.records.reader_a c.records.records_a c.records.invariant.a
     c.next_text.new.records c.next_text.new.reader _ _ c.in_ok-some_a.some_a
-    (c.in_ok-some_a.ensures c.args.limits c.records.invariant.a.bytes
+    (c.in_ok-some_a.ensures c.args.limits c.args.mode c.records.invariant.a.bytes
     c.records.invariant.a.messages c.records.invariant.a.normal
     c.records.invariant.a.stands)
 
 pub returns-in-Apart-clause-taken_b : goal.returns-in-Apart-clause-taken_b
 returns-in-Apart-clause-taken_b g c =
-    passed_taken g.B.Source c.args.limits
+    passed_taken g.B.Source c.args.limits c.args.mode
     c.args.reader_b.now c.records.reader_b c.records.records_b c.records.invariant.b
     c.next_text-in-records.new.records c.next_text-in-records.new.reader _ _
     c.in_ok-some_b.some_b
-    (c.in_ok-some_b.ensures c.args.limits c.records.invariant.b.bytes
+    (c.in_ok-some_b.ensures c.args.limits c.args.mode c.records.invariant.b.bytes
     c.records.invariant.b.messages c.records.invariant.b.normal
     c.records.invariant.b.stands)
 
 pub returns-in_default-clause-taken_a : goal.returns-in_default-clause-taken_a
 returns-in_default-clause-taken_a g c =
-    passed_taken g.A.Source c.args.limits
+    passed_taken g.A.Source c.args.limits c.args.mode
     c.args.reader_a.now c.records.reader_a c.records.records_a c.records.invariant.a
     c.next_text.new.records c.next_text.new.reader _ _ c.in_ok-some_a.some_a
-    (c.in_ok-some_a.ensures c.args.limits c.records.invariant.a.bytes
+    (c.in_ok-some_a.ensures c.args.limits c.args.mode c.records.invariant.a.bytes
     c.records.invariant.a.messages c.records.invariant.a.normal
     c.records.invariant.a.stands)
 
 pub returns-in_default-clause-taken_b : goal.returns-in_default-clause-taken_b
 returns-in_default-clause-taken_b g c =
-    passed_taken g.B.Source c.args.limits
+    passed_taken g.B.Source c.args.limits c.args.mode
     c.args.reader_b.now c.records.reader_b c.records.records_b c.records.invariant.b
     c.next_text-in-records.new.records c.next_text-in-records.new.reader _ _
     c.in_ok-some_b.some_b
-    (c.in_ok-some_b.ensures c.args.limits c.records.invariant.b.bytes
+    (c.in_ok-some_b.ensures c.args.limits c.args.mode c.records.invariant.b.bytes
     c.records.invariant.b.messages c.records.invariant.b.normal
     c.records.invariant.b.stands)
 
 pub returns-in-NoneLeft-clause-taken_a : goal.returns-in-NoneLeft-clause-taken_a
 returns-in-NoneLeft-clause-taken_a g c =
-    passed_taken g.A.Source c.args.limits
+    passed_taken g.A.Source c.args.limits c.args.mode
     c.args.reader_a.now c.records.reader_a c.records.records_a c.records.invariant.a
     c.next_text.new.records c.next_text.new.reader _ _ c.in_ok-some_a.some_a
-    (c.in_ok-some_a.ensures c.args.limits c.records.invariant.a.bytes
+    (c.in_ok-some_a.ensures c.args.limits c.args.mode c.records.invariant.a.bytes
     c.records.invariant.a.messages c.records.invariant.a.normal
     c.records.invariant.a.stands)
 
 pub returns-in-NoneLeft-clause-taken_b : goal.returns-in-NoneLeft-clause-taken_b
 returns-in-NoneLeft-clause-taken_b g c =
-    passed_taken g.B.Source c.args.limits
+    passed_taken g.B.Source c.args.limits c.args.mode
     c.args.reader_b.now c.records.reader_b c.records.records_b c.records.invariant.b
     c.next_text-in-records.new.records c.next_text-in-records.new.reader _ _
     c.in_ok-some_b.some_b
-    (c.in_ok-some_b.ensures c.args.limits c.records.invariant.b.bytes
+    (c.in_ok-some_b.ensures c.args.limits c.args.mode c.records.invariant.b.bytes
     c.records.invariant.b.messages c.records.invariant.b.normal
     c.records.invariant.b.stands)
 
 pub records-smaller : goal.records-smaller
-records-smaller g c = (gone g.A.Source c.args.limits
+records-smaller g c = (gone g.A.Source c.args.limits c.args.mode
     c.args.reader_a.now c.records.reader_a c.records.records_a c.records.invariant.a
     c.next_text.new.records c.next_text.new.reader _ _ _
-    (c.in_ok-some_a.ensures c.args.limits c.records.invariant.a.bytes
+    (c.in_ok-some_a.ensures c.args.limits c.args.mode c.records.invariant.a.bytes
     c.records.invariant.a.messages c.records.invariant.a.normal
     c.records.invariant.a.stands) c.in-Alike.ensures.0).shorter
 
 pub records-preserved : goal.records-preserved
 records-preserved g c =
-    let one = gone g.A.Source c.args.limits
+    let one = gone g.A.Source c.args.limits c.args.mode
     c.args.reader_a.now c.records.reader_a c.records.records_a c.records.invariant.a
     c.next_text.new.records c.next_text.new.reader _ _ _
-    (c.in_ok-some_a.ensures c.args.limits c.records.invariant.a.bytes
+    (c.in_ok-some_a.ensures c.args.limits c.args.mode c.records.invariant.a.bytes
     c.records.invariant.a.messages c.records.invariant.a.normal
     c.records.invariant.a.stands) c.in-Alike.ensures.0 in
-    let two = gone g.B.Source c.args.limits
+    let two = gone g.B.Source c.args.limits c.args.mode
     c.args.reader_b.now c.records.reader_b c.records.records_b c.records.invariant.b
     c.next_text-in-records.new.records c.next_text-in-records.new.reader _ _ _
-    (c.in_ok-some_b.ensures c.args.limits c.records.invariant.b.bytes
+    (c.in_ok-some_b.ensures c.args.limits c.args.mode c.records.invariant.b.bytes
     c.records.invariant.b.messages c.records.invariant.b.normal
     c.records.invariant.b.stands) c.in-Alike.ensures.1 in
     record {
-      a = on g.A.Source c.args.limits
+      a = on g.A.Source c.args.limits c.args.mode
           c.args.reader_a.now c.records.reader_a c.records.records_a
           c.records.invariant.a c.next_text.new.records c.next_text.new.reader _ _ one;
-      b = on g.B.Source c.args.limits
+      b = on g.B.Source c.args.limits c.args.mode
           c.args.reader_b.now c.records.reader_b c.records.records_b
           c.records.invariant.b c.next_text-in-records.new.records
           c.next_text-in-records.new.reader _ _ two;
       alike = still_alike g.A.Source
-          g.B.Source c.args.limits
+          g.B.Source c.args.limits c.args.mode
           c.args.reader_a.now c.records.reader_a c.records.records_a
           c.records.invariant.a
           c.args.reader_b.now c.records.reader_b c.records.records_b
@@ -190,16 +191,16 @@ records-preserved g c =
 pub returns-in-Apart-clause-answer : goal.returns-in-Apart-clause-answer
 returns-in-Apart-clause-answer g c =
     told_apart g.A.Source
-    g.B.Source c.args.limits
+    g.B.Source c.args.limits c.args.mode
     c.args.reader_a.now c.records.reader_a c.records.records_a c.records.invariant.a
     c.args.reader_b.now c.records.reader_b c.records.records_b c.records.invariant.b
     c.records.invariant.alike c.next_text.new.records c.next_text.new.reader [] _
     c.next_text-in-records.new.records c.next_text-in-records.new.reader [] _
     c.in_ok-some_a.some_a c.in_ok-some_b.some_b
-    (c.in_ok-some_a.ensures c.args.limits c.records.invariant.a.bytes
+    (c.in_ok-some_a.ensures c.args.limits c.args.mode c.records.invariant.a.bytes
     c.records.invariant.a.messages c.records.invariant.a.normal
     c.records.invariant.a.stands)
-    (c.in_ok-some_b.ensures c.args.limits c.records.invariant.b.bytes
+    (c.in_ok-some_b.ensures c.args.limits c.args.mode c.records.invariant.b.bytes
     c.records.invariant.b.messages c.records.invariant.b.normal
     c.records.invariant.b.stands) refl refl
     (rw (c.as_slice.ensures.value, c.as_slice-in-records.ensures.value) at c.in-Apart.ensures)
@@ -208,53 +209,53 @@ returns-in-Apart-clause-answer g c =
 pub renaming_to-requires : goal.renaming_to-requires
 renaming_to-requires g c =
     equal_counts g.A.Source
-    g.B.Source c.args.limits
+    g.B.Source c.args.limits c.args.mode
     c.args.reader_a.now c.records.reader_a c.records.records_a c.records.invariant.a
     c.args.reader_b.now c.records.reader_b c.records.records_b c.records.invariant.b
     c.records.invariant.alike c.next_text.new.records c.next_text.new.reader _ _
     c.next_text-in-records.new.records c.next_text-in-records.new.reader _ _
-    (ended g.A.Source c.args.limits
+    (ended g.A.Source c.args.limits c.args.mode
     c.args.reader_a.now c.records.reader_a c.records.records_a c.records.invariant.a
     c.next_text.new.records c.next_text.new.reader _ _ _
-    (c.in_ok-some_a.ensures c.args.limits c.records.invariant.a.bytes
+    (c.in_ok-some_a.ensures c.args.limits c.args.mode c.records.invariant.a.bytes
     c.records.invariant.a.messages c.records.invariant.a.normal
     c.records.invariant.a.stands) c.in-NoneLeft.ensures.0)
-    (ended g.B.Source c.args.limits
+    (ended g.B.Source c.args.limits c.args.mode
     c.args.reader_b.now c.records.reader_b c.records.records_b c.records.invariant.b
     c.next_text-in-records.new.records c.next_text-in-records.new.reader _ _ _
-    (c.in_ok-some_b.ensures c.args.limits c.records.invariant.b.bytes
+    (c.in_ok-some_b.ensures c.args.limits c.args.mode c.records.invariant.b.bytes
     c.records.invariant.b.messages c.records.invariant.b.normal
     c.records.invariant.b.stands) c.in-NoneLeft.ensures.1)
 
 pub returns-in-NoneLeft-clause-answer : goal.returns-in-NoneLeft-clause-answer
 returns-in-NoneLeft-clause-answer g c =
-    let one = ended g.A.Source c.args.limits
+    let one = ended g.A.Source c.args.limits c.args.mode
     c.args.reader_a.now c.records.reader_a c.records.records_a c.records.invariant.a
     c.next_text.new.records c.next_text.new.reader _ _ _
-    (c.in_ok-some_a.ensures c.args.limits c.records.invariant.a.bytes
+    (c.in_ok-some_a.ensures c.args.limits c.args.mode c.records.invariant.a.bytes
     c.records.invariant.a.messages c.records.invariant.a.normal
     c.records.invariant.a.stands) c.in-NoneLeft.ensures.0 in
-    let two = ended g.B.Source c.args.limits
+    let two = ended g.B.Source c.args.limits c.args.mode
     c.args.reader_b.now c.records.reader_b c.records.records_b c.records.invariant.b
     c.next_text-in-records.new.records c.next_text-in-records.new.reader _ _ _
-    (c.in_ok-some_b.ensures c.args.limits c.records.invariant.b.bytes
+    (c.in_ok-some_b.ensures c.args.limits c.args.mode c.records.invariant.b.bytes
     c.records.invariant.b.messages c.records.invariant.b.normal
     c.records.invariant.b.stands) c.in-NoneLeft.ensures.1 in
     both_ended g.A.Source
-    g.B.Source c.args.limits
+    g.B.Source c.args.limits c.args.mode
     c.args.reader_a.now c.records.reader_a c.records.records_a c.records.invariant.a
     c.args.reader_b.now c.records.reader_b c.records.records_b c.records.invariant.b
     c.records.invariant.alike c.next_text.new.records c.next_text.new.reader _ _
     c.next_text-in-records.new.records c.next_text-in-records.new.reader _ _ one two _
     (c.in-Ok.ensures.pairs c.records.invariant.a.messages c.records.invariant.b.messages
     (names_a g.A.Source
-    g.B.Source c.args.limits
+    g.B.Source c.args.limits c.args.mode
     c.args.reader_a.now c.records.reader_a c.records.records_a c.records.invariant.a
     c.args.reader_b.now c.records.reader_b c.records.records_b c.records.invariant.b
     c.records.invariant.alike c.next_text.new.records c.next_text.new.reader _ _
     c.next_text-in-records.new.records c.next_text-in-records.new.reader _ _ one two)
     (names_b g.A.Source
-    g.B.Source c.args.limits
+    g.B.Source c.args.limits c.args.mode
     c.args.reader_a.now c.records.reader_a c.records.records_a c.records.invariant.a
     c.args.reader_b.now c.records.reader_b c.records.records_b c.records.invariant.b
     c.records.invariant.alike c.next_text.new.records c.next_text.new.reader _ _
@@ -262,24 +263,24 @@ returns-in-NoneLeft-clause-answer g c =
 
 pub returns-in-Apart-clause-text_a : goal.returns-in-Apart-clause-text_a
 returns-in-Apart-clause-text_a g c =
-    left_text g.A.Source c.args.limits
+    left_text g.A.Source c.args.limits c.args.mode
     c.args.reader_a.now c.records.reader_a c.records.records_a c.records.invariant.a
     c.next_text.new.records c.next_text.new.reader [] _ c.in_ok-some_a.some_a
-    (c.in_ok-some_a.ensures c.args.limits c.records.invariant.a.bytes
+    (c.in_ok-some_a.ensures c.args.limits c.args.mode c.records.invariant.a.bytes
     c.records.invariant.a.messages c.records.invariant.a.normal
     c.records.invariant.a.stands) refl _ c.number-number.ensures
 
 pub returns-in-Apart-clause-text_b : goal.returns-in-Apart-clause-text_b
 returns-in-Apart-clause-text_b g c =
-    left_text g.B.Source c.args.limits
+    left_text g.B.Source c.args.limits c.args.mode
     c.args.reader_b.now c.records.reader_b c.records.records_b c.records.invariant.b
     c.next_text-in-records.new.records c.next_text-in-records.new.reader [] _
     c.in_ok-some_b.some_b
-    (c.in_ok-some_b.ensures c.args.limits c.records.invariant.b.bytes
+    (c.in_ok-some_b.ensures c.args.limits c.args.mode c.records.invariant.b.bytes
     c.records.invariant.b.messages c.records.invariant.b.normal
     c.records.invariant.b.stands) refl _
     (c.number-number.ensures
-    ∙ sym (one_number g.A.Source g.B.Source c.args.limits
+    ∙ sym (one_number g.A.Source g.B.Source c.args.limits c.args.mode
     c.args.reader_a.now c.records.reader_a c.records.records_a c.records.invariant.a
     c.args.reader_b.now c.records.reader_b c.records.records_b c.records.invariant.b
     c.records.invariant.alike))

@@ -5,9 +5,9 @@ use Rattle.dap_compare.proofs.comparing.compare_records.Given as goal
 
 abbrev pub invariant-records : goal.invariant-records
 invariant-records g l = record {
-  a : Going g.T.NameTable.numbers g.T.NameTable.limit g.A.Source l.fn.limits l.fn.reader_a
+  a : Going g.T.NameTable.numbers g.T.NameTable.limit g.A.Source l.fn.limits l.fn.mode l.fn.reader_a
       l.reader_a l.records_a;
-  b : Going g.T.NameTable.numbers g.T.NameTable.limit g.B.Source l.fn.limits l.fn.reader_b
+  b : Going g.T.NameTable.numbers g.T.NameTable.limit g.B.Source l.fn.limits l.fn.mode l.fn.reader_b
       l.reader_b l.records_b;
   alike : a.normal ≡ b.normal;
 }

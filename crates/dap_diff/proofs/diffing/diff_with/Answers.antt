@@ -10,14 +10,14 @@ returns-in-Same-clause-answer g c =
 pub lines_of-requires-clause-is_left_a : goal.lines_of-requires-clause-is_left_a
 lines_of-requires-clause-is_left_a g c =
     subst (IsLeftText c.args.limits) (sym c.as_slice.ensures.value)
-    (is_left c.args.limits c.requires.limits g.A.Source c.args.reader_a.now
+    (is_left c.args.limits c.args.mode c.requires.limits g.A.Source c.args.reader_a.now
     c.compare_texts_with.new.reader_a c.in-Differ.record c.compare_texts_with.new.text_a.items
     (rw c.in-Differ.is at c.in_ok-verdict.ensures.text_a))
 
 pub lines_of-requires-clause-is_left_b : goal.lines_of-requires-clause-is_left_b
 lines_of-requires-clause-is_left_b g c =
     subst (IsLeftText c.args.limits) (sym c.as_slice-in-Differ.ensures.value)
-    (is_left c.args.limits c.requires.limits g.B.Source c.args.reader_b.now
+    (is_left c.args.limits c.args.mode c.requires.limits g.B.Source c.args.reader_b.now
     c.compare_texts_with.new.reader_b c.in-Differ.record c.compare_texts_with.new.text_b.items
     (rw c.in-Differ.is at c.in_ok-verdict.ensures.text_b))
 
@@ -27,7 +27,8 @@ returns-in-Ok-clause-answer g c =
     c.compare_texts_with.new.text_b.items c.in-Ok.lines.items =
     rw (c.as_slice.ensures.value, c.as_slice-in-Differ.ensures.value) at c.in-Ok.ensures in (
       rw c.in-Differ.is at c.in_ok-verdict.ensures.answer,
-      tells_record c.args.limits c.requires.limits g.A.Source g.B.Source c.args.reader_a.now
+      tells_record c.args.limits c.args.mode c.requires.limits g.A.Source g.B.Source
+          c.args.reader_a.now
           c.compare_texts_with.new.reader_a c.args.reader_b.now c.compare_texts_with.new.reader_b
           c.in-Differ.record _ _ _ (rw c.in-Differ.is at c.in_ok-verdict.ensures.text_a)
           (rw c.in-Differ.is at c.in_ok-verdict.ensures.text_b) tells,

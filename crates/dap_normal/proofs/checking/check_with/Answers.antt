@@ -6,6 +6,6 @@ pub returns-in_err-checked-clause-answer : goal.returns-in_err-checked-clause-an
 returns-in_err-checked-clause-answer g c =
     let because = err_from_is_err_and c.from_residual.result c.from_residual.ensures.1 in
     rw (because.1, because.2)
-    (refuses_all_the_same g.R.Source c.args.limits
+    (refuses_all_the_same g.R.Source c.args.limits c.args.mode
     c.args.complete c.args.reader.now c.count_records.new.reader _
     c.in_err-checked.ensures.answer)

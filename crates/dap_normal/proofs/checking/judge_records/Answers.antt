@@ -10,45 +10,50 @@ returns-in_err-next-clause-answer g c =
     let was = c.loop-text.invariant in
     let because = err_from_is_err_and c.from_residual.result c.from_residual.ensures.1 in
     rw (because.1, because.2)
-    (check_refuses g.R.Source c.args.limits
+    (check_refuses g.R.Source c.args.limits c.args.mode
     c.args.reader.now c.loop-text.reader c.loop-text.records was c.next.new.self
     c.next.new.reader false _
-    (c.in_err-next.ensures.next c.args.limits was.bytes was.messages was.normal was.stands))
+    (c.in_err-next.ensures.next c.args.limits c.args.mode was.bytes was.messages was.normal
+    was.stands))
 
 pub returns-in_err-next-clause-taken : goal.returns-in_err-next-clause-taken
 returns-in_err-next-clause-taken g c =
     let was = c.loop-text.invariant in
-    few_taken g.R.Source c.args.limits c.args.reader.now
+    few_taken g.R.Source c.args.limits c.args.mode c.args.reader.now
     c.loop-text.reader c.loop-text.records was c.next.new.reader c.next.new.self _
-    (c.in_err-next.ensures.next c.args.limits was.bytes was.messages was.normal was.stands)
+    (c.in_err-next.ensures.next c.args.limits c.args.mode was.bytes was.messages was.normal
+    was.stands)
 
 pub loop-text-smaller : goal.loop-text-smaller
 loop-text-smaller g c =
     let was = c.loop-text.invariant in
-    (gone g.R.Source c.args.limits c.args.reader.now
+    (gone g.R.Source c.args.limits c.args.mode c.args.reader.now
     c.loop-text.reader c.loop-text.records was c.next.new.self c.next.new.reader _ _ _
-    (c.in_ok-next.ensures.next c.args.limits was.bytes was.messages was.normal was.stands)
+    (c.in_ok-next.ensures.next c.args.limits c.args.mode was.bytes was.messages was.normal
+    was.stands)
     c.if-branch.true).shorter
 
 pub loop-text-preserved : goal.loop-text-preserved
 loop-text-preserved g c =
     let was = c.loop-text.invariant in
-    on g.R.Source c.args.limits c.args.reader.now
+    on g.R.Source c.args.limits c.args.mode c.args.reader.now
     c.loop-text.reader c.loop-text.records was c.next.new.self c.next.new.reader _ _
-    (gone g.R.Source c.args.limits c.args.reader.now
+    (gone g.R.Source c.args.limits c.args.mode c.args.reader.now
     c.loop-text.reader c.loop-text.records was c.next.new.self c.next.new.reader _ _ _
-    (c.in_ok-next.ensures.next c.args.limits was.bytes was.messages was.normal was.stands)
+    (c.in_ok-next.ensures.next c.args.limits c.args.mode was.bytes was.messages was.normal
+    was.stands)
     c.if-branch.true)
 
 pub overflow_sub-result : goal.overflow_sub-result
 overflow_sub-result g c =
     let was = c.loop-text.invariant in
-    let end = ended g.R.Source c.args.limits
+    let end = ended g.R.Source c.args.limits c.args.mode
     c.args.reader.now c.loop-text.reader c.loop-text.records was c.next.new.self
     c.next.new.reader _ _ _
-    (c.in_ok-next.ensures.next c.args.limits was.bytes was.messages was.normal was.stands)
+    (c.in_ok-next.ensures.next c.args.limits c.args.mode was.bytes was.messages was.normal
+    was.stands)
     c.if-branch.false in
-    let some = some_records g.R.Source c.args.limits
+    let some = some_records g.R.Source c.args.limits c.args.mode
     c.args.reader.now c.loop-text.reader c.loop-text.records was c.next.new.self
     c.next.new.reader false _ _ end in
     let is = c.number.ensures in
@@ -57,16 +62,17 @@ overflow_sub-result g c =
 pub returns-clause-answer : goal.returns-clause-answer
 returns-clause-answer g c =
     let was = c.loop-text.invariant in
-    let end = ended g.R.Source c.args.limits
+    let end = ended g.R.Source c.args.limits c.args.mode
     c.args.reader.now c.loop-text.reader c.loop-text.records was c.next.new.self
     c.next.new.reader _ _ _
-    (c.in_ok-next.ensures.next c.args.limits was.bytes was.messages was.normal was.stands)
+    (c.in_ok-next.ensures.next c.args.limits c.args.mode was.bytes was.messages was.normal
+    was.stands)
     c.if-branch.false in
-    let some = some_records g.R.Source c.args.limits
+    let some = some_records g.R.Source c.args.limits c.args.mode
     c.args.reader.now c.loop-text.reader c.loop-text.records was c.next.new.self
     c.next.new.reader false _ _ end in
     let is = c.number.ensures in
-    check_accepts g.R.Source c.args.limits
+    check_accepts g.R.Source c.args.limits c.args.mode
     c.args.reader.now c.loop-text.reader c.loop-text.records was c.next.new.self
     c.next.new.reader false _ _ end
     c.open.result c.open-2.result (c.open.ensures, c.open-2.ensures) _ (omega (arith, some, is))
@@ -75,9 +81,10 @@ returns-clause-answer g c =
 pub returns-clause-taken : goal.returns-clause-taken
 returns-clause-taken g c =
     let was = c.loop-text.invariant in
-    all_taken g.R.Source c.args.limits c.args.reader.now
+    all_taken g.R.Source c.args.limits c.args.mode c.args.reader.now
     c.loop-text.reader c.loop-text.records was c.next.new.reader c.next.new.self _ _
-    (ended g.R.Source c.args.limits c.args.reader.now
+    (ended g.R.Source c.args.limits c.args.mode c.args.reader.now
     c.loop-text.reader c.loop-text.records was c.next.new.self c.next.new.reader _ _ _
-    (c.in_ok-next.ensures.next c.args.limits was.bytes was.messages was.normal was.stands)
+    (c.in_ok-next.ensures.next c.args.limits c.args.mode was.bytes was.messages was.normal
+    was.stands)
     c.if-branch.false)

@@ -7,9 +7,9 @@ use Rattle.dap_normal.proofs.laws.recording_has_one_outcome.Goals as goal
 
 pub returns : goal.returns
 returns c = record {
-  outcome = λ limits sound. has_one_outcome (accepting limits) (shown_cause limits.frame)
-      (readable limits.frame) (value_facts limits) (accepted_facts limits);
+  outcome = λ limits mode sound. has_one_outcome (accepting limits mode) (shown_cause limits.frame)
+      (readable limits.frame) (value_facts limits mode) (accepted_facts limits mode);
   refusal_stays =
-      λ limits sound. refusal_of_stays (accepting limits) (readable limits.frame)
-      (value_facts limits) (accepted_facts limits);
+      λ limits mode sound. refusal_of_stays (accepting limits mode) (readable limits.frame)
+      (value_facts limits mode) (accepted_facts limits mode);
 }

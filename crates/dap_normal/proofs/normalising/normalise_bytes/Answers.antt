@@ -3,7 +3,7 @@ use Rattle.std.proofs.lemmas.Result.{err_from_is_err_and}
 use Rattle.dap_device.specs.Pieces.{HasComeSoFar}
 use Rattle.dap_normal.specs.Accepting.{text}
 use Rattle.dap_normal.specs.JudgingSteps.{record_of}
-use Rattle.dap_normal.specs.Normalised.{HoldsSome}
+use Rattle.dap_normal.specs.Normalised.{HoldsSome, NormalText}
 use Rattle.dap_normal.proofs.JudgedRecords.{text_push}
 use Rattle.dap_normal.proofs.StreamAnswers.{ended, gone}
 use Rattle.dap_input.proofs.Coming.{nothing_came}
@@ -18,10 +18,10 @@ loop-text-init c = record {
     bytes = [];
     came = subst
         (λ r. HasComeSoFar memory
-        (start c.args.limits c.requires.limits c.args.bytes.now) r [] None)
+        (start c.args.limits c.args.mode c.requires.limits c.args.bytes.now) r [] None)
         (sym c.new-reader.ensures)
         (nothing_came memory
-        (start c.args.limits c.requires.limits c.args.bytes.now));
+        (start c.args.limits c.args.mode c.requires.limits c.args.bytes.now));
     messages = [];
     normal = [];
     stands = c.in-Ok.ensures.stands;
@@ -32,23 +32,25 @@ loop-text-init c = record {
 pub loop-text-smaller : goal.loop-text-smaller
 loop-text-smaller c =
     let was = c.loop-text.invariant.going in
-    (gone memory c.args.limits
-    (start c.args.limits c.requires.limits c.args.bytes.now) c.loop-text.reader
+    (gone memory c.args.limits c.args.mode
+    (start c.args.limits c.args.mode c.requires.limits c.args.bytes.now) c.loop-text.reader
     c.loop-text.records was c.next.new.self c.next.new.reader _ _ _
-    (c.in_ok-next.ensures.next c.args.limits was.bytes was.messages was.normal was.stands)
+    (c.in_ok-next.ensures.next c.args.limits c.args.mode was.bytes was.messages was.normal
+    was.stands)
     c.if-branch.true).shorter
 
 pub loop-text-preserved : goal.loop-text-preserved
 loop-text-preserved c =
     let was = c.loop-text.invariant.going in
-    let more = gone memory c.args.limits
-    (start c.args.limits c.requires.limits c.args.bytes.now) c.loop-text.reader
+    let more = gone memory c.args.limits c.args.mode
+    (start c.args.limits c.args.mode c.requires.limits c.args.bytes.now) c.loop-text.reader
     c.loop-text.records was c.next.new.self c.next.new.reader _ _ _
-    (c.in_ok-next.ensures.next c.args.limits was.bytes was.messages was.normal was.stands)
+    (c.in_ok-next.ensures.next c.args.limits c.args.mode was.bytes was.messages was.normal
+    was.stands)
     c.if-branch.true in
     record {
-      going = on memory c.args.limits
-          (start c.args.limits c.requires.limits c.args.bytes.now) c.loop-text.reader
+      going = on memory c.args.limits c.args.mode
+          (start c.args.limits c.args.mode c.requires.limits c.args.bytes.now) c.loop-text.reader
           c.loop-text.records was c.next.new.self c.next.new.reader _ _ more;
       text_is = more.appended ∙ ap (λ t. t ++ record_of more.named) c.loop-text.invariant.text_is
           ∙ sym (text_push was.normal more.named);
@@ -59,32 +61,36 @@ returns-in_err-next-clause-err c =
     let was = c.loop-text.invariant.going in
     let because = err_from_is_err_and c.from_residual.result c.from_residual.ensures.1 in
     rw (because.1, because.2)
-    (refuses_bytes c.args.limits c.requires.limits c.args.bytes.now c.loop-text.reader
+    (refuses_bytes c.args.limits c.args.mode c.requires.limits c.args.bytes.now c.loop-text.reader
     c.loop-text.records was c.next.new.reader c.next.new.self _
-    (c.in_err-next.ensures.next c.args.limits was.bytes was.messages was.normal was.stands))
+    (c.in_err-next.ensures.next c.args.limits c.args.mode was.bytes was.messages was.normal
+    was.stands))
 
 pub new-requires-2 : goal.new-requires-2
 new-requires-2 c =
     let was = c.loop-text.invariant.going in
-    let end = ended memory c.args.limits
-    (start c.args.limits c.requires.limits c.args.bytes.now) c.loop-text.reader
+    let end = ended memory c.args.limits c.args.mode
+    (start c.args.limits c.args.mode c.requires.limits c.args.bytes.now) c.loop-text.reader
     c.loop-text.records was c.next.new.self c.next.new.reader _ _ _
-    (c.in_ok-next.ensures.next c.args.limits was.bytes was.messages was.normal was.stands)
+    (c.in_ok-next.ensures.next c.args.limits c.args.mode was.bytes was.messages was.normal
+    was.stands)
     c.if-branch.false in
     let kept = end.kept ∙ c.loop-text.invariant.text_is in
-    subst HoldsSome (sym kept)
-    (holds_of c.args.limits c.args.bytes.now (text was.normal)
-    (normalised_whole c.args.limits c.requires.limits c.args.bytes.now c.loop-text.reader
+    subst (λ t. HoldsSome record { mode = c.args.mode; bytes = t }) (sym kept)
+    (holds_of c.args.limits c.args.mode c.args.bytes.now (text was.normal)
+    (normalised_whole c.args.limits c.args.mode c.requires.limits c.args.bytes.now
+    c.loop-text.reader
     c.loop-text.records was c.next.new.reader c.next.new.self _ _ end))
 
 pub returns-clause-ok : goal.returns-clause-ok
 returns-clause-ok c =
     let was = c.loop-text.invariant.going in
-    let end = ended memory c.args.limits
-    (start c.args.limits c.requires.limits c.args.bytes.now) c.loop-text.reader
+    let end = ended memory c.args.limits c.args.mode
+    (start c.args.limits c.args.mode c.requires.limits c.args.bytes.now) c.loop-text.reader
     c.loop-text.records was c.next.new.self c.next.new.reader _ _ _
-    (c.in_ok-next.ensures.next c.args.limits was.bytes was.messages was.normal was.stands)
+    (c.in_ok-next.ensures.next c.args.limits c.args.mode was.bytes was.messages was.normal
+    was.stands)
     c.if-branch.false in
-    canonical_whole c.args.limits c.requires.limits c.args.bytes.now c.loop-text.reader
+    canonical_whole c.args.limits c.args.mode c.requires.limits c.args.bytes.now c.loop-text.reader
     c.loop-text.records was c.next.new.reader c.next.new.self _ _ end _
-    (c.new-2.ensures ∙ end.kept ∙ c.loop-text.invariant.text_is)
+    (ap (λ (t : NormalText). t.bytes) c.new-2.ensures ∙ end.kept ∙ c.loop-text.invariant.text_is)

@@ -9,7 +9,7 @@ use Rattle.dap_normal.proofs.normalising.normalise_bytes.Given as goal
 abbrev pub invariant-loop-text : goal.invariant-loop-text
 invariant-loop-text l =
     record {
-      going : Going index_numbers index_limit memory l.fn.limits record
+      going : Going index_numbers index_limit memory l.fn.limits l.fn.mode record
           { left = l.fn.bytes; given = 0 } l.reader l.records;
       text_is : l.text.items ≡ text going.normal;
     }

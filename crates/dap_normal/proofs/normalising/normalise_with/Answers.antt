@@ -4,4 +4,4 @@ use Rattle.dap_normal.proofs.normalising.normalise_with.Goals as goal
 pub returns-in_default-clause-answer : goal.returns-in_default-clause-answer
 returns-in_default-clause-answer g c =
     given_up g.R.Source g.W.Sink
-    c.args.limits c.args.reader.now c.args.writer.now
+    c.args.limits c.args.mode c.args.reader.now c.args.writer.now

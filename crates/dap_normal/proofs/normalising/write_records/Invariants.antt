@@ -9,11 +9,12 @@ use Rattle.dap_normal.proofs.normalising.write_records.Given as goal
 abbrev pub invariant-records : goal.invariant-records
 invariant-records g l =
     record {
-      going : Going g.T.NameTable.numbers g.T.NameTable.limit g.R.Source l.fn.limits
+      going : Going g.T.NameTable.numbers g.T.NameTable.limit g.R.Source l.fn.limits l.fn.mode
           l.fn.reader l.reader l.records;
       sent : List ℕ;
       written : AllWritten g.W.Sink l.fn.writer l.writer sent;
-      waits : Waiting l.fn.limits l.records going.bytes (text going.normal) sent l.text.items;
+      waits : Waiting l.fn.limits l.fn.mode l.records going.bytes (text going.normal) sent
+          l.text.items;
     }
 
 abbrev pub decreases-records : goal.decreases-records

@@ -13,11 +13,11 @@ returns c =
     let tracing =
     c.in_ok-tracing.ensures
     ∙ ap (λ a. with_subcommand a (plain (codes "record")).top) compact in
-    let normalise =
-    c.in_ok-normalise.ensures
-    ∙ ap (λ a. with_subcommand a (plain (codes "normalise")).top) tracing in
+    let normalising =
+    c.in_ok-normalising.ensures
+    ∙ ap₂ with_subcommand tracing (ap top c.in_ok-normalise.ensures.0) in
     let judged =
-    c.in_ok-judged.ensures ∙ ap₂ with_subcommand normalise (ap top c.in_ok-check.ensures.0) in
+    c.in_ok-judged.ensures ∙ ap₂ with_subcommand normalising (ap top c.in_ok-check.ensures.0) in
     let showing =
     c.in_ok-showing.ensures ∙ ap (λ a. with_subcommand a (plain (codes "show")).top) judged in
     let masking =
@@ -27,6 +27,6 @@ returns c =
     let comparing =
     c.in_ok-comparing.ensures
     ∙ ap₂ with_subcommand telling (ap top c.in_ok-compare.ensures.0) in
-    IfOk-weaker c.with_other-5.result _ _
+    IfOk-weaker c.with_other-6.result _ _
     (λ d h. h ∙ ap₂ with_subcommand comparing (ap top c.in_ok-diff.ensures.0))
-    c.with_other-5.ensures
+    c.with_other-6.ensures

@@ -2,7 +2,6 @@ use Rattle.std.proofs.Common.{ap, ap₂, sym, codes, option_map, Some, ◌≡◌
 use Rattle.clap.proofs.WalkLemmas.{first_value-rows}
 use Rattle.clap.specs.Words.{first_of, found_of, rows_of}
 use Rattle.dapnorm.specs.CommandLine.{check, is_set, job_of, mask, rows as told_rows, text_in}
-use Rattle.dapnorm.specs.CommandLine.{two_files}
 use Rattle.dapnorm.proofs.command_line.job_by.Goals as goal
 
 pub returns-in-check : goal.returns-in-check
@@ -12,7 +11,8 @@ returns-in-check c =
     c.get_str.ensures ∙ first_value-rows (found_of c.args.rows.now) (codes "complete") in
     let flag : c.is_true-complete.result ≡ is_set (first_of (codes "complete") rows) =
     c.is_true-complete.ensures ∙ ap is_set value in
-    ap (λ b. Some (check b)) flag ∙ sym (ap (λ n. job_of n rows) c.in-check.is)
+    ap₂ (λ complete per_stop. Some (check complete per_stop)) flag
+    c.asks_per_stop-per_stop-in-check.ensures ∙ sym (ap (λ n. job_of n rows) c.in-check.is)
 
 pub returns-in-mask : goal.returns-in-mask
 returns-in-mask c =

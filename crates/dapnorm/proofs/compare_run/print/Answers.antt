@@ -18,9 +18,9 @@ returns-in_err-write_pairs g c =
     rw (because.1)
     (all_then_front g.W.Sink c.args.writer.now c.write_all.new.writer
     c.write_pairs.new.writer (first_line c.args.verdict.now)
-    (flat_map pair_line (pairs_in c.args.verdict.now)) line
+    (flat_map (pair_line c.args.mode) (pairs_in c.args.verdict.now)) line
     (subst (λ ps. FrontWritten g.W.Sink c.write_all.new.writer
-    c.write_pairs.new.writer (flat_map pair_line ps)) c.pairs.ensures
+    c.write_pairs.new.writer (flat_map (pair_line c.args.mode) ps)) c.pairs.ensures
     c.in_err-write_pairs.ensures))
 
 pub returns : goal.returns
@@ -31,9 +31,9 @@ returns g c =
     c.in_ok-write_all.ensures in
     let all = all_then_all g.W.Sink c.args.writer.now c.write_all.new.writer
     c.write_pairs.new.writer (first_line c.args.verdict.now)
-    (flat_map pair_line (pairs_in c.args.verdict.now)) line
+    (flat_map (pair_line c.args.mode) (pairs_in c.args.verdict.now)) line
     (subst (λ ps. AllWritten g.W.Sink c.write_all.new.writer
-    c.write_pairs.new.writer (flat_map pair_line ps)) c.pairs.ensures
+    c.write_pairs.new.writer (flat_map (pair_line c.args.mode) ps)) c.pairs.ensures
     c.in_ok-write_pairs.ensures) in
     all_then_flush g.W.Sink c.args.writer.now c.write_pairs.new.writer
     c.flush.new.self _ c.flush.result all c.flush.ensures.flushed

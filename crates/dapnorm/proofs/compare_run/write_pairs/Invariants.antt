@@ -8,4 +8,4 @@ use Rattle.dapnorm.proofs.compare_run.write_pairs.Given as goal
 abbrev pub invariant-loop-pair : goal.invariant-loop-pair
 invariant-loop-pair g l =
     AllWritten g.W.Sink l.fn.writer l.writer
-    (flat_map pair_line (take l.pair-index l.pairs))
+    (flat_map (pair_line l.fn.mode) (take l.pair-index l.pairs))

@@ -2,7 +2,7 @@ use Rattle.std.proofs.Common.{refl}
 use Rattle.std.proofs.lemmas.Result.{err_from_is_err_and}
 use Rattle.dap_message.specs.Message.{sent}
 use Rattle.dap_normal.specs.Accepting.{IsMessage}
-use Rattle.dap_normal.specs.JudgingSteps.{held_of}
+use Rattle.dap_normal.specs.JudgingSteps.{held_of, judge_mode}
 use Rattle.dap_normal.proofs.JudgedRecords.{refused_to_write, taken}
 use Rattle.dap_normal.proofs.judging.Judge.judge.Goals as goal
 
@@ -10,7 +10,8 @@ pub returns-in_err-message-clause-judges : goal.returns-in_err-message-clause-ju
 returns-in_err-message-clause-judges g c = λ messages normal stands.
     let because = err_from_is_err_and c.from_residual.result c.from_residual.ensures.1 in
     rw (because.1, because.2)
-    (rw c.as_slice.ensures at c.in_err-message.ensures.err c.args.self.now.limits messages)
+    (rw c.as_slice.ensures at c.in_err-message.ensures.err c.args.self.now.limits
+    (judge_mode c.args.self.now) messages)
 
 pub returns-in_err-self-clause-judges : goal.returns-in_err-self-clause-judges
 returns-in_err-self-clause-judges g c = λ messages normal stands.

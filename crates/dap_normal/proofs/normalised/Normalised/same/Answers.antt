@@ -1,8 +1,7 @@
-use Rattle.std.proofs.Common.{◌≡◌, ◌↔◌, ℕ, List, Bool, true, eqb, sym, ◌∙◌, subst, refl}
+use Rattle.std.proofs.Common.{◌≡◌, ◌↔◌, ℕ, List, Bool, true, eqb, sym, ◌∙◌, refl}
 use Rattle.std.proofs.lemmas.Slice.Eq.{slice_eq-Decides}
 use Rattle.std.specs.Cmp.{unsigned_Decides}
 use lib.Pointwise.{pointwise}
-use Rattle.dap_normal.specs.Normalised.{HoldsSome}
 use Rattle.dap_normal.proofs.HeldMessages.{equal_hold, hold_equal, equal_recordings}
 use Rattle.dap_normal.proofs.normalised.Normalised.same.Goals as goal
 
@@ -17,16 +16,19 @@ told xs ys bytes others r is one two =
 
 pub returns-clause-holds : goal.returns-clause-holds
 returns-clause-holds c =
-    let so = told c.bytes.result.now c.bytes-2.result.now c.args.self.now c.args.other.now
+    let so = told c.bytes.result.now c.bytes-2.result.now c.args.self.now.bytes
+    c.args.other.now.bytes
     c.eq.result c.eq.ensures c.bytes.ensures.same c.bytes-2.ensures.same in (
-      (λ yes. equal_hold c.args.self.now c.args.other.now
-          (subst HoldsSome c.bytes.ensures.same c.bytes.ensures.holds) (so.0 yes)),
-      (λ h. so.1 (hold_equal c.args.self.now c.args.other.now h)),
+      (λ yes. equal_hold c.args.self.now c.args.other.now c.requires.mode c.bytes.ensures.holds
+          (so.0 yes)),
+      (λ h. so.1 (hold_equal c.args.self.now c.args.other.now c.requires.mode h)),
     )
 
 pub returns-clause-recordings : goal.returns-clause-recordings
-returns-clause-recordings c = λ limits sound bytes others a b.
-    let so = told c.bytes.result.now c.bytes-2.result.now c.args.self.now c.args.other.now
+returns-clause-recordings c = λ limits mode sound bytes others a b.
+    let so = told c.bytes.result.now c.bytes-2.result.now c.args.self.now.bytes
+    c.args.other.now.bytes
     c.eq.result c.eq.ensures c.bytes.ensures.same c.bytes-2.ensures.same in
-    let tells = equal_recordings limits sound bytes others c.args.self.now c.args.other.now a b in
+    let tells = equal_recordings limits mode sound bytes others
+    c.args.self.now.bytes c.args.other.now.bytes a b in
     ((λ yes. tells.0 (so.0 yes)), (λ same. so.1 (tells.1 same)))

@@ -1,4 +1,5 @@
-use Rattle.std.proofs.Common.{rules, arith, ◌≡◌, ◌∙◌, ◌<◌, sym, ap, pos, suc, length, get_or, ◌+ℤ◌, to_z}
+use Rattle.std.proofs.Common.{rules, arith, ◌≡◌, ◌∙◌, ◌<◌, sym, ap, pos, suc, length, get_or, ◌+ℤ◌}
+use Rattle.std.proofs.Common.{to_z}
 use Rattle.std.proofs.Common.{of_z, w64}
 use Rattle.std.proofs.lemmas.Int.{ints, to_z-of_z}
 use mir.Val.{SFits}
@@ -18,7 +19,8 @@ returns-in-None g c =
     i c.in-None.ensures c.requires in
     let is : numbers_at numbers names (sort, c.args.stop) ≡ numbers c.table.result.now =
     last ∙ ap numbers (sym c.table.ensures) in
-    let within : i < length (numbers c.table.result.now) = omega (arith, c.requires, ap length is) in
+    let within : i < length (numbers c.table.result.now) = omega (arith, c.requires, ap length is)
+    in
     let place : to_z w64 (of_z w64 (to_z w64 i +ℤ pos 1)) ≡ pos (suc i) =
     omega (
       arith,
