@@ -67,7 +67,9 @@ impl Renaming {
     /// The pairs of numbers with equal names, in the order of the sorts, then of the stops, and
     /// then of the names.
     ///
-    /// The only fault is `Memory`.
+    /// The only fault is `Memory`. There is no index of these pairs, so
+    /// [`carries`](Renaming::carries) goes through them for each id. To carry long lists, make a
+    /// renaming of its [`pairs`](Renaming::pairs) by [`new`](Renaming::new), which has one.
     pub fn between<T: NameTable>(
         alloc: Global,
         from: &Names<T>,
