@@ -8,7 +8,7 @@ ghost use Rattle.dap_mask.specs.RowSteps.{row_step_of, row_place_of};
 
 use crate::meets::{same_kind, share_name, text_of};
 use crate::rules::{MaskRule, Step};
-use dap_message::{PROFILE, Place, Row};
+use dap_profile::{Place, Row, profile_rows};
 
 /// One step of a row's place.
 #[derive(Clone, Copy, Drop)]
@@ -21,7 +21,7 @@ enum RowStep {
 pub(crate) fn takes_profile_id(rule: &MaskRule) -> bool
     ensures { result ≡ takes_profile_id (rule_of rule.now) }
 {
-    takes_id_of(rule, &PROFILE)
+    takes_id_of(rule, profile_rows())
 }
 
 fn takes_id_of(rule: &MaskRule, rows: &[Row]) -> bool

@@ -134,7 +134,8 @@ kind-typed Event s =
     (other_word (type_name Event) (type_name Request) (Some (text s)) refl)
     (other_word (type_name Event) (type_name Response) (Some (text s)) refl)
 
-kind-told : (k : Kind) (d : Doc) → is_of_kind k d ≡ option_map_or (same_kind k) (kind_told d) false
+pub kind-told : (k : Kind) (d : Doc)
+    → is_of_kind k d ≡ option_map_or (same_kind k) (kind_told d) false
 kind-told k d =
     text-value (type_name k) (get (codes "type") d) ∙ go (text_value (get (codes "type") d))
   where

@@ -205,7 +205,7 @@ boolean_value-skeleton (Some (list ds)) = refl
 boolean_value-skeleton (Some (object ms)) = refl
 boolean_value-skeleton (Some (id s z)) = refl
 
-of_kind-skeleton : (k : Kind) (d : Doc) → is_of_kind k (skeleton d) ≡ is_of_kind k d
+pub of_kind-skeleton : (k : Kind) (d : Doc) → is_of_kind k (skeleton d) ≡ is_of_kind k d
 of_kind-skeleton k d = text-shape skeleton skeleton_keeps (type_name k) (codes "type") d
 
 kind_of-skeleton : (d : Doc) → kind_of (skeleton d) ≡ kind_of d

@@ -460,7 +460,7 @@ seq_there side d ob h =
 abbrev After : Side → Doc → Doc
 After side d = mark_rows profile side (filled side d)
 
-kind_there : (side : Side) (d : Doc) (k : Kind) → is_of_kind k d ≡ true
+pub kind_there : (side : Side) (d : Doc) (k : Kind) → is_of_kind k d ≡ true
     → is_of_kind k (After side d) ≡ true
 kind_there side d k h =
     text-kept profile side (type_name k) (codes "type") (filled side d)

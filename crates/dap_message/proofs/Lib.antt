@@ -21,3 +21,4 @@ pub mod MemberNames
 pub mod OneMarking
 pub mod Contents
 pub mod ListedElements
+pub mod ToldKinds

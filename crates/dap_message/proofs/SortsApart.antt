@@ -20,10 +20,8 @@ use Rattle.dap_profile.specs.ProfileRows.{ProfileRow}
 use Rattle.dap_profile.specs.declared.profile.Kind.{Kind}
 use Rattle.dap_profile.specs.declared.profile.Kind.TheVariants.{Request, Response, Event}
 use Rattle.dap_profile.specs.declared.profile.Want.{Want}
-use Rattle.dap_profile.specs.declared.profile.Want.TheVariants.{Bool as WantBool, Whole, Text}
-use Rattle.dap_profile.specs.declared.profile.Want.TheVariants.{Object, List as WantList, OwnSeq}
-use Rattle.dap_profile.specs.declared.profile.Want.TheVariants.{OtherSeq, Frame, Reference}
-use Rattle.dap_profile.specs.declared.profile.Want.TheVariants.{Thread, Breakpoint}
+use Rattle.dap_profile.specs.declared.profile.Want.TheVariants.{OwnSeq}
+use Rattle.dap_profile.specs.declared.profile.Want.TheVariants.{OtherSeq}
 use Rattle.dap_message.specs.Marks.{sort_of, marked, edit, mark_row, mark_rows}
 use Rattle.dap_message.specs.Rows.{is_asked, is_of_kind, is_text, type_name, name_key}
 use Rattle.dap_message.specs.Rows.{may_have_body}

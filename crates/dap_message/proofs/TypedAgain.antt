@@ -26,9 +26,7 @@ use Rattle.dap_profile.specs.ProfileRows.{ProfileRow}
 use Rattle.dap_profile.specs.declared.profile.Kind.TheVariants.{Request, Response, Event}
 use Rattle.dap_profile.specs.declared.profile.Want.{Want}
 use Rattle.dap_profile.specs.declared.profile.Want.TheVariants.{Bool as WantBool, Whole, Text}
-use Rattle.dap_profile.specs.declared.profile.Want.TheVariants.{Object, List as WantList, OwnSeq}
-use Rattle.dap_profile.specs.declared.profile.Want.TheVariants.{OtherSeq, Frame, Reference}
-use Rattle.dap_profile.specs.declared.profile.Want.TheVariants.{Thread, Breakpoint}
+use Rattle.dap_profile.specs.declared.profile.Want.TheVariants.{Object, List as WantList}
 use Rattle.dap_message.specs.Capabilities.{is_given, default_to, false_members, false_at}
 use Rattle.dap_message.specs.Capabilities.{capabilities, tells_capabilities, with_capabilities}
 use Rattle.dap_message.specs.Capabilities.{filled}

@@ -13,7 +13,6 @@ ghost use Rattle.dap_message.specs.Numbers.{is_proper, are_proper, renumbered};
 ghost use Rattle.dap_message.specs.Views.{shows_all};
 ghost use Rattle.dap_message.specs.declared.fault.MessageFault.{MessageFault};
 
-use crate::asked_rows::is_of_kind;
 use crate::fault::MessageFault;
 use crate::ids::IdList;
 use crate::listing::{Frames, Scopes, Variables};
@@ -51,7 +50,8 @@ impl Message {
     ghost use Rattle.dap_message.specs.Views.{scopes_of, listed_scopes, variable_of, variables_of};
     ghost use Rattle.dap_message.specs.Views.{listed_variables};
 
-    pub(crate) fn new(side: Side, tree: Tree) -> Message
+    pub(crate) fn new(side: Side, kind: Kind, tree: Tree) -> Message
+        requires told { is_of_kind kind (view tree) ≡ true }
         requires sound { is_sound (view tree) ≡ true }
         requires proper { is_proper (view tree) ≡ true }
         requires enveloped { has_envelope (view tree) ≡ true }
@@ -59,7 +59,6 @@ impl Message {
         ensures side { side_of result ≡ side }
         ensures doc { doc_of result ≡ view tree }
     {
-        let kind = kind_of(&tree);
         Message { side, kind, tree }
     }
 
@@ -184,9 +183,9 @@ impl Message {
         ensures doc { IfOk result (λ m. doc_of m ≡ doc_of self.now) }
         ensures memory { IfErr result (λ f. f ≡ MessageFault.Memory) }
     {
-        let Message { side, tree, .. } = self;
+        let Message { side, kind, tree } = self;
         match tree.copy(alloc) {
-            Ok(tree) => Ok(Message::new(*side, tree)),
+            Ok(tree) => Ok(Message::new(*side, *kind, tree)),
             Err(_) => Err(MessageFault::Memory),
         }
     }
@@ -255,23 +254,13 @@ impl Message {
         ensures skeleton { skeleton (doc_of result) ≡ skeleton (doc_of self) }
         ensures doc { doc_of result ≡ with_ids (doc_of self) numbers.now }
     {
-        let Message { side, mut tree, .. } = self;
+        let Message {
+            side,
+            kind,
+            mut tree,
+        } = self;
         tree.replace_ids(numbers);
-        Message::new(side, tree)
-    }
-}
-
-fn kind_of(tree: &Tree) -> Kind
-    requires enveloped { has_envelope (view tree.now) ≡ true }
-    ensures same { result ≡ kind_of (view tree.now) }
-    ensures told { is_of_kind result (view tree.now) ≡ true }
-{
-    if is_of_kind(tree, Kind::Request) {
-        Kind::Request
-    } else if is_of_kind(tree, Kind::Response) {
-        Kind::Response
-    } else {
-        Kind::Event
+        Message::new(side, kind, tree)
     }
 }
 

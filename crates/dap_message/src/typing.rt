@@ -41,5 +41,5 @@ pub fn typed(alloc: Global, side: Side, tree: Tree) -> Result<Message, MessageFa
     let mut tree = tree;
     fill(&mut tree, side, alloc)?;
     mark(&mut tree, &rows, side);
-    Ok(Message::new(side, tree))
+    Ok(Message::new(side, kind, tree))
 }

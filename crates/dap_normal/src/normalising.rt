@@ -43,9 +43,43 @@ pub fn normalise_bytes(
     ensures mode { IfOk result (λ text. text.mode ≡ mode) }
 {
     let tables = index_tables(alloc, limits);
+    normalise_bytes_with(alloc, bytes, limits, tables, mode)
+}
+
+/// Does what [`normalise_bytes`] does, with these tables for the names of ids.
+fn normalise_bytes_with<T: NameTable + Drop>(
+    alloc: Global,
+    bytes: &[u8],
+    limits: Limits,
+    tables: Tables<T>,
+    mode: Mode,
+) -> Result<Normalised, Refused>
+    requires limits { AreSound limits }
+    requires tables { AreReady T.numbers T.limit limits tables }
+    ensures ok { IfOk result (λ text. IsCanonical limits mode bytes.now text.bytes) }
+    ensures err { IfErr result (λ refused. RefusesBytes limits mode bytes.now refused) }
+    ensures mode { IfOk result (λ text. text.mode ≡ mode) }
+{
     let Ok(mut records) = NormalRecords::new(alloc, limits, tables, mode) else {
         return Err(Refused::Memory);
     };
+    normal_text(alloc, &mut records, bytes, limits, mode)
+}
+
+/// The normal text of a recording, of which nothing has been read.
+fn normal_text<T: NameTable + Drop>(
+    alloc: Global,
+    records: &mut NormalRecords<T>,
+    bytes: &[u8],
+    limits: Limits,
+    mode: Mode,
+) -> Result<Normalised, Refused>
+    requires limits { AreSound limits }
+    requires stands { StandsBefore T.numbers T.limit limits mode [] records.old [] [] }
+    ensures ok { IfOk result (λ text. IsCanonical limits mode bytes.now text.bytes) }
+    ensures err { IfErr result (λ refused. RefusesBytes limits mode bytes.now refused) }
+    ensures mode { IfOk result (λ text. text.mode ≡ mode) }
+{
     let mut reader = MemorySource::new(bytes);
     let mut text = Vec::new(alloc);
     while records.next(alloc, &mut reader, &mut text)? {}

@@ -1,12 +1,13 @@
 -- What the fields of `Requests` keep.
-use Rattle.std.specs.Prelude.{◌≡◌, ℤ, map, string_bytes}
+use Rattle.std.specs.Prelude.{◌≡◌, ℤ, map}
+use Rattle.std.specs.Rc.{rc_str_bytes}
 use Rattle.dap_session.specs.declared.requests.Request.{Request}
 use Rattle.dap_session.specs.declared.requests.Requests.TheInside.{Inside}
 use Rattle.dap_session.specs.Kept.{Requests, Noted, unanswered}
 
 -- What is kept of a request.
 abbrev pub noted_of : Request → Noted
-noted_of r = (string_bytes r.command, r.answered)
+noted_of r = (rc_str_bytes r.command, r.answered)
 
 -- It beside its number.
 abbrev pub entry_of : ℤ × Request → ℤ × Noted

@@ -1,7 +1,8 @@
 //! The requests of one side.
 ghost use Rattle.dap_session.specs.EnvelopeView.{message_of};
 ghost use Rattle.std.specs.Prelude.{◌≡◌, ◌&&◌, [], OnOk, OnErr, option_map, false, true};
-ghost use Rattle.std.specs.Prelude.{None, Some};
+ghost use Rattle.std.specs.Prelude.{None, Some, IfOk};
+ghost use Rattle.std.specs.Rc.{rc_str_bytes};
 ghost use Rattle.dap_session.specs.Kept.{request_numbered, unanswered, with_request, with_answer};
 ghost use Rattle.dap_session.specs.Kept.{requests_after};
 ghost use Rattle.dap_session.specs.RequestSteps.{FitsRequests, adds_to};
@@ -10,13 +11,14 @@ use crate::envelope::Envelope;
 use crate::message::{is_from, is_request, is_response, name_of, request_seq_of, seq_of};
 use dap_message::Side;
 use std::alloc::{AllocError, Global};
-use std::collections::BTreeMap;
+use std::collections::{BTreeMap, BTreeSet};
 use std::marker::Model;
+use std::rc::RcStr;
 
 /// A request that was taken.
 #[derive(Drop)]
 pub struct Request {
-    command: String,
+    command: RcStr,
     answered: bool,
 }
 
@@ -24,6 +26,8 @@ pub struct Request {
 #[derive(Drop)]
 pub struct Requests {
     alloc: Global,
+    /// The commands of the requests: each text stands in memory once.
+    commands: BTreeSet<RcStr>,
     seen: BTreeMap<i64, Request>,
     open: usize,
 }
@@ -46,6 +50,7 @@ impl Requests {
     {
         Requests {
             alloc,
+            commands: BTreeSet::new(alloc),
             seen: BTreeMap::new(alloc),
             open: 0,
         }
@@ -75,7 +80,7 @@ impl Requests {
         ensures err { OnErr result (self.new ≡ self.old) }
     {
         prove!(self.open <= self.seen.len());
-        let command = String::from_str(self.alloc, command)?;
+        let command = shared_text(&mut self.commands, self.alloc, command)?;
         self.seen.insert(
             number,
             Request {
@@ -115,4 +120,16 @@ impl Requests {
         }
         Ok(())
     }
+}
+
+/// The text, as it stands in the set; it is put there where it is not.
+fn shared_text(texts: &mut BTreeSet<RcStr>, alloc: Global, text: &str) -> Result<RcStr, AllocError>
+    ensures { IfOk result (λ shared. rc_str_bytes shared ≡ text.now) }
+{
+    if let Some(shared) = texts.get(text) {
+        return shared.clone();
+    }
+    let shared = RcStr::from_str(alloc, text)?;
+    texts.insert(shared.clone()?)?;
+    Ok(shared)
 }

@@ -142,24 +142,73 @@ fn with_other<'a>(
     command.subcommand(other.after_help(example))
 }
 
+/// The subcommand `normalise` is added to `command`.
+fn with_normalise<'a>(command: Command<'a>, alloc: Global) -> Result<Command<'a>, AllocError>
+    ensures { IfOk result (λ c. app_of c
+        ≡ with_subcommand (app_of command.entry) normaliser.top) }
+{
+    let normalise = normalise_command(alloc)?;
+    with_other(
+        command,
+        normalise,
+        "Example: dapnorm normalise < session.rec > session.golden",
+    )
+}
+
+/// The subcommand `check` is added to `command`.
+fn with_check<'a>(command: Command<'a>, alloc: Global) -> Result<Command<'a>, AllocError>
+    ensures { IfOk result (λ c. app_of c
+        ≡ with_subcommand (app_of command.entry) checker.top) }
+{
+    let check = check_command(alloc)?;
+    with_other(
+        command,
+        check,
+        "Example: dapnorm check --complete < session.rec",
+    )
+}
+
+/// The subcommand `mask` is added to `command`.
+fn with_mask<'a>(command: Command<'a>, alloc: Global) -> Result<Command<'a>, AllocError>
+    ensures { IfOk result (λ c. app_of c
+        ≡ with_subcommand (app_of command.entry) masker.top) }
+{
+    let mask = mask_command(alloc)?;
+    with_other(
+        command,
+        mask,
+        "Example: dapnorm mask lldb.mask < session.rec > session.masked",
+    )
+}
+
+/// The subcommand `rows` is added to `command`.
+fn with_rows<'a>(command: Command<'a>, alloc: Global) -> Result<Command<'a>, AllocError>
+    ensures { IfOk result (λ c. app_of c
+        ≡ with_subcommand (app_of command.entry) row_teller.top) }
+{
+    let rows = rows_command(alloc)?;
+    with_other(command, rows, "Example: dapnorm rows 62")
+}
+
+/// A subcommand of two files is added to `command`.
+fn with_two_files<'a>(
+    command: Command<'a>,
+    alloc: Global,
+    name: &'a str,
+    about: &'a str,
+    example: &'a str,
+) -> Result<Command<'a>, AllocError>
+    ensures { IfOk result (λ c. app_of c
+        ≡ with_subcommand (app_of command.entry) (of_two_files name.entry.now).top) }
+{
+    let other = two_files_command(alloc, name, about)?;
+    with_other(command, other, example)
+}
+
 /// The definition of the command line.
 fn command<'a>(alloc: Global) -> Result<Command<'a>, AllocError>
     ensures { IfOk result (λ c. app_of c ≡ program) }
 {
-    let normalise = normalise_command(alloc)?;
-    let check = check_command(alloc)?;
-    let compare = two_files_command(
-        alloc,
-        "compare",
-        "Tells how the recordings of two files are the same, or where they differ",
-    )?;
-    let diff = two_files_command(
-        alloc,
-        "diff",
-        "Tells what differs at the first record where the recordings of two files differ",
-    )?;
-    let mask = mask_command(alloc)?;
-    let rows = rows_command(alloc)?;
     let compact = with_plain(
         bare_command(alloc),
         alloc,
@@ -174,16 +223,8 @@ fn command<'a>(alloc: Global) -> Result<Command<'a>, AllocError>
         "Makes a recording of a trace, from standard input to standard output",
         "Example: dapnorm record < session.trace > session.rec",
     )?;
-    let normalising = with_other(
-        tracing,
-        normalise,
-        "Example: dapnorm normalise < session.rec > session.golden",
-    )?;
-    let judged = with_other(
-        normalising,
-        check,
-        "Example: dapnorm check --complete < session.rec",
-    )?;
+    let normalising = with_normalise(tracing, alloc)?;
+    let judged = with_check(normalising, alloc)?;
     let showing = with_plain(
         judged,
         alloc,
@@ -191,20 +232,20 @@ fn command<'a>(alloc: Global) -> Result<Command<'a>, AllocError>
         "Prints a recording in lines, from standard input to standard output",
         "Example: dapnorm show < session.rec",
     )?;
-    let masking = with_other(
-        showing,
-        mask,
-        "Example: dapnorm mask lldb.mask < session.rec > session.masked",
-    )?;
-    let telling = with_other(masking, rows, "Example: dapnorm rows 62")?;
-    let comparing = with_other(
+    let masking = with_mask(showing, alloc)?;
+    let telling = with_rows(masking, alloc)?;
+    let comparing = with_two_files(
         telling,
-        compare,
+        alloc,
+        "compare",
+        "Tells how the recordings of two files are the same, or where they differ",
         "Example: dapnorm compare session.golden session.rec",
     )?;
-    with_other(
+    with_two_files(
         comparing,
-        diff,
+        alloc,
+        "diff",
+        "Tells what differs at the first record where the recordings of two files differ",
         "Example: dapnorm diff session.golden session.rec",
     )
 }

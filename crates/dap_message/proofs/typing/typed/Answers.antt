@@ -12,9 +12,15 @@ use Rattle.dap_message.proofs.AskedRows.{asked-filled}
 use Rattle.dap_message.proofs.KeptByTyping.{sound-message, proper-message}
 use Rattle.dap_message.proofs.Envelopes.{enveloped-message}
 use Rattle.dap_message.proofs.ListedElements.{shows_all-typed}
+use Rattle.dap_message.proofs.ToldKinds.{kind-message}
 use Rattle.dap_message.proofs.LeastBroken.{no_memory}
 use Rattle.dap_message.proofs.RowMarks.{mark_is_marked}
 use Rattle.dap_message.proofs.typing.typed.Goals as goal
+
+pub new-requires-clause-told : goal.new-requires-clause-told
+new-requires-clause-told c =
+    rw (c.mark.ensures, c.in_ok-fill.ensures.ok)
+    (kind-message c.args.side (view c.args.tree) c.in_ok-kind.kind c.in_ok-kind.ensures.kind)
 
 pub new-requires-clause-sound : goal.new-requires-clause-sound
 new-requires-clause-sound c =

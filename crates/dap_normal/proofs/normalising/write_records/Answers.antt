@@ -1,4 +1,4 @@
-use Rattle.std.proofs.Common.{◌++◌, ◌∷◌, [], Err, Ok, sym, ◌∙◌, subst}
+use Rattle.std.proofs.Common.{ℕ, List, ◌++◌, ◌∷◌, [], Err, Ok, sym, ◌∙◌, subst}
 use Rattle.dap_device.specs.Written.{AllWritten, FrontWritten}
 use Rattle.dap_device.proofs.Sending.{all_then_all}
 use Rattle.dap_input.proofs.Coming.{came_on}
@@ -103,7 +103,7 @@ records-preserved-in-Ok-true g c =
           (all_then_all g.W.Sink c.args.writer.now c.records.writer c.write_all.new.writer
           c.records.invariant.sent c.next.new.text.items c.records.invariant.written all);
       waits = subst (Waiting c.args.limits c.args.mode c.next.new.self now.bytes (text now.normal)
-          (text now.normal)) (sym c.clear.ensures.items)
+          (text now.normal)) (sym {A = List ℕ} c.clear.ensures.items)
           (none_waiting g.R.Source c.args.limits c.args.mode c.args.reader.now c.next.new.reader
           c.next.new.self now);
     }

@@ -2,9 +2,16 @@ use Rattle.dap_tree.specs.Ids.{ids, skeleton}
 use Rattle.dap_tree.specs.View.{view}
 use Rattle.dap_tree.proofs.IdNumbers.{count_ids, skeleton-with, sound_with}
 use Rattle.std.proofs.Common.{◌∙◌, ap}
+use Rattle.dap_message.proofs.ToldKinds.{kind-with}
 use Rattle.dap_message.proofs.ListedElements.{shows_all-with}
 use Rattle.dap_message.proofs.RenumberedMessages.{ids-with, proper-with, envelope-with}
 use Rattle.dap_message.proofs.message.Message.replace_ids.Goals as goal
+
+pub new-requires-clause-told : goal.new-requires-clause-told
+new-requires-clause-told c =
+    rw c.replace_ids.ensures.replaced
+    (kind-with c.args.self.kind (view c.args.self.tree) c.args.numbers.now
+    ∙ c.args.self.kind_told)
 
 pub new-requires-clause-sound : goal.new-requires-clause-sound
 new-requires-clause-sound c =

@@ -16,7 +16,7 @@ returns-clause-ok c =
     rw (to_z-of_z w64 c.args.number c.ranges.number) at c.in_ok-insert.ensures.entries in
     ap (map entry_of) entries ∙ insert-map noted_of c.args.number c.self.inside.seen.entries new
     ∙ ap (λ (es : Requests). insert_entry int_cmp es c.args.number (noted_of new)) c.self.view_is
-    ∙ ap (λ (t : List ℕ). with_request c.args.number t c.args.self.now) c.in_ok-command.ensures.ok
+    ∙ ap (λ (t : List ℕ). with_request c.args.number t c.args.self.now) c.in_ok-command.ensures
 
 pub invariant_of-self-2 : goal.invariant_of-self-2
 invariant_of-self-2 c =

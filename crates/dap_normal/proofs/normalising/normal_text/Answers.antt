@@ -10,10 +10,10 @@ use Rattle.dap_input.proofs.Coming.{nothing_came}
 use Rattle.dap_normal.proofs.StreamLoop.{on}
 use Rattle.dap_normal.proofs.WholeInput.{canonical_whole, holds_of, memory}
 use Rattle.dap_normal.proofs.WholeInput.{normalised_whole, refuses_bytes, start}
-use Rattle.dap_normal.proofs.normalising.normalise_bytes.Goals as goal
+use Rattle.dap_normal.proofs.normalising.normal_text.Goals as goal
 
 pub loop-text-init : goal.loop-text-init
-loop-text-init c = record {
+loop-text-init g c = record {
   going = record {
     bytes = [];
     came = subst
@@ -24,13 +24,13 @@ loop-text-init c = record {
         (start c.args.limits c.args.mode c.requires.limits c.args.bytes.now));
     messages = [];
     normal = [];
-    stands = c.in-Ok.ensures.stands;
+    stands = c.requires.stands;
   };
   text_is = c.new-text.ensures.items;
 }
 
 pub loop-text-smaller : goal.loop-text-smaller
-loop-text-smaller c =
+loop-text-smaller g c =
     let was = c.loop-text.invariant.going in
     (gone memory c.args.limits c.args.mode
     (start c.args.limits c.args.mode c.requires.limits c.args.bytes.now) c.loop-text.reader
@@ -40,7 +40,7 @@ loop-text-smaller c =
     c.if-branch.true).shorter
 
 pub loop-text-preserved : goal.loop-text-preserved
-loop-text-preserved c =
+loop-text-preserved g c =
     let was = c.loop-text.invariant.going in
     let more = gone memory c.args.limits c.args.mode
     (start c.args.limits c.args.mode c.requires.limits c.args.bytes.now) c.loop-text.reader
@@ -57,7 +57,7 @@ loop-text-preserved c =
     }
 
 pub returns-in_err-next-clause-err : goal.returns-in_err-next-clause-err
-returns-in_err-next-clause-err c =
+returns-in_err-next-clause-err g c =
     let was = c.loop-text.invariant.going in
     let because = err_from_is_err_and c.from_residual.result c.from_residual.ensures.1 in
     rw (because.1, because.2)
@@ -66,8 +66,8 @@ returns-in_err-next-clause-err c =
     (c.in_err-next.ensures.next c.args.limits c.args.mode was.bytes was.messages was.normal
     was.stands))
 
-pub new-requires-2 : goal.new-requires-2
-new-requires-2 c =
+pub new-requires : goal.new-requires
+new-requires g c =
     let was = c.loop-text.invariant.going in
     let end = ended memory c.args.limits c.args.mode
     (start c.args.limits c.args.mode c.requires.limits c.args.bytes.now) c.loop-text.reader
@@ -83,7 +83,7 @@ new-requires-2 c =
     c.loop-text.records was c.next.new.reader c.next.new.self _ _ end))
 
 pub returns-clause-ok : goal.returns-clause-ok
-returns-clause-ok c =
+returns-clause-ok g c =
     let was = c.loop-text.invariant.going in
     let end = ended memory c.args.limits c.args.mode
     (start c.args.limits c.args.mode c.requires.limits c.args.bytes.now) c.loop-text.reader
@@ -93,4 +93,4 @@ returns-clause-ok c =
     c.if-branch.false in
     canonical_whole c.args.limits c.args.mode c.requires.limits c.args.bytes.now c.loop-text.reader
     c.loop-text.records was c.next.new.reader c.next.new.self _ _ end _
-    (ap (λ (t : NormalText). t.bytes) c.new-2.ensures ∙ end.kept ∙ c.loop-text.invariant.text_is)
+    (ap (λ (t : NormalText). t.bytes) c.new.ensures ∙ end.kept ∙ c.loop-text.invariant.text_is)
