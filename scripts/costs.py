@@ -35,6 +35,11 @@ def nested(file, size):
     launched(file, '{"x":' + "[" * 120 + ",".join(map(str, range(200_000 * size))) + "]" * 120 + "}")
 
 
+def nested_objects(file, size):
+    """The same numbers in one list in objects that are 120 deep."""
+    launched(file, '{"x":' * 120 + "[" + ",".join(map(str, range(200_000 * size))) + "]" + "}" * 120)
+
+
 def flat(file, size):
     """The same numbers in one list."""
     launched(file, '{"x":[' + ",".join(map(str, range(200_000 * size))) + "]}")
@@ -112,7 +117,7 @@ RULES += "hex response variables body.variables[].value\ndigits response variabl
 
 # What is measured: the command, and what makes its input.
 CASES = [
-    (["normalise"], flat), (["normalise"], nested), (["normalise"], members), (["normalise"], one_name), (["normalise"], fractions),
+    (["normalise"], flat), (["normalise"], nested), (["normalise"], nested_objects), (["normalise"], members), (["normalise"], one_name), (["normalise"], fractions),
     (["normalise"], escapes), (["normalise"], frames), (["check"], open_requests), (["normalise"], long_headers),
     (["compact"], deep_frames), (["record"], small_pieces), (["mask"], variables), (["compare"], frames),
 ]

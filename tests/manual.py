@@ -34,7 +34,9 @@ def code():
         # A command is named where it is made, or where the function that makes it is called.
         made = re.findall(r'Command::new\(alloc, "(\w+)"\)', function)
         if "Command::new(alloc, name)" in function:
-            made = re.findall(rf'\b{name}\(\s*alloc,\s*"(\w+)"', text)
+            # One that is told the name may be called by another that is told it.
+            makers = [name, *(it for it, other in functions.items() if f"{name}(alloc, name" in other)]
+            made = re.findall(rf'\b(?:{"|".join(makers)})\(\s*(?:\w+,\s*)?alloc,\s*"(\w+)"', text)
         flags = [functions[flag] for flag in re.findall(r"\.arg\((\w+)\(alloc\)\)", function)]
         for command in set(made) & commands.keys():
             commands[command] += [option for part in (function, *flags) for option in re.findall(r'\.long\("([\w-]+)"\)', part)]
