@@ -2,10 +2,10 @@
 -- that they make.
 use Rattle.dap_tree.specs.Doc.{Doc, null, boolean, whole, text, list, object, id, Items, no_items}
 use Rattle.dap_tree.specs.Doc.{item, Members, no_members, member, get, get_member}
-use Rattle.dap_tree.specs.Ids.{ids, items_ids, members_ids, skeleton, items_skeleton}
-use Rattle.dap_tree.specs.Ids.{members_skeleton, without_ids, items_without_ids}
-use Rattle.dap_tree.specs.Ids.{members_without_ids}
-use Rattle.std.proofs.Common.{◌≡◌, ℕ, Bool, true, false, cond, ◌&&◌, List, [], ◌∷◌, ◌++◌, map}
+use Rattle.dap_tree.specs.Ids.{ids, items_ids, members_ids, map_ids, items_map_ids}
+use Rattle.dap_tree.specs.Ids.{members_map_ids, as_whole, as_zero, skeleton, without_ids}
+use Rattle.dap_tree.specs.declared.sort.Sort.{Sort}
+use Rattle.std.proofs.Common.{◌≡◌, ℕ, ℤ, Bool, true, false, cond, ◌&&◌, List, [], ◌∷◌, ◌++◌, map}
 use Rattle.std.proofs.Common.{Option, Some, None, option_map, Ordering, Less, Equal, Greater}
 use Rattle.std.proofs.Common.{nat_cmp, codes, refl, sym, ◌∙◌, ap, ap₂}
 use Rattle.std.specs.Cmp.Lexicographic.{slice_cmp}
@@ -93,178 +93,125 @@ module _ (h : Doc → Doc) (keeps : KeepsShape h) where
       (ap₂ (λ a b. a && b) (text-shape (type_name k) (codes "type") d)
       (text-shape n (name_key k) d)) (body-shape k d)
 
--- ---- the ids as numbers
+-- ---- something else in the place of each id
 
-at_without : (o : Ordering) (d : Doc) (a b : Option Doc) → a ≡ option_map without_ids b
-    → match_ordering o a (Some (without_ids d)) a
-    ≡ option_map without_ids (match_ordering o b (Some d) b)
-at_without Less d a b h = h
-at_without Equal d a b h = refl
-at_without Greater d a b h = h
+-- what is put there is a number: no object, list, text or truth value, and more than null
+pub record PutsNumbers (f : Sort → ℤ → Doc) : Type 0 where
+  pub member : (k : List ℕ) (s : Sort) (z : ℤ) → get k (f s z) ≡ None
+  pub is_object : (s : Sort) (z : ℤ) → is_object (f s z) ≡ false
+  pub list : (s : Sort) (z : ℤ) → list_of (f s z) ≡ None
+  pub text : (w : List ℕ) (s : Sort) (z : ℤ) → is_text w (Some (f s z)) ≡ false
+  pub boolean : (s : Sort) (z : ℤ) → is_true (Some (f s z)) ≡ false
+  pub given : (s : Sort) (z : ℤ) → is_given (Some (f s z)) ≡ true
 
-get_member-without : (k : List ℕ) (ms : Members)
-    → get_member k (members_without_ids ms) ≡ option_map without_ids (get_member k ms)
-get_member-without k no_members = refl
-get_member-without k (member l d ms) =
-    at_without (slice_cmp nat_cmp k l) d _ _ (get_member-without k ms)
+module _ (f : Sort → ℤ → Doc) (puts : PutsNumbers f) where
+  at_mapped : (o : Ordering) (d : Doc) (a b : Option Doc) → a ≡ option_map (map_ids f) b
+      → match_ordering o a (Some (map_ids f d)) a
+      ≡ option_map (map_ids f) (match_ordering o b (Some d) b)
+  at_mapped Less d a b h = h
+  at_mapped Equal d a b h = refl
+  at_mapped Greater d a b h = h
 
-get-without : (k : List ℕ) (d : Doc) → get k (without_ids d) ≡ option_map without_ids (get k d)
-get-without k null = refl
-get-without k (boolean b) = refl
-get-without k (whole z) = refl
-get-without k (text s) = refl
-get-without k (list ds) = refl
-get-without k (object ms) = get_member-without k ms
-get-without k (id s z) = refl
+  get_member-mapped : (k : List ℕ) (ms : Members)
+      → get_member k (members_map_ids f ms) ≡ option_map (map_ids f) (get_member k ms)
+  get_member-mapped k no_members = refl
+  get_member-mapped k (member l d ms) =
+      at_mapped (slice_cmp nat_cmp k l) d _ _ (get_member-mapped k ms)
 
-object-without : (d : Doc) → is_object (without_ids d) ≡ is_object d
-object-without null = refl
-object-without (boolean b) = refl
-object-without (whole z) = refl
-object-without (text s) = refl
-object-without (list ds) = refl
-object-without (object ms) = refl
-object-without (id s z) = refl
+  get-mapped : (k : List ℕ) (d : Doc) → get k (map_ids f d) ≡ option_map (map_ids f) (get k d)
+  get-mapped k null = refl
+  get-mapped k (boolean b) = refl
+  get-mapped k (whole z) = refl
+  get-mapped k (text s) = refl
+  get-mapped k (list ds) = refl
+  get-mapped k (object ms) = get_member-mapped k ms
+  get-mapped k (id s z) = puts.member k s z
 
-elements-without : (ds : Items) → elements (items_without_ids ds) ≡ map without_ids (elements ds)
-elements-without no_items = refl
-elements-without (item d ds) = ap (λ es. without_ids d ∷ es) (elements-without ds)
+  object-mapped : (d : Doc) → is_object (map_ids f d) ≡ is_object d
+  object-mapped null = refl
+  object-mapped (boolean b) = refl
+  object-mapped (whole z) = refl
+  object-mapped (text s) = refl
+  object-mapped (list ds) = refl
+  object-mapped (object ms) = refl
+  object-mapped (id s z) = puts.is_object s z
 
-list-without : (d : Doc) → list_of (without_ids d) ≡ option_map (map without_ids) (list_of d)
-list-without null = refl
-list-without (boolean b) = refl
-list-without (whole z) = refl
-list-without (text s) = refl
-list-without (list ds) = ap Some (elements-without ds)
-list-without (object ms) = refl
-list-without (id s z) = refl
+  elements-mapped : (ds : Items) → elements (items_map_ids f ds) ≡ map (map_ids f) (elements ds)
+  elements-mapped no_items = refl
+  elements-mapped (item d ds) = ap (λ es. map_ids f d ∷ es) (elements-mapped ds)
 
-text-without : (w : List ℕ) (o : Option Doc) → is_text w (option_map without_ids o) ≡ is_text w o
-text-without w None = refl
-text-without w (Some null) = refl
-text-without w (Some (boolean b)) = refl
-text-without w (Some (whole z)) = refl
-text-without w (Some (text s)) = refl
-text-without w (Some (list ds)) = refl
-text-without w (Some (object ms)) = refl
-text-without w (Some (id s z)) = refl
+  list-mapped : (d : Doc) → list_of (map_ids f d) ≡ option_map (map (map_ids f)) (list_of d)
+  list-mapped null = refl
+  list-mapped (boolean b) = refl
+  list-mapped (whole z) = refl
+  list-mapped (text s) = refl
+  list-mapped (list ds) = ap Some (elements-mapped ds)
+  list-mapped (object ms) = refl
+  list-mapped (id s z) = puts.list s z
 
-true-without : (o : Option Doc) → is_true (option_map without_ids o) ≡ is_true o
-true-without None = refl
-true-without (Some null) = refl
-true-without (Some (boolean b)) = refl
-true-without (Some (whole z)) = refl
-true-without (Some (text s)) = refl
-true-without (Some (list ds)) = refl
-true-without (Some (object ms)) = refl
-true-without (Some (id s z)) = refl
+  text-mapped : (w : List ℕ) (o : Option Doc)
+      → is_text w (option_map (map_ids f) o) ≡ is_text w o
+  text-mapped w None = refl
+  text-mapped w (Some null) = refl
+  text-mapped w (Some (boolean b)) = refl
+  text-mapped w (Some (whole z)) = refl
+  text-mapped w (Some (text s)) = refl
+  text-mapped w (Some (list ds)) = refl
+  text-mapped w (Some (object ms)) = refl
+  text-mapped w (Some (id s z)) = puts.text w s z
 
-given-without : (o : Option Doc) → is_given (option_map without_ids o) ≡ is_given o
-given-without None = refl
-given-without (Some null) = refl
-given-without (Some (boolean b)) = refl
-given-without (Some (whole z)) = refl
-given-without (Some (text s)) = refl
-given-without (Some (list ds)) = refl
-given-without (Some (object ms)) = refl
-given-without (Some (id s z)) = refl
+  true-mapped : (o : Option Doc) → is_true (option_map (map_ids f) o) ≡ is_true o
+  true-mapped None = refl
+  true-mapped (Some null) = refl
+  true-mapped (Some (boolean b)) = refl
+  true-mapped (Some (whole z)) = refl
+  true-mapped (Some (text s)) = refl
+  true-mapped (Some (list ds)) = refl
+  true-mapped (Some (object ms)) = refl
+  true-mapped (Some (id s z)) = puts.boolean s z
+
+  given-mapped : (o : Option Doc) → is_given (option_map (map_ids f) o) ≡ is_given o
+  given-mapped None = refl
+  given-mapped (Some null) = refl
+  given-mapped (Some (boolean b)) = refl
+  given-mapped (Some (whole z)) = refl
+  given-mapped (Some (text s)) = refl
+  given-mapped (Some (list ds)) = refl
+  given-mapped (Some (object ms)) = refl
+  given-mapped (Some (id s z)) = puts.given s z
+
+  pub mapped_keeps : KeepsShape (map_ids f)
+  mapped_keeps =
+      record {
+        member = get-mapped;
+        is_object = object-mapped;
+        list = list-mapped;
+        text = text-mapped;
+        boolean = true-mapped;
+        given = given-mapped;
+      }
 
 pub without_keeps : KeepsShape without_ids
 without_keeps =
-    record {
-      member = get-without;
-      is_object = object-without;
-      list = list-without;
-      text = text-without;
-      boolean = true-without;
-      given = given-without;
-    }
-
--- ---- the skeleton
-
-at_skeleton : (o : Ordering) (d : Doc) (a b : Option Doc) → a ≡ option_map skeleton b
-    → match_ordering o a (Some (skeleton d)) a ≡ option_map skeleton (match_ordering o b (Some d) b)
-at_skeleton Less d a b h = h
-at_skeleton Equal d a b h = refl
-at_skeleton Greater d a b h = h
-
-get_member-skeleton : (k : List ℕ) (ms : Members)
-    → get_member k (members_skeleton ms) ≡ option_map skeleton (get_member k ms)
-get_member-skeleton k no_members = refl
-get_member-skeleton k (member l d ms) =
-    at_skeleton (slice_cmp nat_cmp k l) d _ _ (get_member-skeleton k ms)
-
-get-skeleton : (k : List ℕ) (d : Doc) → get k (skeleton d) ≡ option_map skeleton (get k d)
-get-skeleton k null = refl
-get-skeleton k (boolean b) = refl
-get-skeleton k (whole z) = refl
-get-skeleton k (text s) = refl
-get-skeleton k (list ds) = refl
-get-skeleton k (object ms) = get_member-skeleton k ms
-get-skeleton k (id s z) = refl
-
-object-skeleton : (d : Doc) → is_object (skeleton d) ≡ is_object d
-object-skeleton null = refl
-object-skeleton (boolean b) = refl
-object-skeleton (whole z) = refl
-object-skeleton (text s) = refl
-object-skeleton (list ds) = refl
-object-skeleton (object ms) = refl
-object-skeleton (id s z) = refl
-
-elements-skeleton : (ds : Items) → elements (items_skeleton ds) ≡ map skeleton (elements ds)
-elements-skeleton no_items = refl
-elements-skeleton (item d ds) = ap (λ es. skeleton d ∷ es) (elements-skeleton ds)
-
-list-skeleton : (d : Doc) → list_of (skeleton d) ≡ option_map (map skeleton) (list_of d)
-list-skeleton null = refl
-list-skeleton (boolean b) = refl
-list-skeleton (whole z) = refl
-list-skeleton (text s) = refl
-list-skeleton (list ds) = ap Some (elements-skeleton ds)
-list-skeleton (object ms) = refl
-list-skeleton (id s z) = refl
-
-text-skeleton : (w : List ℕ) (o : Option Doc) → is_text w (option_map skeleton o) ≡ is_text w o
-text-skeleton w None = refl
-text-skeleton w (Some null) = refl
-text-skeleton w (Some (boolean b)) = refl
-text-skeleton w (Some (whole z)) = refl
-text-skeleton w (Some (text s)) = refl
-text-skeleton w (Some (list ds)) = refl
-text-skeleton w (Some (object ms)) = refl
-text-skeleton w (Some (id s z)) = refl
-
-true-skeleton : (o : Option Doc) → is_true (option_map skeleton o) ≡ is_true o
-true-skeleton None = refl
-true-skeleton (Some null) = refl
-true-skeleton (Some (boolean b)) = refl
-true-skeleton (Some (whole z)) = refl
-true-skeleton (Some (text s)) = refl
-true-skeleton (Some (list ds)) = refl
-true-skeleton (Some (object ms)) = refl
-true-skeleton (Some (id s z)) = refl
-
-given-skeleton : (o : Option Doc) → is_given (option_map skeleton o) ≡ is_given o
-given-skeleton None = refl
-given-skeleton (Some null) = refl
-given-skeleton (Some (boolean b)) = refl
-given-skeleton (Some (whole z)) = refl
-given-skeleton (Some (text s)) = refl
-given-skeleton (Some (list ds)) = refl
-given-skeleton (Some (object ms)) = refl
-given-skeleton (Some (id s z)) = refl
+    mapped_keeps as_whole (record {
+      member = λ k s z. refl;
+      is_object = λ s z. refl;
+      list = λ s z. refl;
+      text = λ w s z. refl;
+      boolean = λ s z. refl;
+      given = λ s z. refl;
+    })
 
 pub skeleton_keeps : KeepsShape skeleton
 skeleton_keeps =
-    record {
-      member = get-skeleton;
-      is_object = object-skeleton;
-      list = list-skeleton;
-      text = text-skeleton;
-      boolean = true-skeleton;
-      given = given-skeleton;
-    }
+    mapped_keeps as_zero (record {
+      member = λ k s z. refl;
+      is_object = λ s z. refl;
+      list = λ s z. refl;
+      text = λ w s z. refl;
+      boolean = λ s z. refl;
+      given = λ s z. refl;
+    })
 
 -- two documents of one skeleton are asked the same rows, their ids as numbers
 pub asked_without : (m n : Doc) → skeleton n ≡ skeleton m

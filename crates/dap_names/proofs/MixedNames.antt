@@ -15,7 +15,8 @@ module _ {K : Type 0} where
   abbrev pub firsts : List (K × ℤ) → List K
   firsts os = map (λ o. o.0) os
 
-  pub part-append : (p : K → Bool) (os ps : List (K × ℤ)) → part p (os ++ ps) ≡ part p os ++ part p ps
+  pub part-append : (p : K → Bool) (os ps : List (K × ℤ))
+      → part p (os ++ ps) ≡ part p os ++ part p ps
   part-append p [] ps = refl
   part-append p (o ∷ os) ps =
       by_bool (p o.0) (λ a. rw a (ap (λ t. o ∷ t) (part-append p os ps)))

@@ -70,44 +70,52 @@ abbrev mutual
   members_with_ids (member k d ms) ns =
       member k (with_ids d ns) (members_with_ids ms (drop (id_count d) ns))
 
--- The document with each id as a whole number (own): it has the same text.
+-- The document with something else in the place of each id, made of its sort and its number (own).
 abbrev mutual
-  pub without_ids : Doc → Doc
-  without_ids null = null
-  without_ids (boolean b) = boolean b
-  without_ids (whole z) = whole z
-  without_ids (text s) = text s
-  without_ids (list ds) = list (items_without_ids ds)
-  without_ids (object ms) = object (members_without_ids ms)
-  without_ids (id s z) = whole z
+  pub map_ids : (Sort → ℤ → Doc) → Doc → Doc
+  map_ids f null = null
+  map_ids f (boolean b) = boolean b
+  map_ids f (whole z) = whole z
+  map_ids f (text s) = text s
+  map_ids f (list ds) = list (items_map_ids f ds)
+  map_ids f (object ms) = object (members_map_ids f ms)
+  map_ids f (id s z) = f s z
 
-  pub items_without_ids : Items → Items
-  items_without_ids no_items = no_items
-  items_without_ids (item d ds) = item (without_ids d) (items_without_ids ds)
+  pub items_map_ids : (Sort → ℤ → Doc) → Items → Items
+  items_map_ids f no_items = no_items
+  items_map_ids f (item d ds) = item (map_ids f d) (items_map_ids f ds)
 
-  pub members_without_ids : Members → Members
-  members_without_ids no_members = no_members
-  members_without_ids (member k d ms) = member k (without_ids d) (members_without_ids ms)
+  pub members_map_ids : (Sort → ℤ → Doc) → Members → Members
+  members_map_ids f no_members = no_members
+  members_map_ids f (member k d ms) = member k (map_ids f d) (members_map_ids f ms)
+
+-- An id as a whole number, and with 0 as its number.
+abbrev pub as_whole : Sort → ℤ → Doc
+as_whole s z = whole z
+
+abbrev pub as_zero : Sort → ℤ → Doc
+as_zero s z = id s (pos 0)
+
+-- The document with each id as a whole number (own): it has the same text.
+abbrev pub without_ids : Doc → Doc
+without_ids d = map_ids as_whole d
+
+abbrev pub items_without_ids : Items → Items
+items_without_ids ds = items_map_ids as_whole ds
+
+abbrev pub members_without_ids : Members → Members
+members_without_ids ms = members_map_ids as_whole ms
 
 -- The document with 0 as the number of each id (own): what two documents share that differ at most
 -- in the numbers of their ids.
-abbrev mutual
-  pub skeleton : Doc → Doc
-  skeleton null = null
-  skeleton (boolean b) = boolean b
-  skeleton (whole z) = whole z
-  skeleton (text s) = text s
-  skeleton (list ds) = list (items_skeleton ds)
-  skeleton (object ms) = object (members_skeleton ms)
-  skeleton (id s z) = id s (pos 0)
+abbrev pub skeleton : Doc → Doc
+skeleton d = map_ids as_zero d
 
-  pub items_skeleton : Items → Items
-  items_skeleton no_items = no_items
-  items_skeleton (item d ds) = item (skeleton d) (items_skeleton ds)
+abbrev pub items_skeleton : Items → Items
+items_skeleton ds = items_map_ids as_zero ds
 
-  pub members_skeleton : Members → Members
-  members_skeleton no_members = no_members
-  members_skeleton (member k d ms) = member k (skeleton d) (members_skeleton ms)
+abbrev pub members_skeleton : Members → Members
+members_skeleton ms = members_map_ids as_zero ms
 
 -- The number of each id is in the range of whole numbers (own): that of a `Tree` is of 64 bits, so
 -- it always is.

@@ -343,10 +343,10 @@ by_name false false false false false false true c d normalised checked row mask
     has both_there two_there one = refl
 by_name false false false false false false false true d normalised checked row masked files apart
     has both_there two_there one = both_there refl
-by_name false false false false false false false false true normalised checked row masked files apart
-    has both_there two_there one = two_there refl
-by_name false false false false false false false false false normalised checked row masked files apart
-    has both_there two_there one = absurd (true≢false (sym one))
+by_name false false false false false false false false true normalised checked row masked files
+    apart has both_there two_there one = two_there refl
+by_name false false false false false false false false false normalised checked row masked files
+    apart has both_there two_there one = absurd (true≢false (sym one))
 
 -- Words that a parse takes with one of the subcommands name a job.
 pub takes_job : (words : List Text) → takes program words ≡ true

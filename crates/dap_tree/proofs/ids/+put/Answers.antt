@@ -38,7 +38,8 @@ put_items-loop-item-preserved t c =
     let lt : l.item-index < length l.item-items = omega arith in
     record {
       shallow = rw add-one
-          (shallow_step l.item-items l.item-index c.put-rest.new.tree c.args.levels l.invariant.shallow);
+          (shallow_step l.item-items l.item-index c.put-rest.new.tree c.args.levels
+          l.invariant.shallow);
       done = rw (add-one, c.put-rest.ensures.left)
           (put_step l.item-items l.item-index c.item-item.result c.put-rest.new.tree l.rest.now lt
           c.put-rest.ensures.put ∙ l.invariant.done);
