@@ -10,6 +10,7 @@ use Rattle.dap_device.specs.Pieces.{HasComeSoFar}
 use Rattle.dap_tree.specs.Doc.{Doc, text}
 use Rattle.dap_tree.specs.Ids.{without_ids}
 use Rattle.dap_tree.specs.Json.{text_of}
+use Rattle.dap_tree.specs.Side.{same_side}
 use Rattle.dap_tree.specs.declared.side.Side.{Side}
 use Rattle.dap_tree.specs.declared.side.Side.TheVariants.{Client, Adapter}
 use Rattle.dap_profile.specs.declared.profile.Kind.{Kind}
@@ -57,11 +58,6 @@ input_line which None = which ++ codes " ends\n"
 input_line which (Some m) = which ++ codes " " ++ head_line m
 
 -- Two messages of one side, one kind and one name.
-abbrev pub same_side : Side → Side → Bool
-same_side Client Client = true
-same_side Adapter Adapter = true
-same_side _ _ = false
-
 abbrev pub have_one_head : Sent → Sent → Bool
 have_one_head a b =
     same_side a.side b.side

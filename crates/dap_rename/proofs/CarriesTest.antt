@@ -13,8 +13,7 @@ use Rattle.dap_tree.specs.Doc.{Doc, null, boolean, whole, text, list, object, id
 use Rattle.dap_tree.specs.Doc.{item, Members, no_members, member}
 use Rattle.dap_tree.specs.Ids.{ids, items_ids, members_ids, skeleton, items_skeleton}
 use Rattle.dap_tree.specs.Ids.{members_skeleton}
-use Rattle.dap_tree.specs.declared.side.Side.{Side}
-use Rattle.dap_tree.specs.declared.side.Side.TheVariants.{Client, Adapter}
+use Rattle.dap_tree.specs.Side.{same_side}
 use Rattle.dap_tree.specs.declared.sort.Sort.{Sort}
 use Rattle.dap_tree.proofs.IdNumbers.{count_alike, count_ids}
 use Rattle.dap_tree.specs.View.{items_view}
@@ -28,9 +27,10 @@ use Rattle.dap_rename.specs.Renamings.{IsIn, AreRelated}
 use Rattle.dap_rename.specs.Pairs.{class_of, entries}
 use Rattle.dap_rename.specs.Sorts.{same_sort}
 use Rattle.dap_rename.specs.Carrying.{has_pair, carries_doc, carries_items, carries_members}
-use Rattle.dap_rename.specs.Carrying.{same_side, carries_sent, carries_list}
+use Rattle.dap_rename.specs.Carrying.{carries_sent, carries_list}
 use Rattle.dap_rename.specs.declared.pair.Pair.{Pair}
 use Rattle.dap_rename.proofs.Lists.{same_cons, head_of, tail_of}
+use Rattle.dap_tree.proofs.Sides.{same_side_decides}
 use Rattle.dap_tree.proofs.Sorts.{same_sort_told, told_same_sort}
 use Rattle.dap_rename.proofs.Occurrences.{class_decides, same_sent}
 use Rattle.dap_rename.proofs.Sameness.{related_front}
@@ -222,18 +222,6 @@ mutual
 
 -- ---- messages
 
-pub same_side_told : (s t : Side) → same_side s t ≡ true → s ≡ t
-same_side_told Client Client h = refl
-same_side_told Adapter Adapter h = refl
-same_side_told Client Adapter h = absurd cc
-same_side_told Adapter Client h = absurd cc
-
-pub told_same_side : (s t : Side) → s ≡ t → same_side s t ≡ true
-told_same_side Client Client h = refl
-told_same_side Adapter Adapter h = refl
-told_same_side Client Adapter h = absurd cc
-told_same_side Adapter Client h = absurd cc
-
 -- behind so many stops
 pub list_carried : (ps : List Pair) (stop : Sent → ℕ) → IsToldBySkeleton stop → (k : ℕ)
     (ms ns : List Sent) → carries_list ps stop k ms ns ≡ true
@@ -245,7 +233,7 @@ list_carried ps stop told k (m ∷ ms) (n ∷ ns) h =
     let b = and_parts (same_side m.side n.side) (carries_doc ps k m.doc n.doc) a.0 in
     let first = doc_carried ps k m.doc n.doc b.1 in
     let alike : message_skeleton m ≡ message_skeleton n =
-    same_sent m.side n.side _ _ (same_side_told m.side n.side b.0) first.0 in
+    same_sent m.side n.side _ _ ((same_side_decides m.side n.side).0 b.0) first.0 in
     let rest = list_carried ps stop told (k + stop m) ms ns a.1 in (
       same_cons (message_skeleton m) (message_skeleton n) _ _ alike rest.0,
       related-append (entries ps) (map (occurrence k) (ids m.doc)) (occurrences stop (k + stop m)
@@ -278,7 +266,7 @@ carried_list ps stop told k (m ∷ ms) (n ∷ ns) e h =
     (map (occurrence k) (ids n.doc)) (occurrences stop (k + stop n) ns) count h in
     and_from (carries_sent ps k m n) (carries_list ps stop (k + stop m) ms ns)
     (and_from (same_side m.side n.side) (carries_doc ps k m.doc n.doc)
-    (told_same_side m.side n.side side) (carried_doc ps k m.doc n.doc doc here))
+    ((same_side_decides m.side n.side).1 side) (carried_doc ps k m.doc n.doc doc here))
     (carried_list ps stop told (k + stop m) ms ns (tail_of e)
     (subst (λ j. AreRelated (entries ps) (occurrences stop (k + stop m) ms)
     (occurrences stop (k + j) ns)) (sym (told m n first)) later))

@@ -6,8 +6,7 @@ use Rattle.std.specs.List.{list_any}
 use Rattle.std.specs.Ordering.{int_eq}
 use Rattle.dap_tree.specs.Doc.{Doc, null, boolean, whole, text, list, object, id, Items, no_items}
 use Rattle.dap_tree.specs.Doc.{item, Members, no_members, member}
-use Rattle.dap_tree.specs.declared.side.Side.{Side}
-use Rattle.dap_tree.specs.declared.side.Side.TheVariants.{Client, Adapter}
+use Rattle.dap_tree.specs.Side.{same_side}
 use Rattle.dap_message.specs.Message.{Sent}
 use Rattle.dap_rename.specs.Messages.{Class, class_after, same_class}
 use Rattle.dap_rename.specs.Pairs.{class_of}
@@ -41,11 +40,6 @@ abbrev mutual
   carries_members ps k (member l d ms) (member m e ns) =
       bytes_eq l m && (carries_doc ps k d e && carries_members ps k ms ns)
   carries_members ps k ms ns = false
-
-abbrev pub same_side : Side → Side → Bool
-same_side Client Client = true
-same_side Adapter Adapter = true
-same_side s t = false
 
 abbrev pub carries_sent : List Pair → ℕ → Sent → Sent → Bool
 carries_sent ps k m n = same_side m.side n.side && carries_doc ps k m.doc n.doc

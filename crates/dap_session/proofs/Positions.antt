@@ -14,6 +14,7 @@ use Rattle.std.proofs.lemmas.Option.{same_Some}
 use Rattle.std.proofs.lemmas.Slice.Eq.{bytes_eq-Decides}
 use Rattle.dap_tree.specs.declared.side.Side.{Side}
 use Rattle.dap_tree.specs.declared.side.Side.TheVariants.{Client, Adapter}
+use Rattle.dap_tree.proofs.Sides.{same_side_decides}
 use Rattle.dap_profile.specs.declared.profile.Kind.{Kind}
 use Rattle.dap_profile.specs.declared.profile.Kind.TheVariants.{Request, Response, Event}
 use Rattle.dap_message.specs.Message.{Sent}
@@ -36,7 +37,7 @@ use Rattle.dap_session.specs.Positions.{IsInitialize, IsClientInitialize, IsConf
 use Rattle.dap_session.specs.Positions.{IsInitialized, IsFarewell, IsRequestOf, IsResponseOf, At}
 use Rattle.dap_session.specs.Positions.{Earlier, NoneBetween, IsInitializingAt, BreaksAt, IsOutput}
 use Rattle.dap_session.specs.Positions.{BreaksNone, BreaksFirst}
-use Rattle.dap_session.proofs.Sides.{same_side-Decides, other_other}
+use Rattle.dap_session.proofs.Sides.{other_other}
 
 -- ---- one message
 
@@ -52,7 +53,7 @@ same_kind-Decides Event Response = (λ h. absurd (cc), λ h. absurd (cc))
 same_kind-Decides Event Event = (λ h. refl, λ h. refl)
 
 from : (side : Side) (m : Sent) → Decides (is_from side m) (IsFrom side m)
-from side m = same_side-Decides side (side_of m)
+from side m = same_side_decides side (side_of m)
 
 request : (m : Sent) → Decides (is_request m) (IsRequest m)
 request m = same_kind-Decides Request (kind_of m)

@@ -1,4 +1,5 @@
 -- A one-to-one renaming keeps every verdict of the rules.
+use Rattle.dap_tree.specs.Side.{same_side}
 use Rattle.dap_tree.specs.declared.side.Side.{Side}
 use Rattle.dap_tree.specs.declared.side.Side.TheVariants.{Client, Adapter}
 use Rattle.dap_tree.specs.declared.sort.Sort.{Sort}
@@ -17,7 +18,7 @@ use Rattle.dap_session.specs.declared.rule.Rule.TheVariants.{StillInitializing, 
 use Rattle.dap_session.specs.declared.rule.Rule.TheVariants.{AfterDisconnect, SeqUsed}
 use Rattle.dap_session.specs.declared.rule.Rule.TheVariants.{ConfiguredEarly, ConfiguredTwice}
 use Rattle.dap_session.specs.declared.rule.Rule.TheVariants.{NoRequest, AnsweredTwice, OtherCommand}
-use Rattle.dap_session.specs.Messages.{side_of, name_of, seq_of, request_seq_of, other, same_side}
+use Rattle.dap_session.specs.Messages.{side_of, name_of, seq_of, request_seq_of, other}
 use Rattle.dap_session.specs.Messages.{same_kind, is_number, is_yes, is_request, is_response}
 use Rattle.dap_session.specs.Messages.{is_event, is_from, is_named, is_request_of, is_response_to}
 use Rattle.dap_session.specs.Messages.{is_initialize, is_client_initialize, is_configuration_done}

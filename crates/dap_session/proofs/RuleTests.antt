@@ -5,6 +5,7 @@ use Rattle.std.specs.Str.{bytes_eq}
 use Rattle.std.specs.Option.{is_some}
 use Rattle.std.proofs.lemmas.Bool.{and_parts, not-false}
 use Rattle.std.proofs.lemmas.Slice.Eq.{bytes_eq-Decides}
+use Rattle.dap_tree.specs.Side.{same_side}
 use Rattle.dap_tree.specs.declared.side.Side.{Side}
 use Rattle.dap_tree.specs.declared.side.Side.TheVariants.{Client, Adapter}
 use Rattle.dap_message.specs.Message.{Sent}
@@ -14,7 +15,7 @@ use Rattle.dap_session.specs.declared.rule.Rule.TheVariants.{StillInitializing, 
 use Rattle.dap_session.specs.declared.rule.Rule.TheVariants.{AfterDisconnect, SeqUsed}
 use Rattle.dap_session.specs.declared.rule.Rule.TheVariants.{ConfiguredEarly, ConfiguredTwice}
 use Rattle.dap_session.specs.declared.rule.Rule.TheVariants.{NoRequest, AnsweredTwice, OtherCommand}
-use Rattle.dap_session.specs.Messages.{side_of, name_of, seq_of, other, same_side, is_request}
+use Rattle.dap_session.specs.Messages.{side_of, name_of, seq_of, other, is_request}
 use Rattle.dap_session.specs.Messages.{is_response, is_event, is_from, is_output}
 use Rattle.dap_session.specs.Rules.{first_of, rules}
 use Rattle.dap_session.specs.Kept.{Kept, Noted, request_numbered, requests_of}

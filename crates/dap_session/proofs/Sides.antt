@@ -1,23 +1,18 @@
 -- A message is of one kind and from one side.
 use Rattle.std.proofs.Common.{◌≡◌, true, false, refl}
-use Rattle.std.specs.Bool.{Decides}
+use Rattle.dap_tree.specs.Side.{same_side}
 use Rattle.dap_tree.specs.declared.side.Side.{Side}
 use Rattle.dap_tree.specs.declared.side.Side.TheVariants.{Client, Adapter}
+use Rattle.dap_tree.proofs.Sides.{same_side_decides}
 use Rattle.dap_profile.specs.declared.profile.Kind.{Kind}
 use Rattle.dap_profile.specs.declared.profile.Kind.TheVariants.{Request, Response, Event}
 use Rattle.dap_message.specs.Message.{Sent}
-use Rattle.dap_session.specs.Messages.{side_of, kind_of, other, same_side, same_kind, is_request}
+use Rattle.dap_session.specs.Messages.{side_of, kind_of, other, same_kind, is_request}
 use Rattle.dap_session.specs.Messages.{is_response, is_event, is_from}
-
-pub same_side-Decides : (s r : Side) → Decides (same_side s r) (s ≡ r)
-same_side-Decides Client Client = (λ h. refl, λ h. refl)
-same_side-Decides Client Adapter = (λ h. absurd (cc), λ h. absurd (cc))
-same_side-Decides Adapter Client = (λ h. absurd (cc), λ h. absurd (cc))
-same_side-Decides Adapter Adapter = (λ h. refl, λ h. refl)
 
 -- what is from a side has that side
 pub from_side : (side : Side) (m : Sent) → is_from side m ≡ true → side ≡ side_of m
-from_side side m h = (same_side-Decides side (side_of m)).0 h
+from_side side m h = (same_side_decides side (side_of m)).0 h
 
 other_side : (s r : Side) → same_side s r ≡ false → same_side (other s) r ≡ true
 other_side Client Client h = absurd (cc)

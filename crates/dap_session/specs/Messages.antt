@@ -1,6 +1,7 @@
 -- What the rules ask of one message: six words on it, and the tests that are made of them.
 use Rattle.dap_tree.specs.declared.side.Side.{Side}
 use Rattle.dap_tree.specs.declared.side.Side.TheVariants.{Client, Adapter}
+use Rattle.dap_tree.specs.Side.{same_side}
 use Rattle.std.specs.Prelude.{ℕ, ℤ, pos, Bool, true, false, ◌&&◌, List, [], Option, Some, None}
 use Rattle.std.specs.Prelude.{codes, unwrap_or}
 use Rattle.std.specs.Str.{bytes_eq}
@@ -45,13 +46,6 @@ success_of m = envelope.success_of m.doc
 abbrev pub other : Side → Side
 other Client = Adapter
 other Adapter = Client
-
--- The two sides are one.
-abbrev pub same_side : Side → Side → Bool
-same_side Client Client = true
-same_side Client Adapter = false
-same_side Adapter Client = false
-same_side Adapter Adapter = true
 
 -- The two kinds are one.
 abbrev pub same_kind : Kind → Kind → Bool

@@ -19,3 +19,4 @@ pub mod Tokens
 pub mod Utf8
 pub mod IdPaths
 pub mod Sorts
+pub mod Sides
