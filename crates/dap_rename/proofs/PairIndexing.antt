@@ -1,245 +1,112 @@
--- Pairs found by their class and a number: what is seen pair by pair, and what the index then
--- finds.
-use Rattle.std.proofs.Common.{◌≡◌, ℕ, suc, ◌+◌, ◌<◌, ◌≤◌, ℤ, Bool, true, false, cond, ◌&&◌}
-use Rattle.std.proofs.Common.{List, [], ◌∷◌, ◌++◌, length, take, get_or, Option, Some, None}
-use Rattle.std.proofs.Common.{MatchOption}
-use Rattle.std.proofs.Common.{is_some, not, refl, sym, ◌∙◌, ap, ap₂, subst, arith, true≢false}
-use Rattle.std.proofs.lemmas.Bool.{and_parts, and_from}
-use Rattle.std.proofs.lemmas.Bool.Decides.{Decides-int_eq, same_from_decides}
-use Rattle.std.proofs.lemmas.List.{take_more, length-take-le, take_all}
-use Rattle.std.proofs.lemmas.Map.Lookups.{exact_pairs, exact_unsigned, exact_signed}
-use Rattle.std.specs.BTreeMap as tree
-use Rattle.std.specs.BTreeMap.{BTreeMap}
+-- The numbers of pairs that were seen pair by pair, and pairs found by class and both numbers.
+use Rattle.std.proofs.Common.{◌≡◌, ℕ, suc, ◌+◌, ◌<◌, ℤ, Bool, true, false, cond, ◌&&◌, ◌||◌}
+use Rattle.std.proofs.Common.{eqb, List, [], ◌∷◌, ◌++◌, length, take, get_or, Option, Some, None}
+use Rattle.std.proofs.Common.{Result, Ok, Err, MatchOption, inl, inr, is_some, is_ok, not}
+use Rattle.std.proofs.Common.{refl, sym, ◌∙◌, ap, ap₂, subst, arith, zero-add}
+use Rattle.std.proofs.Common.{true≢false}
+use Rattle.std.proofs.Math.Bool.{and_assoc, not-not}
+use Rattle.std.proofs.lemmas.Bool.{cases_lt}
+use Rattle.std.proofs.lemmas.Bool.Decides.{nat_tests}
+use Rattle.std.proofs.lemmas.Cmp.{nat_cmp_total, int_cmp_total, on_total, then_total}
+use Rattle.std.proofs.lemmas.List.{take_more, length-take-le}
+use Rattle.std.proofs.lemmas.List.Folds.{list_any-append, list_any_at, list_any_none}
+use Rattle.std.proofs.lemmas.List.Sorted.{list_any-IsPermutation, searchable_from_sorted}
 use Rattle.std.specs.BTreeSet as sorted
 use Rattle.std.specs.BTreeSet.{BTreeSet}
-use Rattle.std.specs.Bool.{Decides}
-use Rattle.std.specs.Cmp.{Equal-is, nat_cmp_is, int_cmp_is}
+use Rattle.std.specs.Cmp.{IsTotalOrder}
+use Rattle.std.specs.List.{list_any, range_with_len}
+use Rattle.std.specs.List.Sorted.{IsPermutation, IsSortedByKey, IsBinarySearchResult}
+use Rattle.std.specs.List.Sorted.{IsSearchInRange}
 use Rattle.std.specs.Ordering.{is_eq, int_eq, nat_cmp, int_cmp, ordering_then}
 use Rattle.std.specs.declared.cmp.Ordering.{Ordering}
-use Rattle.std.specs.declared.cmp.Ordering.TheVariants.{Equal}
-use Rattle.dap_tree.specs.declared.sort.Sort.{Sort}
-use Rattle.dap_rename.specs.Messages.{Class, IsProperId, same_class}
-use Rattle.dap_rename.specs.Renamings.{AreApart, IsRenaming}
-use Rattle.dap_rename.specs.Pairs.{class_of, entry, entries, is_taken, is_given, AreRenaming}
-use Rattle.dap_rename.specs.Pairs.{MayFollow, PairFails, FailsFirst}
+use Rattle.std.specs.declared.cmp.Ordering.TheVariants.{Less, Equal, Greater}
 use Rattle.dap_rename.specs.Carrying.{has_pair}
-use Rattle.dap_rename.specs.PairIndex.{Key, key, key_cmp, image, gives, is_number, finds}
-use Rattle.dap_rename.specs.PairIndex.{IsIndexOf, HasSeen}
+use Rattle.dap_rename.specs.Messages.{Class, same_class}
+use Rattle.dap_rename.specs.PairIndex.{Key, key, key_cmp, HasNumbers, HasSeen, pair_key}
+use Rattle.dap_rename.specs.PairIndex.{pair_key_cmp, pair_at, key_at, IsIndexOf}
+use Rattle.dap_rename.specs.Pairs.{class_of, AreRenaming, MayFollow, PairFails, FailsFirst}
+use Rattle.dap_rename.specs.Sorts.{sort_number}
 use Rattle.dap_rename.specs.declared.pair.Pair.{Pair}
 use Rattle.dap_rename.specs.declared.pair.PairFault.{PairFault}
 use Rattle.dap_rename.specs.declared.pair_index.PairIndex.{PairIndex}
 use Rattle.dap_rename.specs.declared.pair_index.SeenPairs.{SeenPairs}
-use Rattle.dap_rename.proofs.Lists.{at_each}
-use Rattle.dap_tree.proofs.Sorts.{sort_told}
-use Rattle.dap_rename.proofs.Occurrences.{class_decides}
-use Rattle.dap_names.proofs.Additions.{by_bool}
-use Rattle.dap_rename.proofs.CarriesTest.{has_pair_in}
-use Rattle.dap_rename.proofs.PairFaults.{renaming_step, fails_first}
+use Rattle.dap_rename.proofs.PairFaults.{first_found, none_found}
 
 -- ---- keys
 
--- the order of classes in keys
-abbrev pub place_cmp : ℕ × ℕ → ℕ × ℕ → Ordering
-place_cmp k l = ordering_then (nat_cmp k.0 l.0) (nat_cmp k.1 l.1)
+then_test : (a b : Ordering) → is_eq (ordering_then a b) ≡ (is_eq a && is_eq b)
+then_test Less b = refl
+then_test Equal b = refl
+then_test Greater b = refl
 
-exact_place : (k l : ℕ × ℕ) → place_cmp k l ≡ Equal → k ≡ l
-exact_place k l h = exact_pairs nat_cmp nat_cmp exact_unsigned exact_unsigned k l h
-
-same_place : (k : ℕ × ℕ) → place_cmp k k ≡ Equal
-same_place k =
-    ap (λ o. ordering_then o (nat_cmp k.1 k.1)) (sym (nat_cmp_is k.0 k.0 Equal refl))
-    ∙ sym (nat_cmp_is k.1 k.1 Equal refl)
-
-pub key_decides : (k l : Key) → Decides (is_eq (key_cmp k l)) (k ≡ l)
-key_decides k l = (
-  (λ h. exact_pairs place_cmp int_cmp exact_place exact_signed k l
-      ((Equal-is (key_cmp k l)).0 h)),
-  (λ e. (Equal-is (key_cmp k l)).1
-      (ap (key_cmp k) (sym e)
-      ∙ ap (λ o. ordering_then o (int_cmp k.1 k.1)) (same_place k.0)
-      ∙ sym (int_cmp_is k.1 k.1 Equal refl))),
-)
-
-pub key_told : (c d : Class) (x y : ℤ) → key c x ≡ key d y → (c ≡ d) × (x ≡ y)
-key_told c d x y e = (
-  class_told c.0 c.1 d.0 d.1 (sort_told c.0 d.0 (ap (λ (k : Key). k.0.0) e))
-      (ap (λ (k : Key). k.0.1) e),
-  ap (λ (k : Key). k.1) e,
-)
-  where
-    class_told : (a : Sort) (m : ℕ) (b : Sort) (n : ℕ) → a ≡ b → m ≡ n
-        → ◌≡◌ {A = Class} (a, m) (b, n)
-    class_told a m b n p q = rw (p, q) refl
-
-pub told_key : (c d : Class) (x y : ℤ) → c ≡ d → x ≡ y → key c x ≡ key d y
-told_key c d x y e f = ap₂ key e f
+nat_test : (x y : ℕ) → is_eq (nat_cmp x y) ≡ eqb x y
+nat_test x y = grind (arith, nat_tests)
 
 -- a number of a class is found by the key that has both
 pub key_test : (c d : Class) (x y : ℤ)
     → is_eq (key_cmp (key c x) (key d y)) ≡ (same_class c d && int_eq x y)
 key_test c d x y =
-    same_from_decides {P = key c x ≡ key d y} (is_eq (key_cmp (key c x) (key d y)))
-    (same_class c d && int_eq x y) (key_decides (key c x) (key d y)) (
-      (λ h. let b = and_parts (same_class c d) (int_eq x y) h in
-          told_key c d x y ((class_decides c d).0 b.0) ((Decides-int_eq x y).0 b.1)),
-      (λ e. let b = key_told c d x y e in
-          and_from (same_class c d) (int_eq x y) ((class_decides c d).1 b.0)
-          ((Decides-int_eq x y).1 b.1)),
-    )
+    let sorts = nat_cmp (sort_number c.0) (sort_number d.0) in
+    let stops = nat_cmp c.1 d.1 in
+    then_test (ordering_then sorts stops) (int_cmp x y)
+    ∙ ap (λ b. b && int_eq x y) (then_test sorts stops
+    ∙ ap₂ (λ a b. a && b) (nat_test (sort_number c.0) (sort_number d.0)) (nat_test c.1 d.1))
 
--- ---- what pairs give for a number
+-- a pair of a class is found by the key that has both its numbers
+pub pair_test : (c d : Class) (x y u v : ℤ)
+    → is_eq (pair_key_cmp (pair_key c x u) (pair_key d y v))
+    ≡ (same_class c d && (int_eq x y && int_eq u v))
+pair_test c d x y u v =
+    then_test (key_cmp (key c x) (key d y)) (int_cmp u v)
+    ∙ ap (λ b. b && int_eq u v) (key_test c d x y)
+    ∙ and_assoc (same_class c d) (int_eq x y) (int_eq u v)
 
-pub taken_image : (ps : List Pair) (p : Pair)
-    → is_taken ps p ≡ is_some (image ps (class_of p) p.from)
-taken_image [] p = refl
-taken_image (q ∷ ps) p =
-    by_bool (same_class (class_of q) (class_of p) && int_eq q.from p.from)
-    (λ a. rw a refl)
-    (λ a. rw a (taken_image ps p))
+-- ---- the numbers of pairs on one side
 
-pub image_push : (ps : List Pair) (p : Pair) (c : Class) (x : ℤ)
-    → image ps (class_of p) p.from ≡ None
-    → image (ps ++ p ∷ []) c x
-    ≡ cond (same_class (class_of p) c && int_eq p.from x) (Some p.to) (image ps c x)
-image_push [] p c x h = refl
-image_push (q ∷ ps) p c x h =
-    by_bool (same_class (class_of q) (class_of p) && int_eq q.from p.from)
-    (λ a. absurd (some_is (cond (same_class (class_of q) (class_of p) && int_eq q.from p.from)
-    (Some q.to) (image ps (class_of p) p.from)) q.to (rw a refl) h))
-    (λ a. let later : image ps (class_of p) p.from ≡ None = rw a at h in
-    by_bool (same_class (class_of q) c && int_eq q.from x)
-    (λ b. by_bool (same_class (class_of p) c && int_eq p.from x)
-    (λ d. absurd (true≢false (sym (both_test q p c x b d) ∙ a)))
-    (λ d. rw (b, d) refl))
-    (λ b. rw b (image_push ps p c x later)))
-  where
-    some_is : (o : Option ℤ) (y : ℤ) → o ≡ Some y → o ≡ None → ⊥
-    some_is o y e f = cc
+module _ (set : BTreeSet Key) (side : Pair → ℤ) (ps : List Pair) (p : Pair)
+    (h : HasNumbers set side ps) where
+  -- the number of the pair is new to the set exactly if no earlier pair of its class has it
+  pub was_there : (k : Key) (b : Bool) → k ≡ key (class_of p) (side p)
+      → b ≡ not (sorted.contains key_cmp set k)
+      → list_any (λ q. same_class (class_of q) (class_of p) && int_eq (side q) (side p)) ps ≡ not b
+  was_there k b g e =
+      sym (h (class_of p) (side p))
+      ∙ ap (sorted.contains key_cmp set) (sym g)
+      ∙ sym (not-not (sorted.contains key_cmp set k)) ∙ ap not (sym e)
 
-    both_test : (q p : Pair) (c : Class) (x : ℤ)
-        → (same_class (class_of q) c && int_eq q.from x) ≡ true
-        → (same_class (class_of p) c && int_eq p.from x) ≡ true
-        → (same_class (class_of q) (class_of p) && int_eq q.from p.from) ≡ true
-    both_test q p c x b d =
-        let e = and_parts (same_class (class_of q) c) (int_eq q.from x) b in
-        let f = and_parts (same_class (class_of p) c) (int_eq p.from x) d in
-        and_from (same_class (class_of q) (class_of p)) (int_eq q.from p.from)
-        ((class_decides (class_of q) (class_of p)).1
-        ((class_decides (class_of q) c).0 e.0 ∙ sym ((class_decides (class_of p) c).0 f.0)))
-        ((Decides-int_eq q.from p.from).1
-        ((Decides-int_eq q.from x).0 e.1 ∙ sym ((Decides-int_eq p.from x).0 f.1)))
-
-pub gives_push : (ps : List Pair) (p : Pair) (c : Class) (y : ℤ)
-    → gives (ps ++ p ∷ []) c y
-    ≡ cond (same_class (class_of p) c && int_eq p.to y) true (gives ps c y)
-gives_push [] p c y =
-    by_bool (same_class (class_of p) c && int_eq p.to y) (λ a. rw a refl) (λ a. rw a refl)
-gives_push (q ∷ ps) p c y =
-    by_bool (same_class (class_of q) c && int_eq q.to y)
-    (λ a. by_bool (same_class (class_of p) c && int_eq p.to y) (λ b. rw (a, b) refl)
-    (λ b. rw (a, b) refl))
-    (λ a. rw a (gives_push ps p c y))
-
-pub nothing_found : (i : PairIndex) (c : Class) (x y : ℤ) (k : Key) → k ≡ key c x
-    → None ≡ tree.get key_cmp i.images k → false ≡ finds i c x y
-nothing_found i c x y k g e =
-    ap (λ o. is_number o y) e ∙ ap (λ q. is_number (tree.get key_cmp i.images q) y) g
-
--- ---- one pair more is seen
-
-pub nothing_seen : (seen : SeenPairs) → seen.index.images.entries ≡ [] → seen.given.keys ≡ []
-    → HasSeen seen []
-unfolding HasSeen
-nothing_seen seen h k = ((λ c x. rw h refl), (λ c y. rw k refl))
-
-pub none_if : (o : Option ℤ) → is_some o ≡ false → o ≡ None
-none_if None h = refl
-none_if (Some y) h = absurd (true≢false h)
-
-module _ (seen : SeenPairs) (ps : List Pair) (p : Pair) (h : HasSeen seen ps) where
-  pub was_taken : (k : Key) (o : Option ℤ) (b : Bool) → k ≡ key (class_of p) p.from
-      → o ≡ tree.get key_cmp seen.index.images k → b ≡ is_some o → is_taken ps p ≡ b
-  unfolding HasSeen
-  was_taken k o b g e f =
-      taken_image ps p ∙ ap is_some (sym (h.0 (class_of p) p.from))
-      ∙ ap (λ q. is_some (tree.get key_cmp seen.index.images q)) (sym g)
-      ∙ ap is_some (sym e) ∙ sym f
-
-  pub was_given : (k : Key) (b : Bool) → k ≡ key (class_of p) p.to
-      → b ≡ not (sorted.contains key_cmp seen.given k) → is_given ps p ≡ not b
-  unfolding HasSeen
-  was_given k b g e =
-      sym (h.1 (class_of p) p.to)
-      ∙ ap (sorted.contains key_cmp seen.given) (sym g)
-      ∙ sym (not_not (sorted.contains key_cmp seen.given k)) ∙ ap not (sym e)
+  pub number_push : (k : Key) (new : BTreeSet Key) → k ≡ key (class_of p) (side p)
+      → ((q : Key) → sorted.contains key_cmp new q
+      ≡ cond (is_eq (key_cmp k q)) true (sorted.contains key_cmp set q))
+      → HasNumbers new side (ps ++ p ∷ [])
+  number_push k new g f c x =
+      let t : Pair → Bool = λ q. same_class (class_of q) c && int_eq (side q) x in
+      f (key c x)
+      ∙ ap (λ b. cond b true (sorted.contains key_cmp set (key c x)))
+      (ap (λ q. is_eq (key_cmp q (key c x))) g ∙ key_test (class_of p) c (side p) x)
+      ∙ ap (cond (t p) true) (h c x)
+      ∙ cond_or (t p) (list_any t ps)
+      ∙ sym (list_any-append t ps (p ∷ []))
     where
-      not_not : (c : Bool) → not (not c) ≡ c
-      not_not true = refl
-      not_not false = refl
-
-  pub seen_push : (k l : Key) (y : ℤ) (images : BTreeMap Key ℤ) (given : BTreeSet Key)
-      → k ≡ key (class_of p) p.from → l ≡ key (class_of p) p.to → y ≡ p.to → is_taken ps p ≡ false
-      → ((q : Key) → tree.get key_cmp images q
-      ≡ cond (is_eq (key_cmp k q)) (Some y) (tree.get key_cmp seen.index.images q))
-      → ((q : Key) → sorted.contains key_cmp given q
-      ≡ cond (is_eq (key_cmp l q)) true (sorted.contains key_cmp seen.given q))
-      → HasSeen (record { index = record { images = images }; given = given }) (ps ++ p ∷ [])
-  unfolding HasSeen
-  seen_push k l y images given a b w none f g =
-      let absent : image ps (class_of p) p.from ≡ None =
-      none_if (image ps (class_of p) p.from) (sym (taken_image ps p) ∙ none) in (
-        (λ c x. f (key c x)
-            ∙ ap (λ b. cond b (Some y) (tree.get key_cmp seen.index.images (key c x)))
-            (ap (λ q. is_eq (key_cmp q (key c x))) a ∙ key_test (class_of p) c p.from x)
-            ∙ ap (λ z. cond (same_class (class_of p) c && int_eq p.from x) (Some z)
-            (tree.get key_cmp seen.index.images (key c x))) w
-            ∙ ap (cond (same_class (class_of p) c && int_eq p.from x) (Some p.to)) (h.0 c x)
-            ∙ sym (image_push ps p c x absent)),
-        (λ c z. g (key c z)
-            ∙ ap (λ t. cond t true (sorted.contains key_cmp seen.given (key c z)))
-            (ap (λ q. is_eq (key_cmp q (key c z))) b ∙ key_test (class_of p) c p.to z)
-            ∙ ap (cond (same_class (class_of p) c && int_eq p.to z) true) (h.1 c z)
-            ∙ sym (gives_push ps p c z)),
-      )
-
--- ---- the index of a renaming
-
-pub no_other : (p : Pair) (ps : List Pair) (x y : ℤ) (c : Class)
-    → IsRenaming IsProperId (entries (p ∷ ps)) → same_class (class_of p) c ≡ true
-    → int_eq p.from x ≡ true → has_pair ps c x y ≡ false
-no_other p ps x y c r a b =
-    by_bool (has_pair ps c x y)
-    (λ h. absurd ((at_each (AreApart (entry p)) (c, x, y) (entries ps) r.1
-    (has_pair_in ps c x y h) ((class_decides (class_of p) c).0 a)).0
-    ((Decides-int_eq p.from x).0 b)))
-    (λ h. h)
-
--- where no class takes a number twice, some pair has it and y exactly if y is given for it
-pub has_image : (ps : List Pair) (c : Class) (x y : ℤ) → IsRenaming IsProperId (entries ps)
-    → has_pair ps c x y ≡ is_number (image ps c x) y
-has_image [] c x y r = refl
-has_image (p ∷ ps) c x y r =
-    by_bool (same_class (class_of p) c)
-    (λ a. by_bool (int_eq p.from x)
-    (λ b. let none = no_other p ps x y c r a b in rw (a, b, none)
-    (by_bool (int_eq p.to y) (λ d. rw d refl) (λ d. rw d refl)))
-    (λ b. rw (a, b) (has_image ps c x y r.2)))
-    (λ a. rw a (has_image ps c x y r.2))
-
-pub index_seen : (seen : SeenPairs) (ps : List Pair) → HasSeen seen ps → AreRenaming ps
-    → IsIndexOf ps seen.index
-unfolding HasSeen
-index_seen seen ps h r c x y =
-    has_image ps c x y r.renaming ∙ ap (λ o. is_number o y) (sym (h.0 c x))
-
-pub all_seen : (seen : SeenPairs) (ps : List Pair) (k : ℕ) → length ps ≤ k
-    → HasSeen seen (take k ps) → AreRenaming (take k ps) → IsIndexOf ps seen.index × AreRenaming ps
-all_seen seen ps k n h r =
-    let e = take_all k ps n in
-    let renaming = subst AreRenaming e r in
-    (index_seen seen ps (subst (HasSeen seen) e h) renaming, renaming)
+      cond_or : (a b : Bool) → cond a true b ≡ (b || (a || false))
+      cond_or true true = refl
+      cond_or true false = refl
+      cond_or false true = refl
+      cond_or false false = refl
 
 -- ---- a step of going through the pairs
+
+pub nothing_seen : (seen : SeenPairs) → seen.taken.keys ≡ [] → seen.given.keys ≡ []
+    → HasSeen seen []
+nothing_seen seen h k = record { taken = λ c x. rw h refl; given = λ c x. rw k refl }
+
+module _ (P Q : Type 0) (R : PairFault → Type 0) where
+  first_of : (o : Option PairFault) → MatchOption o (P × Q) R → MatchOption o P R
+  first_of None h = h.0
+  first_of (Some f) h = h
+
+  second_of : (o : Option PairFault) → MatchOption o (P × Q) R → is_some o ≡ false → Q
+  second_of None h e = h.1
+  second_of (Some f) h e = absurd (true≢false e)
 
 -- what is known of the pair at a place after it was looked at
 abbrev pub Judged : SeenPairs → SeenPairs → ℕ → Pair → Option PairFault → Type 0
@@ -250,22 +117,89 @@ module _ (old new : SeenPairs) (ps : List Pair) (k : ℕ) (d : Pair) (o : Option
     (n : k < length ps) (h : HasSeen old (take k ps))
     (r : AreRenaming (take k ps))
     (j : Judged old new (k + 1) (get_or ps k d) o) where
-  place_is : k + 1 ≡ suc (length (take k ps))
-  place_is = omega (arith, n, length-take-le k ps (omega (arith, n)))
+  judged : MatchOption o (MayFollow (take k ps) (get_or ps k d)
+      × HasSeen new (take k ps ++ get_or ps k d ∷ [])) (PairFails (take k ps) (get_or ps k d))
+  judged = j (take k ps) h (omega (arith, n, length-take-le k ps (omega (arith, n))))
 
-  pub fault_found : (f : PairFault) → o ≡ Some f → FailsFirst ps f
-  fault_found f e =
-      fails_first ps k d f n r
-      (subst (λ t. MatchOption t (MayFollow (take k ps) (get_or ps k d)
-      × HasSeen new (take k ps ++ get_or ps k d ∷ [])) (PairFails (take k ps) (get_or ps k d))) e
-      (j (take k ps) h place_is))
+  pub fault_found : is_some o ≡ true → MatchOption o (AreRenaming ps) (FailsFirst ps)
+  fault_found s = first_found ps k d o n r (first_of _ _ _ o judged) s
 
-  pub next_seen : o ≡ None
+  pub next_seen : is_some o ≡ false
       → HasSeen new (take (k + 1) ps) × AreRenaming (take (k + 1) ps)
-  next_seen e =
-      let found = subst (λ t. MatchOption t (MayFollow (take k ps) (get_or ps k d)
-      × HasSeen new (take k ps ++ get_or ps k d ∷ [])) (PairFails (take k ps) (get_or ps k d))) e
-      (j (take k ps) h place_is) in (
-        subst (HasSeen new) (sym (take_more ps k d n)) found.1,
-        renaming_step ps k d n r found.0,
-      )
+  next_seen s = (
+    subst (HasSeen new) (sym (take_more ps k d n)) (second_of _ _ _ o judged s),
+    none_found ps k d o n r (first_of _ _ _ o judged) s,
+  )
+
+-- ---- the index of pairs
+
+-- a test passes some pair exactly if it passes the pair at some place
+pub at_some_place : (t : Pair → Bool) (ps : List Pair)
+    → list_any t ps ≡ list_any (λ k. t (pair_at ps k)) (range_with_len 0 (length ps))
+at_some_place t ps = from_place ps 0 ps (λ k h. ap (pair_at ps) (sym (zero-add k)))
+  where
+    from_place : (qs : List Pair) (a : ℕ) (ps : List Pair)
+        → ((k : ℕ) → k < length qs → pair_at qs k ≡ pair_at ps (a + k))
+        → list_any t qs ≡ list_any (λ k. t (pair_at ps k)) (range_with_len a (length qs))
+    from_place [] a ps h = refl
+    from_place (q ∷ qs) a ps h =
+        let here : q ≡ pair_at ps a = h 0 (omega arith) ∙ ap (pair_at ps) (omega arith) in
+        let rest = from_place qs (a + 1) ps (λ k n. h (suc k) (omega (arith, n))
+        ∙ ap (pair_at ps) (omega arith)) in
+        ap₂ (λ b c. b || c) (ap t here) rest
+
+pub places_sorted : (ps : List Pair) (i : PairIndex)
+    → IsPermutation (range_with_len 0 (length ps)) i.places.items
+    → IsSortedByKey (key_at ps) pair_key_cmp i.places.items → IsIndexOf ps i
+places_sorted ps i h k =
+    (λ t. at_some_place t ps ∙ list_any-IsPermutation (λ k. t (pair_at ps k)) _ _ h, k)
+
+pair_key_total : IsTotalOrder pair_key_cmp
+pair_key_total =
+    then_total (on_total (λ (k : Key × ℤ). k.0) (then_total
+    (on_total (λ (k : Key). k.0) (then_total (on_total (λ (k : ℕ × ℕ). k.0) nat_cmp_total)
+    (on_total (λ (k : ℕ × ℕ). k.1) nat_cmp_total)))
+    (on_total (λ (k : Key). k.1) int_cmp_total)))
+    (on_total (λ (k : Key × ℤ). k.1) int_cmp_total)
+
+-- a binary search by a key succeeds exactly if some place has it
+pub search_told : {K : Type 0} {R : K → K → Ordering} → IsTotalOrder R → (at : ℕ → K)
+    (places : List ℕ) (k : K) → IsSortedByKey at R places → (r : Result ℕ ℕ)
+    → IsSearchInRange r (length places) → IsBinarySearchResult (λ p. R (at p) k) places r
+    → is_ok r ≡ list_any (λ p. is_eq (R (at p) k)) places
+search_told {R = R} o at places k up (Ok i) n h =
+    sym (list_any_at (λ p. is_eq (R (at p) k)) places i 0 n (ap is_eq (h 0)))
+search_told {R = R} o at places k up (Err i) n h =
+    let parted = h (searchable_from_sorted o at places k up) in
+    sym (list_any_none (λ p. is_eq (R (at p) k)) places (λ j d l. elim (cases_lt j i) [
+      | inl a ↦ ap is_eq (parted.0 j d (omega arith) a)
+      | inr a ↦ ap is_eq (parted.1 j d a l)
+    ]))
+
+pub pair_found : (ps : List Pair) (i : PairIndex) (c : Class) (x y : ℤ) → IsIndexOf ps i
+    → has_pair ps c x y
+    ≡ list_any (λ k. is_eq (pair_key_cmp (key_at ps k) (pair_key c x y))) i.places.items
+pair_found ps i c x y h =
+    h.0 (λ p. same_class (class_of p) c && (int_eq p.from x && int_eq p.to y))
+    ∙ any_alike i.places.items
+  where
+    any_alike : (places : List ℕ)
+        → list_any (λ k. same_class (class_of (pair_at ps k)) c
+        && (int_eq (pair_at ps k).from x && int_eq (pair_at ps k).to y)) places
+        ≡ list_any (λ k. is_eq (pair_key_cmp (key_at ps k) (pair_key c x y))) places
+    any_alike [] = refl
+    any_alike (k ∷ places) =
+        ap₂ (λ a b. a || b)
+        (sym (pair_test (class_of (pair_at ps k)) c (pair_at ps k).from x (pair_at ps k).to y))
+        (any_alike places)
+
+pub index_tells : (ps : List Pair) (i : PairIndex) (c : Class) (x y : ℤ) → IsIndexOf ps i
+    → (places : List ℕ) → places ≡ i.places.items → (r : Result ℕ ℕ)
+    → IsSearchInRange r (length places)
+    → IsBinarySearchResult (λ k. pair_key_cmp (key_at ps k) (pair_key c x y)) places r
+    → is_ok r ≡ has_pair ps c x y
+index_tells ps i c x y h places e r n told =
+    search_told pair_key_total (key_at ps) places (pair_key c x y)
+    (subst (IsSortedByKey (key_at ps) pair_key_cmp) (sym e) h.1) r n told
+    ∙ ap (list_any (λ k. is_eq (pair_key_cmp (key_at ps k) (pair_key c x y)))) e
+    ∙ sym (pair_found ps i c x y h)

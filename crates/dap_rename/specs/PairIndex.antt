@@ -1,12 +1,12 @@
--- For private clauses: pairs found by their class and a number.
-use Rattle.std.specs.Prelude.{◌≡◌, ℕ, ℤ, Bool, false, cond, ◌&&◌, List, [], ◌∷◌}
-use Rattle.std.specs.Prelude.{Option, Some, None}
-use Rattle.std.specs.BTreeMap as tree
+-- For private clauses: the numbers that pairs have, and pairs found by class and both numbers.
+use Rattle.std.specs.Prelude.{◌≡◌, ℕ, ℤ, pos, Bool, ◌&&◌, List, slice_index_or}
 use Rattle.std.specs.BTreeSet as sorted
+use Rattle.std.specs.BTreeSet.{BTreeSet}
 use Rattle.std.specs.List.{list_any}
+use Rattle.std.specs.List.Sorted.{IsSortedByKey}
 use Rattle.std.specs.Ordering.{int_eq, nat_cmp, int_cmp, ordering_then}
 use Rattle.std.specs.declared.cmp.Ordering.{Ordering}
-use Rattle.dap_rename.specs.Carrying.{has_pair}
+use Rattle.dap_tree.specs.declared.sort.Sort.TheVariants.{ClientSeq}
 use Rattle.dap_rename.specs.Messages.{Class, same_class}
 use Rattle.dap_rename.specs.Pairs.{class_of}
 use Rattle.dap_rename.specs.Sorts.{sort_number}
@@ -14,7 +14,7 @@ use Rattle.dap_rename.specs.declared.pair.Pair.{Pair}
 use Rattle.dap_rename.specs.declared.pair_index.PairIndex.{PairIndex}
 use Rattle.dap_rename.specs.declared.pair_index.SeenPairs.{SeenPairs}
 
--- What a number of a class is found by, and the order of that.
+-- A number of a class, and the order of such.
 abbrev pub Key : Type 0
 Key = (ℕ × ℕ) × ℤ
 
@@ -25,32 +25,36 @@ abbrev pub key_cmp : Key → Key → Ordering
 key_cmp k l =
     ordering_then (ordering_then (nat_cmp k.0.0 l.0.0) (nat_cmp k.0.1 l.0.1)) (int_cmp k.1 l.1)
 
--- What the pairs give for a number of a class: the number that the first pair gives that takes it.
-abbrev pub image : List Pair → Class → ℤ → Option ℤ
-image [] c x = None
-image (p ∷ ps) c x =
-    cond (same_class (class_of p) c && int_eq p.from x) (Some p.to) (image ps c x)
+-- The set has the numbers of the pairs on one side, which is those taken or those given.
+abbrev pub HasNumbers : BTreeSet Key → (Pair → ℤ) → List Pair → Type 0
+HasNumbers set side ps =
+    (c : Class) (x : ℤ) → sorted.contains key_cmp set (key c x)
+    ≡ list_any (λ p. same_class (class_of p) c && int_eq (side p) x) ps
 
--- Some pair of the class gives the number.
-abbrev pub gives : List Pair → Class → ℤ → Bool
-gives ps c y = list_any (λ q. same_class (class_of q) c && int_eq q.to y) ps
+-- These pairs were seen: of each number of a class it is known whether they take it and give it.
+pub record HasSeen (seen : SeenPairs) (ps : List Pair) : Type 0 where
+  pub taken : HasNumbers seen.taken (λ p. p.from) ps
+  pub given : HasNumbers seen.given (λ p. p.to) ps
 
--- There is a number, and it is y.
-abbrev pub is_number : Option ℤ → ℤ → Bool
-is_number None y = false
-is_number (Some z) y = int_eq z y
+-- What a pair of a class is found by, and the order of that.
+abbrev pub pair_key : Class → ℤ → ℤ → Key × ℤ
+pair_key c x y = (key c x, y)
 
--- The index has y for the number x of the class.
-abbrev pub finds : PairIndex → Class → ℤ → ℤ → Bool
-finds i c x y = is_number (tree.get key_cmp i.images (key c x)) y
+abbrev pub pair_key_cmp : Key × ℤ → Key × ℤ → Ordering
+pair_key_cmp k l = ordering_then (key_cmp k.0 l.0) (int_cmp k.1 l.1)
 
--- The index finds what the pairs have.
+-- The pair at a place, or behind the last some pair.
+abbrev pub pair_at : List Pair → ℕ → Pair
+pair_at ps k =
+    slice_index_or ps k (record { sort = ClientSeq; stop = 0; from = pos 0; to = pos 0 })
+
+-- What it is found by.
+abbrev pub key_at : List Pair → ℕ → Key × ℤ
+key_at ps k = pair_key (class_of (pair_at ps k)) (pair_at ps k).from (pair_at ps k).to
+
+-- The index has the places of the pairs, so that a test passes some pair exactly if it passes the
+-- pair at some place of the index, and along the places the pairs ascend.
 abbrev pub IsIndexOf : List Pair → PairIndex → Type 0
-IsIndexOf ps i = (c : Class) (x y : ℤ) → has_pair ps c x y ≡ finds i c x y
-
--- These pairs were seen: for each number of a class it is known what they give for it, and whether
--- they give it.
-unfoldable pub HasSeen : SeenPairs → List Pair → Type 0
-HasSeen seen ps =
-    ((c : Class) (x : ℤ) → tree.get key_cmp seen.index.images (key c x) ≡ image ps c x)
-    × ((c : Class) (y : ℤ) → sorted.contains key_cmp seen.given (key c y) ≡ gives ps c y)
+IsIndexOf ps i =
+    ((t : Pair → Bool) → list_any t ps ≡ list_any (λ k. t (pair_at ps k)) i.places.items)
+    × IsSortedByKey (key_at ps) pair_key_cmp i.places.items

@@ -1,8 +1,6 @@
 //! Renamings: made of pairs or between two tables, and asked whether they carry messages.
 ghost use Rattle.std.specs.Prelude.{◌≡◌, ◌++◌, ◌↔◌, List, length, map, IsTrue, MatchOption, IfOk};
-ghost use Rattle.std.specs.Prelude.{IfErr, OnOk, ◌&&◌};
-ghost use Rattle.std.specs.Option.{ForSome};
-ghost use Rattle.std.specs.Ordering.{int_eq};
+ghost use Rattle.std.specs.Prelude.{IfErr, OnOk};
 ghost use Rattle.dap_message.specs.Message.{Sent, sent};
 ghost use Rattle.dap_rename.specs.Messages.{Carries, classes_of_sort, equal_places, same_class};
 ghost use Rattle.dap_rename.specs.Modes.{stop_in};
@@ -18,7 +16,7 @@ use crate::carries::carries_list;
 use crate::mode::Mode;
 use crate::names::Names;
 use crate::pair::{Pair, PairFault};
-use crate::pair_index::{PairIndex, has_class, is_proper};
+use crate::pair_index::{PairIndex, has_class, is_proper, seen_fault};
 use dap_message::Message;
 use dap_names::{NameFault, NameTable};
 use dap_tree::{SORTS, Sort};
@@ -28,10 +26,8 @@ use std::alloc::{AllocError, Global};
 #[derive(Drop)]
 pub struct Renaming {
     pairs: Vec<Pair>,
-    // The pairs of `new` by their class and number. Those of two tables have none: it would take
-    // memory and time, and `compare` only shows the pairs.
-    index: Option<PairIndex>,
-    ghost indexed: { ForSome index (IsIndexOf pairs.items) },
+    index: PairIndex,
+    ghost indexed: { IsIndexOf pairs.items index },
 }
 
 impl Renaming {
@@ -44,17 +40,29 @@ impl Renaming {
         ensures renaming { OnOk result (AreRenaming pairs.now) }
         ensures refused { IfErr result (RefusesPairs pairs.now) }
     {
-        match PairIndex::new(alloc, pairs) {
-            Ok(Ok(index)) => match Vec::from_slice(alloc, pairs) {
-                Ok(pairs) => Ok(Renaming {
-                    pairs,
-                    index: Some(index),
-                }),
+        match seen_fault(alloc, pairs) {
+            Ok(None) => match Renaming::copied(alloc, pairs) {
+                Ok(renaming) => Ok(renaming),
                 Err(_) => Err(PairFault::Memory),
             },
-            Ok(Err(fault)) => Err(fault),
+            Ok(Some(fault)) => Err(fault),
             Err(_) => Err(fault_or_memory(pairs)),
         }
+    }
+
+    // A copy of the pairs, with its index.
+    fn copied(alloc: Global, pairs: &[Pair]) -> Result<Renaming, AllocError>
+        ensures { IfOk result (λ r. pairs_of r ≡ pairs.now) }
+    {
+        Renaming::indexed(alloc, Vec::from_slice(alloc, pairs)?)
+    }
+
+    // The pairs, with their index.
+    fn indexed(alloc: Global, pairs: Vec<Pair>) -> Result<Renaming, AllocError>
+        ensures { IfOk result (λ r. pairs_of r ≡ pairs.items) }
+    {
+        let index = PairIndex::new(alloc, pairs.as_slice())?;
+        Ok(Renaming { pairs, index })
     }
 
     /// The pairs, in their order. Takes no memory.
@@ -67,9 +75,8 @@ impl Renaming {
     /// The pairs of numbers with equal names, in the order of the sorts, then of the stops, and
     /// then of the names.
     ///
-    /// The only fault is `Memory`. There is no index of these pairs, so
-    /// [`carries`](Renaming::carries) goes through them for each id. To carry long lists, make a
-    /// renaming of its [`pairs`](Renaming::pairs) by [`new`](Renaming::new), which has one.
+    /// The only fault is `Memory`. Beside the pairs it takes 8 bytes a pair, for the index by which
+    /// [`carries`](Renaming::carries) looks each id up.
     pub fn between<T: NameTable>(
         alloc: Global,
         from: &Names<T>,
@@ -87,7 +94,7 @@ impl Renaming {
         for sort in SORTS {
             add_sort(&mut pairs, sort, from, to)?;
         }
-        Ok(Renaming { pairs, index: None })
+        Ok(Renaming::indexed(alloc, pairs)?)
     }
 
     /// Whether the pairs carry the one list to the other: the messages are equal but for the
@@ -105,18 +112,8 @@ impl Renaming {
         ensures { result
             ≡ has_pair (pairs_of self.now) (class_of pair.now) pair.now.from pair.now.to }
     {
-        match &self.index {
-            Some(index) => index.has(pair),
-            None => self.pairs.iter().any(|other| is_equal(other, pair)),
-        }
+        self.index.has(self.pairs.as_slice(), pair)
     }
-}
-
-fn is_equal(pair: &Pair, other: &Pair) -> bool
-    ensures { result ≡ (same_class (class_of pair.now) (class_of other.now)
-        && (int_eq pair.now.from other.now.from && int_eq pair.now.to other.now.to)) }
-{
-    is_of_class(pair, other) && pair.from == other.from && pair.to == other.to
 }
 
 // Whether the two are of one class.

@@ -1,26 +1,17 @@
-use Rattle.std.proofs.Common.{rules, ◌≡◌, ◌≤◌, length, None}
-use Rattle.dap_rename.proofs.PairFaults.{no_pairs}
-use Rattle.dap_rename.proofs.PairIndexing.{nothing_seen, fault_found, next_seen, all_seen}
+use Rattle.std.proofs.Common.{rules, ◌≡◌, length, subst}
+use Rattle.std.proofs.lemmas.Fn.{always_returns_same}
+use Rattle.std.specs.List.{range_with_len}
+use Rattle.std.specs.List.Sorted.{IsPermutation}
+use Rattle.dap_rename.specs.PairIndex.{key_at}
+use Rattle.dap_rename.proofs.PairIndexing.{places_sorted}
 use Rattle.dap_rename.proofs.pair_index.PairIndex.new.Goals as goal
-
-pub loop-index-init : goal.loop-index-init
-loop-index-init c = (nothing_seen _ c.new.ensures.empty c.new-2.ensures.empty, no_pairs)
-
-pub returns-in-Some : goal.returns-in-Some
-returns-in-Some c =
-    fault_found c.loop-index.seen c.add.new.self c.args.pairs.now c.loop-index.index _
-    c.in_ok-fault.field-0 c.loop-index-test.true c.loop-index.invariant.0 c.loop-index.invariant.1
-    c.in_ok-fault.ensures c.in-Some.fault c.in-Some.is
-
-pub loop-index-preserved : goal.loop-index-preserved
-loop-index-preserved c =
-    let none : c.in_ok-fault.field-0 ≡ None = search rules in
-    next_seen c.loop-index.seen c.add.new.self c.args.pairs.now c.loop-index.index _
-    c.in_ok-fault.field-0 c.loop-index-test.true c.loop-index.invariant.0 c.loop-index.invariant.1
-    c.in_ok-fault.ensures none
 
 pub returns : goal.returns
 returns c =
-    let ended : length c.args.pairs.now ≤ c.loop-index.index = search rules in
-    all_seen c.loop-index.seen c.args.pairs.now c.loop-index.index ended c.loop-index.invariant.0
-    c.loop-index.invariant.1
+    let all : c.in_ok-places.places.items ≡ range_with_len 0 (length c.args.pairs.now) =
+    search rules in
+    places_sorted c.args.pairs.now (record { places = c.sort_unstable_by_key.new.self })
+    (subst (λ l. IsPermutation l c.sort_unstable_by_key.new.self.items) all
+    c.sort_unstable_by_key.ensures.permutation)
+    (c.sort_unstable_by_key.ensures.sorted (key_at c.args.pairs.now)
+    (always_returns_same _ _ _ (λ a r g called. search rules)))

@@ -1,4 +1,4 @@
-use Rattle.std.proofs.Common.{rules, ◌≡◌, ◌≤◌, ◌<◌, ◌∙◌, sym, subst, length}
+use Rattle.std.proofs.Common.{rules, ◌≡◌, ◌≤◌, ◌<◌, ◌∙◌, sym, ap, subst, length}
 use Rattle.dap_rename.specs.Modes.{stop_in}
 use Rattle.dap_rename.specs.Names.{StandWith, mode_of, numbers_at, stops_of}
 use Rattle.dap_rename.specs.Pairs.{entries, equal_names}
@@ -28,5 +28,6 @@ returns-clause-stand g c ms ns h k =
     (numbers_at numbers to) (entries c.loop-sort.pairs.items) ended c.loop-sort.invariant in
     let other : StandWith (stop_in (mode_of from)) numbers limit to ns =
     subst (λ m. StandWith (stop_in m) numbers limit to ns) (sym c.requires.mode) k in
-    e ∙ places_equal (stop_in (mode_of from)) (stops_of from) ms ns (numbers_at numbers from)
+    ap entries c.in_ok-indexed.ensures ∙ e
+    ∙ places_equal (stop_in (mode_of from)) (stops_of from) ms ns (numbers_at numbers from)
     (numbers_at numbers to) h.stops h.classes other.classes
