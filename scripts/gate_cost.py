@@ -1,7 +1,7 @@
-"""What the gate costs: minutes of one processor for each crate's proof, its tests' proof and its must-fail edits.
+"""What the gate costs: minutes of one processor for each crate's proof, its tests' proof and its must-fail edits, and seconds of the dearest edits.
 
 Read off the provers that run, once a second, by their command lines; so of a prover that ended at most a second is missing.
-`tests/all.py` prints the table behind the gate. By itself this watches provers that run already, until they have been gone for a minute."""
+`tests/all.py` prints the tables behind the gate. By itself this watches provers that run already, until they have been gone for a minute."""
 import collections
 import glob
 import os
@@ -9,6 +9,7 @@ import sys
 import threading
 import time
 
+TOP = os.path.dirname(os.path.dirname(os.path.abspath(__file__)))
 TICK = os.sysconf("SC_CLK_TCK")
 PARTS = ("proof", "tests", "edits")
 
@@ -80,13 +81,27 @@ class Cost:
         lines.append(f"{'all':26}" + "".join(f"{total[part]:8.1f}" for part in PARTS) + f"{total.total():8.1f}")
         return lines
 
+    def dearest(self, count):
+        """The lines of the dearest must-fail edits: seconds of one processor, crate and edit.
+
+        A crate's edits are tried in the order of their names, each by one prover. The first of them proves the whole crate too, so it is left out."""
+        seconds = collections.defaultdict(list)
+        for (_, begun), ((crate, part), taken) in self.taken.items():
+            if part == "edits":
+                seconds[crate].append((int(begun), taken))
+        tried = []
+        for crate, times in seconds.items():
+            edits = sorted(os.path.basename(it) for it in glob.glob(os.path.join(TOP, "crates", crate, "must-fail", "*.edit")))
+            tried += [(taken, f"{crate}/{edit}") for edit, (_, taken) in list(zip(edits, sorted(times)))[1:]]
+        return ["seconds of the dearest edits"] + [f"{taken:8.1f}  {name}" for taken, name in sorted(tried, reverse=True)[:count]]
+
 
 def main():
     cost = Cost()
     while time.monotonic() - cost.seen < 60:
         time.sleep(5)
     cost.close()
-    print("\n".join(cost.table()))
+    print("\n".join(cost.table() + cost.dearest(30)))
     return 0
 
 

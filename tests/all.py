@@ -38,7 +38,7 @@ def main():
     cost = Cost(os.getpid())
     passed, failed = counted("the gate, rt ci", ["rt", "ci"])
     cost.close()
-    print("\n".join(cost.table()), flush=True)
+    print("\n".join(cost.table() + cost.dearest(30)), flush=True)
     if failed == 0:
         for name, script in [
             ("the program on the examples", "program.py"),
