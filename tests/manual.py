@@ -27,9 +27,9 @@ def read(*path):
 
 def code():
     """The commands, with the long options of each, and the statuses, as the code has them. `help` is clap's own."""
-    text = read("crates", "dapnorm", "src", "command_line.rt")
+    text = "\n".join(read("crates", "dap_command_line", "src", name) for name in ("definition.rt", "words.rt"))
     commands = {name: [] for name in [*re.findall(r'^ {8}"(\w+)" =>', text, re.MULTILINE), "help"]}
-    functions = {function.split("<")[0].split("(")[0]: function for function in text.split("\nfn ")[1:]}
+    functions = {function.split("<")[0].split("(")[0]: function for function in re.split(r"\n(?:pub(?:\(crate\))? )?fn ", text)[1:]}
     for name, function in functions.items():
         # A command is named where it is made, or where the function that makes it is called.
         made = re.findall(r'Command::new\(alloc, "(\w+)"\)', function)

@@ -1,11 +1,11 @@
-pub mod CommandLine
 pub mod ComparingRun
 pub mod DiffRun
 pub mod FaultLine
-pub mod Jobs
 pub mod MaskRun
 pub mod RowsRun
 pub mod Run
+pub use Rattle.dap_command_line.specs.CommandLine
+pub use Rattle.dap_command_line.specs.Jobs
 pub use Rattle.dap_compact.specs.Compacting
 pub use Rattle.dap_compare.specs.Comparing
 pub use Rattle.dap_compare.specs.Verdicts

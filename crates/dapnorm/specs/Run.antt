@@ -1,13 +1,13 @@
 -- What the program tells of a job. Source: own.
 use Rattle.std.specs.Prelude.{◌≡◌, ◌⊎◌, ℕ, ◌++◌, Bool, List, Result, Ok, Err, codes}
 use Rattle.std.specs.Prelude.{decimal, string_bytes}
+use Rattle.dap_command_line.specs.declared.jobs.UsageFault.{UsageFault}
+use Rattle.dap_command_line.specs.declared.jobs.UsageFault.TheVariants as usage
 use Rattle.dap_device.specs.declared.device.Source.{Ghosts as Source}
 use Rattle.dap_device.specs.declared.device.Sink.{Ghosts as Sink}
 use Rattle.dap_normal.specs.declared.checked.Checked.{Checked}
 use Rattle.dap_rename.specs.declared.mode.Mode.{Mode}
 use Rattle.dapnorm.specs.FaultLine.{fault_line, refused_text}
-use Rattle.dapnorm.specs.declared.jobs.UsageFault.{UsageFault}
-use Rattle.dapnorm.specs.declared.jobs.UsageFault.TheVariants as usage
 use Rattle.dap_input.specs.declared.limits.Limits.{Limits}
 use Rattle.dap_input.specs.declared.refused.Refused.{Refused}
 use Rattle.dap_input.specs.declared.refused.Refused.TheVariants.{ReadFault, WriteFault, Memory}

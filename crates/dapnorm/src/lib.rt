@@ -1,19 +1,17 @@
 //! Engines over frames and recordings of the Debug Adapter Protocol.
 #![tactic(auto)]
 
-mod command_line;
 mod compare_run;
 mod diff_run;
 mod fault_line;
-mod jobs;
 pub mod laws;
 mod mask_run;
 mod rows_run;
 mod run_job;
 mod status;
 
-pub use command_line::job;
 pub use compare_run::{run_compare, run_compare_with};
+pub use dap_command_line::{Job, UsageFault, job};
 pub use dap_compact::compact;
 pub use dap_compare::{CompareRefused, Verdict, Which, compare, compare_with};
 pub use dap_device::{DeviceFault, MemorySink, MemorySource, Sink, Source, StdSink, StdSource};
@@ -31,6 +29,5 @@ pub use dap_session::Rule;
 pub use dap_show::show;
 pub use dap_trace::record;
 pub use diff_run::{run_diff, run_diff_with};
-pub use jobs::{Job, UsageFault};
 pub use mask_run::run_mask;
 pub use run_job::{run_stream, run_stream_with, run_usage};

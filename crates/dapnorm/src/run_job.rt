@@ -1,6 +1,7 @@
 //! Does a job, and tells of it what the program tells: lines and a status.
 ghost use Rattle.std.specs.Prelude.{◌≡◌, ℕ, ◌+◌, ◌<◌, ◌≤◌, ◌^◌, Bool, List, Option, option_map};
 ghost use Rattle.std.specs.Borrow.{Bor};
+ghost use Rattle.dap_command_line.specs.Jobs.{mode_for};
 ghost use Rattle.dap_compact.specs.Compacting.{Compacts, compacting};
 ghost use Rattle.dap_input.specs.Engine.{Answers};
 ghost use Rattle.dap_input.specs.Limits.{AreSound};
@@ -8,7 +9,6 @@ ghost use Rattle.dap_input.specs.Refusals.{IsRefused};
 ghost use Rattle.dap_normal.specs.NameTables.{AreReady};
 ghost use Rattle.dap_normal.specs.Streaming.{Streams};
 ghost use Rattle.dap_rows.specs.RowLines.{lines_of};
-ghost use Rattle.dapnorm.specs.Jobs.{mode_for};
 ghost use Rattle.dapnorm.specs.RowsRun.{TellsRows};
 ghost use Rattle.dapnorm.specs.Run.{Answered, CheckIsPrinted, CheckIsTold, IsTold};
 ghost use Rattle.dapnorm.specs.Run.{TellsUsage, accepted_line, status_of};
@@ -16,10 +16,10 @@ ghost use Rattle.dap_show.specs.Showing.{IsShownBy, showing};
 ghost use Rattle.dap_trace.specs.TracingRun.{RecordsTrace};
 
 use crate::fault_line::{LINE, send, tell};
-use crate::jobs::{Job, UsageFault};
 use crate::rows_run::tell_rows;
 use crate::status::{DONE, FAULT, MEMORY, USAGE, refused_status};
 use arrayvec::ArrayString;
+use dap_command_line::{Job, UsageFault};
 use dap_compact::compact;
 use dap_device::{Sink, Source, write_and_flush};
 use dap_input::{Limits, Refused};

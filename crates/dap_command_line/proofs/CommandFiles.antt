@@ -21,11 +21,11 @@ use Rattle.clap.specs.declared.builder.value_parser.Reading.{Reading}
 use Rattle.clap.specs.declared.parser.matches.ValueSource.{ValueSource}
 use Rattle.clap.specs.declared.parser.matches.ValueSource.TheVariants.{CommandLine, DefaultValue}
 use Rattle.clap.proofs.WalkLemmas.{both}
-use Rattle.dapnorm.specs.CommandLine.{Told, asks_per_stop, file, is_set, job_named, masker}
-use Rattle.dapnorm.specs.CommandLine.{names_job, of_two_files, over_files, per_stop_flag, program}
-use Rattle.dapnorm.specs.CommandLine.{two_files}
-use Rattle.dapnorm.specs.CommandLine as line
-use Rattle.dapnorm.proofs.CommandWalk.{finished_keeps}
+use Rattle.dap_command_line.specs.CommandLine.{Told, asks_per_stop, file, is_set, job_named, masker}
+use Rattle.dap_command_line.specs.CommandLine.{names_job, of_two_files, over_files, per_stop_flag, program}
+use Rattle.dap_command_line.specs.CommandLine.{two_files}
+use Rattle.dap_command_line.specs.CommandLine as line
+use Rattle.dap_command_line.proofs.CommandWalk.{finished_keeps}
 
 -- ---- each row that a parse found has a value
 

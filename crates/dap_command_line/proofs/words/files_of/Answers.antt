@@ -1,8 +1,8 @@
 use Rattle.std.proofs.Common.{ap₂, codes, ◌∙◌}
 use Rattle.clap.proofs.WalkLemmas.{first_value-rows}
 use Rattle.clap.specs.Words.{found_of}
-use Rattle.dapnorm.specs.CommandLine.{two_files}
-use Rattle.dapnorm.proofs.command_line.files_of.Goals as goal
+use Rattle.dap_command_line.specs.CommandLine.{two_files}
+use Rattle.dap_command_line.proofs.words.files_of.Goals as goal
 
 pub returns : goal.returns
 returns c =

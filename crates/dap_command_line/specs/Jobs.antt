@@ -2,8 +2,8 @@
 use Rattle.std.specs.Prelude.{Bool, true, false}
 use Rattle.dap_rename.specs.declared.mode.Mode.{Mode}
 use Rattle.dap_rename.specs.declared.mode.Mode.TheVariants.{Whole, PerStop}
-use Rattle.dapnorm.specs.declared.jobs.Job.{Job}
-use Rattle.dapnorm.specs.declared.jobs.Job.TheVariants.{Normalise, Check, Compare, Diff}
+use Rattle.dap_command_line.specs.declared.jobs.Job.{Job}
+use Rattle.dap_command_line.specs.declared.jobs.Job.TheVariants.{Normalise, Check, Compare, Diff}
 
 -- the mode of names that the option `--per-stop` says
 abbrev pub mode_for : Bool → Mode

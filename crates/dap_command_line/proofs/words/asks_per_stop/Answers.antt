@@ -1,8 +1,8 @@
 use Rattle.std.proofs.Common.{ap, codes, ◌∙◌}
 use Rattle.clap.proofs.WalkLemmas.{first_value-rows}
 use Rattle.clap.specs.Words.{found_of}
-use Rattle.dapnorm.specs.CommandLine.{is_set}
-use Rattle.dapnorm.proofs.command_line.asks_per_stop.Goals as goal
+use Rattle.dap_command_line.specs.CommandLine.{is_set}
+use Rattle.dap_command_line.proofs.words.asks_per_stop.Goals as goal
 
 pub returns : goal.returns
 returns c =

@@ -4,9 +4,9 @@ use Rattle.clap.specs.Values.{kind_of}
 use Rattle.clap.specs.Words.{HasKind, Kinds}
 use Rattle.clap.specs.declared.error.Error.{Error}
 use Rattle.clap.specs.declared.error.kind.ErrorKind.TheVariants as kind
-use Rattle.dapnorm.specs.CommandLine.{IsToldFor, IsToldOf}
-use Rattle.dapnorm.specs.declared.jobs.UsageFault.{UsageFault}
-use Rattle.dapnorm.specs.declared.jobs.UsageFault.TheVariants as usage
+use Rattle.dap_command_line.specs.CommandLine.{IsToldFor, IsToldOf}
+use Rattle.dap_command_line.specs.declared.jobs.UsageFault.{UsageFault}
+use Rattle.dap_command_line.specs.declared.jobs.UsageFault.TheVariants as usage
 
 pub told_for : (kinds : Kinds) (error : Error) (fault : UsageFault) → HasKind kinds error
     → (kind_of error ≡ kind.OutOfMemory → fault ≡ usage.Memory) → IsToldOf (kind_of error) fault

@@ -1,8 +1,8 @@
 use Rattle.std.proofs.Common.{ap, ap₂, sym, codes, option_map, Some, ◌≡◌, ◌∙◌}
 use Rattle.clap.proofs.WalkLemmas.{first_value-rows}
 use Rattle.clap.specs.Words.{first_of, found_of, rows_of}
-use Rattle.dapnorm.specs.CommandLine.{check, is_set, job_of, mask, rows as told_rows, text_in}
-use Rattle.dapnorm.proofs.command_line.job_by.Goals as goal
+use Rattle.dap_command_line.specs.CommandLine.{check, is_set, job_of, mask, rows as told_rows, text_in}
+use Rattle.dap_command_line.proofs.words.job_by.Goals as goal
 
 pub returns-in-check : goal.returns-in-check
 returns-in-check c =

@@ -3,10 +3,10 @@ use Rattle.clap.specs.Simple.{is_simple}
 use Rattle.clap.specs.Words.{HasKind, fault_of as faults_of, is_simple_and_free, subcommand_of}
 use Rattle.clap.specs.Words.{takes}
 use Rattle.clap.proofs.WalkLemmas.{both}
-use Rattle.dapnorm.specs.CommandLine.{IsToldFor, job_named, program, told}
-use Rattle.dapnorm.proofs.CommandFiles.{takes_job}
-use Rattle.dapnorm.proofs.ToldWords.{told_for}
-use Rattle.dapnorm.proofs.command_line.job.Goals as goal
+use Rattle.dap_command_line.specs.CommandLine.{IsToldFor, job_named, program, told}
+use Rattle.dap_command_line.proofs.CommandFiles.{takes_job}
+use Rattle.dap_command_line.proofs.ToldWords.{told_for}
+use Rattle.dap_command_line.proofs.words.job.Goals as goal
 
 pub returns-clause-err : goal.returns-clause-err
 returns-clause-err c = λ taken named.

@@ -1,8 +1,9 @@
 use Rattle.std.proofs.Common.{ap, codes, ◌∙◌}
 use Rattle.std.proofs.lemmas.Result.{IfOk-weaker}
 use Rattle.clap.specs.Words.{with_subcommand}
-use Rattle.dapnorm.specs.CommandLine.{checker, masker, normaliser, of_two_files, plain, row_teller}
-use Rattle.dapnorm.proofs.command_line.command.Goals as goal
+use Rattle.dap_command_line.specs.CommandLine.{checker, masker, normaliser, of_two_files, plain}
+use Rattle.dap_command_line.specs.CommandLine.{row_teller}
+use Rattle.dap_command_line.proofs.definition.command.Goals as goal
 
 pub returns : goal.returns
 returns c =

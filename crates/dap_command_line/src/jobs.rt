@@ -1,6 +1,6 @@
 //! What the words of a command line ask for.
 ghost use Rattle.std.specs.Prelude.{◌≡◌};
-ghost use Rattle.dapnorm.specs.Jobs.{job_mode, mode_for};
+ghost use Rattle.dap_command_line.specs.Jobs.{job_mode, mode_for};
 
 use dap_rename::Mode;
 

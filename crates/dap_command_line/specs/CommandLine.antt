@@ -11,10 +11,10 @@ use Rattle.clap.specs.declared.Command.TheViews.{out-Command as fields_of}
 use Rattle.clap.specs.declared.builder.ArgAction.TheVariants.{Set, SetTrue}
 use Rattle.clap.specs.declared.error.kind.ErrorKind.{ErrorKind}
 use Rattle.clap.specs.declared.error.kind.ErrorKind.TheVariants as kind
-use Rattle.dapnorm.specs.declared.jobs.UsageFault.{UsageFault}
-use Rattle.dapnorm.specs.declared.jobs.UsageFault.TheVariants as usage
-use Rattle.dapnorm.specs.declared.jobs.Job.{Job}
-use Rattle.dapnorm.specs.declared.jobs.Job.TheVariants as job
+use Rattle.dap_command_line.specs.declared.jobs.UsageFault.{UsageFault}
+use Rattle.dap_command_line.specs.declared.jobs.UsageFault.TheVariants as usage
+use Rattle.dap_command_line.specs.declared.jobs.Job.{Job}
+use Rattle.dap_command_line.specs.declared.jobs.Job.TheVariants as job
 
 -- a subcommand that takes no words
 abbrev pub plain : Text → App
