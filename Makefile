@@ -1,12 +1,18 @@
-# make            proves and builds bin/dapnorm
+# make            proves and builds bin/dapnorm; PROOFS=FILE builds it over that proof pack, PROOFS= without any
+# make proofs     proves all of it again from nothing and writes a proof pack, bin/dapnorm.proofs
 # make test       the gate and the runs around it
+# make mutants    tries all wrong bodies, also those that the gate leaves out; CRATES="a b" tries those of some crates
 # make try        a first look, unproved: two runs of one session normalised
-# make bench      speed and memory
-# make dist       the sources of the last commit and a Debian package, in dist/
+# make bench      speed and memory; SIZE=small takes seconds, FIGURES=FOLDER also writes the figures there as JSON
+# make dist       the sources of the last commit, their proof pack and a Debian package, in dist/
 # make install    puts program, man page and completions under DESTDIR and PREFIX; make uninstall removes them
 
 PREFIX ?= /usr/local
 PROGRAM ?= bin/dapnorm
+# The proof pack to build over. An archive of the sources has one beside the Makefile, and a clone has none.
+PROOFS ?= $(wildcard dapnorm.proofs)
+# The proof pack that make dist puts into its archive.
+PACK ?= bin/dapnorm.proofs
 BELOW = $(DESTDIR)$(PREFIX)
 AS_PROGRAM := bin/dapnorm
 AS_MANUAL := share/man/man1/dapnorm.1
@@ -16,11 +22,11 @@ AS_FISH := share/fish/vendor_completions.d/dapnorm.fish
 SHELL := bash
 .SHELLFLAGS := -o pipefail -c
 
-# The crates that the program is made of, and all that they are made from.
-CRATES := $(filter-out callers first_look reading_alone layer_tests conformance fault_injection,$(shell sed -n 's/^\([a-z0-9_]*\):.*/\1/p' crates.txt))
-SOURCES := crates.txt $(shell find $(addprefix crates/,$(CRATES)) -type f -not -path '*/out/*' -not -path '*/must-fail/*')
+# The crates of the program, whose names begin so, and all that they are made from.
+CRATES := $(filter dap%,$(shell sed -n 's/^\([a-z0-9_]*\)[ :].*/\1/p' crates.txt))
+SOURCES := crates.txt $(shell find $(addprefix crates/,$(CRATES)) -type f -not -path '*/out/*' -not -path '*/must-fail/*' -not -path '*/mutants/*')
 
-.PHONY: all test try bench dist install uninstall clean need-rt need-python need-commit
+.PHONY: all proofs test mutants try bench dist install uninstall clean need-rt need-python need-commit
 
 all: bin/dapnorm
 
@@ -28,35 +34,61 @@ need-rt:
 	@command -v rt > /dev/null || { echo "rt, the command of the Rattle toolchain, is not found: put its folder bin on PATH"; exit 1; }
 
 need-python:
-	@command -v python3 > /dev/null || { echo "python3 is not found: it runs the first look, the tests around the gate and the benchmarks"; exit 1; }
+	@command -v python3 > /dev/null || { echo "python3 is not found: it runs the scripts of make"; exit 1; }
 
-# Crates that do not stand on each other are proved side by side, as many as there are processors.
-bin/dapnorm: $(SOURCES) | need-rt
-	@echo "Proves the $(words $(CRATES)) crates of the program and builds it: some minutes from nothing. Each crate is told once it is checked."
-	@mkdir -p bin crates/dapnorm_main/out
-	@cd crates/dapnorm_main && rt all check --jobs $(shell nproc) 2>&1 | tee out/proved.log | sed -un 's/^== \(.*\)/\1 is checked./p' || { cat out/proved.log; exit 1; }
-	@cd crates/dapnorm_main && rt run -- --help > /dev/null
+# make without a pack proves a program that was built over one, since need-rt is never up to date. make install takes it as it is.
+TO_PROVE := $(if $(PROOFS),,$(and $(filter all bin/dapnorm proofs dist,$(or $(MAKECMDGOALS),all)),$(wildcard bin/over_pack)))
+
+bin/dapnorm: $(SOURCES) $(PROOFS) $(if $(TO_PROVE),need-rt) | need-rt need-python
+	@mkdir -p bin
+ifeq ($(PROOFS),)
+	@echo "Proves the $(words $(CRATES)) crates of the program and builds it: a quarter of an hour from nothing on 4 processors. Prints a line for each crate."
+	@python3 scripts/prove_all.py crates/dapnorm_main
 	@cp crates/dapnorm_main/out/dapnorm_main bin/dapnorm
+	@rm -f bin/over_pack
+else
+	@echo "Builds the program from its sources over the proof pack $(PROOFS): about a minute. Prints a line for each crate."
+	@echo "This proves nothing. You trust whoever made the pack that the proofs passed. To prove the program here: make PROOFS="
+	@python3 scripts/proof_pack.py build crates/dapnorm_main "$(PROOFS)" bin/dapnorm
+	@echo "$(PROOFS)" > bin/over_pack
+endif
 	@echo "bin/dapnorm is built."
+
+bin/dapnorm.proofs: $(SOURCES) bin/dapnorm | need-rt need-python
+	@echo "Proves the $(words $(CRATES)) crates of the program once more, from nothing, for a proof pack. This takes longer than make."
+	@python3 scripts/proof_pack.py make crates/dapnorm_main $@ bin/dapnorm
+
+proofs: $(PACK)
 
 test: need-rt need-python
 	@command -v git > /dev/null || { echo "git is not found: the gate asks it which files there are"; exit 1; }
 	@echo "Proves every crate from nothing, tries the must-fail edits, and runs the tests: one to two hours on 4 cores."
 	@python3 tests/all.py
 
-# The program that make has built is taken where it is there.
-try: need-python $(if $(wildcard bin/dapnorm),,need-rt)
-	@python3 scripts/first_look.py $(wildcard bin/dapnorm)
+# The crates that the command line names, none if it names none.
+TRIED = $(if $(findstring command,$(origin CRATES)),$(CRATES))
 
-# What reading alone takes, beside which the figures stand.
+mutants: need-rt need-python
+	@echo "Tries the wrong bodies of $(or $(TRIED),all crates): about ten minutes for all on 4 processors after make, longer if make has proved less."
+	@python3 scripts/mutants.py $(TRIED)
+
+# Runs the program that make has built, if it exists.
+try: need-python $(if $(wildcard $(PROGRAM)),,need-rt)
+	@python3 scripts/first_look.py $(wildcard $(PROGRAM))
+
+# This program only reads its input: make bench prints its speed as an upper bound.
 bin/reading_alone: $(wildcard crates/reading_alone/src/*) bin/dapnorm
+	@echo "Proves and builds bin/reading_alone, which the figures are compared with: about a minute."
 	@cd crates/reading_alone && rt run < stdin > /dev/null
 	@cp crates/reading_alone/out/reading_alone bin/reading_alone
 
-bench: bin/dapnorm bin/reading_alone need-python
-	@echo "Measures each command on generated input, beside short Python scripts: some minutes."
-	@python3 scripts/bench.py
-	@python3 scripts/costs.py
+SIZE ?= full
+MEASURE = python3 scripts/$(1).py --size "$(SIZE)" --program "$(PROGRAM)" $(if $(FIGURES),--json "$(FIGURES)/$(1).json")
+
+bench: need-python $(PROGRAM) bin/reading_alone
+	@echo "Measures each command on generated inputs, and compares it with short Python scripts: $(if $(filter small,$(SIZE)),seconds,some minutes)."
+	@$(call MEASURE,bench)
+	@$(call MEASURE,costs)
 
 # PROGRAM may name a program that is built already. The folders of completions are those that the shells look into.
 install: $(PROGRAM)
@@ -76,10 +108,10 @@ need-commit:
 	@git rev-parse -q --verify HEAD > /dev/null 2>&1 || { echo "git finds no commit here: the packages are made of the last one"; exit 1; }
 	@git diff --quiet HEAD -- && test -z "$$(git ls-files --others --exclude-standard crates)" || { echo "the packages are made of the last commit: commit first, or set aside what has changed"; exit 1; }
 
-dist: need-commit need-python $(PROGRAM)
-	@echo "Makes the sources of the last commit and a Debian package: seconds."
-	@python3 scripts/make_package.py "$(PROGRAM)" dist
+dist: need-commit need-python $(PROGRAM) $(PACK)
+	@echo "Packs the sources of the last commit with their proof pack, and makes a Debian package: seconds."
+	@python3 scripts/make_package.py "$(PROGRAM)" "$(PACK)" dist
 
 clean:
-	@echo "Removes what the checks and builds have kept, and the packages: the next make begins from nothing."
+	@echo "Removes bin, dist and the folder out of each crate: the next make proves every crate again."
 	rm -rf bin dist crates/*/out

@@ -1,4 +1,6 @@
-"""What a short script of the usual kind does in the place of `dapnorm compare`, without judging: the measure of `make bench`, and a second opinion in the tests."""
+"""Does the work of `dapnorm compare` as a short Python script would, without validation.
+
+`make bench` compares the two, and the tests use it as a second opinion."""
 import sys
 from itertools import zip_longest
 
@@ -11,13 +13,13 @@ WORDS = [
 
 
 def numbers(names, sort):
-    """The numbers of a sort in the order of their lines, each with the stops before its class."""
+    """The ids of a kind in the order of their lines, each with the number of stops before its numbering."""
     classes = [*names.get(("past", sort), []), names.get(sort, {})]
     return [(stops, number) for stops, named in enumerate(classes) for number in named]
 
 
 def compared(a, b, per_stop=False):
-    """The lines that tell how two recordings that are accepted are the same, or where they differ."""
+    """What `compare` prints for two recordings without errors: the pairs of their ids, or the first record that differs."""
     names_a, names_b = {}, {}
     pairs = zip_longest(normal_records(names_a, a, per_stop=per_stop), normal_records(names_b, b, per_stop=per_stop))
     for number, (one, other) in enumerate(pairs, 1):

@@ -1,160 +1,226 @@
-"""Measures what an input can cost that somebody chose to be dear, each at two sizes: where the cost is linear, twice the size takes twice the time.
+"""Measures inputs that are chosen to be expensive, each at two sizes. If the cost is linear, four times the size takes four times as long.
 
-    python3 scripts/costs.py
+    python3 scripts/costs.py [--size small] [--json FILE]
 """
 import json
 import os
 import random
+import re
 import sys
 import tempfile
+from typing import Callable, NamedTuple
 
-from bench import PROGRAM, begin_session, measure, record
+from compact_reference import canonical, compacted
+from compare_reference import compared
+from generated_inputs import MARKERS, begin_session, record, request, response
+from measuring import Figures, digest, measure, options
+from normalise_reference import OTHER, normalised
+from one_direction import records
+from record_reference import recorded
 
-# How many numbers, members, frames, records or bytes there are; each case has its own unit.
-SIZES = (1, 4)
+# The larger input of a case has four times as many numbers, members, frames, records or bytes as the smaller one.
+FACTORS = (1, 4)
 NOISE = 1.5
-
-
-def request(seq, command, arguments):
-    return {"seq": seq, "type": "request", "command": command, "arguments": arguments}
-
-
-def response(seq, command, body):
-    return {"seq": seq, "type": "response", "request_seq": seq, "success": True, "command": command, "body": body}
+# Small inputs have a hundredth of them.
+SMALL = 100
 
 
 def launched(file, arguments):
-    """A session whose third record is a `launch` request with these arguments, as text."""
+    """Writes a session whose third record is a `launch` request with these arguments, a JSON text."""
     begin_session(file)
     content = ('{"seq":1,"type":"request","command":"launch","arguments":%s}' % arguments).encode()
     file.write(b">Content-Length: %d\r\n\r\n%s\n" % (len(content), content))
 
 
-def nested(file, size):
-    """Numbers in lists that are 120 deep."""
-    launched(file, '{"x":' + "[" * 120 + ",".join(map(str, range(200_000 * size))) + "]" * 120 + "}")
+def nested(file, count):
+    """The same numbers in arrays that are 120 deep."""
+    launched(file, '{"x":' + "[" * 120 + ",".join(map(str, range(count))) + "]" * 120 + "}")
 
 
-def nested_objects(file, size):
-    """The same numbers in one list in objects that are 120 deep."""
-    launched(file, '{"x":' * 120 + "[" + ",".join(map(str, range(200_000 * size))) + "]" + "}" * 120)
+def nested_objects(file, count):
+    """The same numbers in one array in objects that are 120 deep."""
+    launched(file, '{"x":' * 120 + "[" + ",".join(map(str, range(count))) + "]" + "}" * 120)
 
 
-def flat(file, size):
-    """The same numbers in one list."""
-    launched(file, '{"x":[' + ",".join(map(str, range(200_000 * size))) + "]}")
+def flat(file, count):
+    """Numbers in one array."""
+    launched(file, '{"x":[' + ",".join(map(str, range(count))) + "]}")
 
 
-def members(file, size):
+def members(file, count):
     """One object with many members, from the last name to the first."""
-    launched(file, "{" + ",".join(f'"name{number:07}":1' for number in reversed(range(100_000 * size))) + "}")
+    launched(file, "{" + ",".join(f'"name{number:07}":1' for number in reversed(range(count))) + "}")
 
 
-def one_name(file, size):
+def one_name(file, count):
     """One object that has one name many times."""
-    launched(file, "{" + ",".join(f'"name":{number}' for number in range(250_000 * size)) + "}")
+    launched(file, "{" + ",".join(f'"name":{number}' for number in range(count)) + "}")
 
 
-def fractions(file, size):
-    """Fractions that a later member of the same name replaces, so that each content is looked at twice."""
-    launched(file, "{" + '"x":1.5,' * (300_000 * size) + '"x":1}')
+def fractions(file, count):
+    """Fractions that a later member of the same name replaces, so that each content is read twice."""
+    launched(file, "{" + '"x":1.5,' * count + '"x":1}')
 
 
-def escapes(file, size):
-    """A text of which each byte becomes six."""
-    launched(file, '{"x":"' + "\\u0001" * (600_000 * size) + '"}')
+def escapes(file, count):
+    """A string of which each byte becomes six."""
+    launched(file, '{"x":"' + "\\u0001" * count + '"}')
 
 
-def frames(file, size):
+def frames(file, count):
     """Responses with a thousand new frames each."""
     begin_session(file)
-    for seq in range(1, 30 * size + 1):
+    for seq in range(1, count + 1):
         file.write(record("client", request(seq, "stackTrace", {"threadId": 1})))
         found = [{"id": 1000 * seq + n, "name": "f", "line": 1, "column": 1} for n in range(1000)]
-        file.write(record("adapter", response(seq, "stackTrace", {"stackFrames": found})))
+        file.write(record("adapter", response(seq, seq, "stackTrace", body={"stackFrames": found})))
 
 
-def open_requests(file, size):
-    """Requests that are never answered, their numbers at random."""
+def open_requests(file, count):
+    """Requests without responses, with mixed numbers."""
     begin_session(file)
-    numbers = list(range(1, 50_000 * size + 1))
+    numbers = list(range(1, count + 1))
     random.Random(1).shuffle(numbers)
     for number in numbers:
-        file.write(record("client", request(number, "pause", {})))
+        file.write(record("client", request(number, "pause", {"threadId": 1})))
 
 
-def long_headers(file, size):
+def long_headers(file, count):
     """Small records with header parts of 4,000 bytes."""
     content = json.dumps({"seq": 1, "type": "event", "event": "output", "body": {"output": "x"}}).encode()
     field = b"X-Filler: " + b"x" * 3940 + b"\r\n"
-    file.write((b"<%sContent-Length: %d\r\n\r\n%s\n" % (field, len(content), content)) * (2_000 * size))
+    file.write((b"<%sContent-Length: %d\r\n\r\n%s\n" % (field, len(content), content)) * count)
 
 
-def deep_frames(file, size):
-    """Frames of nothing but 127 lists."""
+def deep_frames(file, count):
+    """Frames of nothing but 127 arrays."""
     content = b"[" * 127 + b"]" * 127
-    file.write((b"Content-Length: %d\r\n\r\n%s" % (len(content), content)) * (20_000 * size))
+    file.write((b"Content-Length: %d\r\n\r\n%s" % (len(content), content)) * count)
 
 
-def small_pieces(file, size):
+def small_pieces(file, count):
     """A trace of pieces of one byte."""
-    frame = b'Content-Length: 2\r\n\r\n{}' * (20_000 * size)
+    frame = b'Content-Length: 2\r\n\r\n{}' * count
     file.write(b"".join(b">1\n%c" % byte for byte in frame))
 
 
-def variables(file, size):
+def variables(file, count):
     """Variables with numbers and addresses in their values."""
     begin_session(file)
-    for seq in range(1, 100 * size + 1):
+    for seq in range(1, count + 1):
         file.write(record("client", request(seq, "variables", {"variablesReference": 1})))
         found = [{"name": f"v{n}", "value": f"0x{n:x} is {n}", "variablesReference": 0} for n in range(100)]
-        file.write(record("adapter", response(seq, "variables", {"variables": found})))
+        file.write(record("adapter", response(seq, seq, "variables", body={"variables": found})))
 
 
-# A thousand rules for one message: each names a member that is nowhere but the last two.
+# A thousand rules that apply to the same messages: only the last two name members that exist.
 RULES = "".join(f"blank response variables body.variables[].none{number}\n" for number in range(998))
 RULES += "hex response variables body.variables[].value\ndigits response variables body.variables[].name\n"
 
-# What is measured: the command, and what makes its input.
+
+def masked(recording):
+    """The recording with canonical contents, and with the last two rules applied."""
+    out = []
+    for side, _, content in records(recording):
+        message = json.loads(content)
+        if message["type"] == "response" and message["command"] == "variables":
+            for variable in message["body"]["variables"]:
+                variable["value"] = re.sub("0[xX][0-9a-fA-F]+", "0x0", variable["value"])
+                variable["name"] = re.sub("[0-9]+", "0", variable["name"])
+        content = canonical(message)
+        out.append(b"%sContent-Length: %d\r\n\r\n%s\n" % (MARKERS[side], len(content), content))
+    return b"".join(out)
+
+
+def accepted(recording):
+    """What `check` prints: the number of records, and how many requests of each side have no response."""
+    count, unanswered = 0, {"client": 0, "adapter": 0}
+    for side, _, content in records(recording):
+        kind = json.loads(content)["type"]
+        unanswered[side] += kind == "request"
+        unanswered[OTHER[side]] -= kind == "response"
+        count += 1
+    return f"accepted records={count} open={unanswered['client']},{unanswered['adapter']}\n".encode()
+
+
+def compared_with_itself(recording):
+    return compared(recording, recording).encode()
+
+
+class Case(NamedTuple):
+    """A command, the function that writes its input, the count that it is passed, and a function from the input to the expected output."""
+
+    command: str
+    make: Callable
+    count: int
+    expected: Callable
+
+
 CASES = [
-    (["normalise"], flat), (["normalise"], nested), (["normalise"], nested_objects), (["normalise"], members), (["normalise"], one_name), (["normalise"], fractions),
-    (["normalise"], escapes), (["normalise"], frames), (["check"], open_requests), (["normalise"], long_headers),
-    (["compact"], deep_frames), (["record"], small_pieces), (["mask"], variables), (["compare"], frames),
+    Case("normalise", flat, 200_000, normalised), Case("normalise", nested, 200_000, normalised),
+    Case("normalise", nested_objects, 200_000, normalised), Case("normalise", members, 100_000, normalised),
+    Case("normalise", one_name, 250_000, normalised), Case("normalise", fractions, 300_000, normalised),
+    Case("normalise", escapes, 600_000, normalised), Case("normalise", frames, 30, normalised),
+    Case("check", open_requests, 50_000, accepted), Case("normalise", long_headers, 2_000, normalised),
+    Case("compact", deep_frames, 20_000, compacted), Case("record", small_pieces, 20_000, recorded),
+    Case("mask", variables, 100, masked), Case("compare", frames, 30, compared_with_itself),
 ]
 
 
 def words_of(command, path, folder):
-    """The command's words, with the files that it needs."""
-    if command == ["mask"]:
+    """The arguments of the program, with the files that the command requires."""
+    if command == "mask":
         rules = os.path.join(folder, "rules")
         with open(rules, "w", encoding="utf-8") as file:
             file.write(RULES)
-        return [*command, rules]
-    return [*command, path, path] if command == ["compare"] else command
+        return [command, rules]
+    return [command, path, path] if command == "compare" else [command]
+
+
+def measured(case, count, program, folder, size):
+    """Measures a case with an input of this count, and returns the figures and the length of the input.
+
+    Ends the benchmark if the output is not the expected one."""
+    path = os.path.join(folder, "input")
+    with open(path, "wb") as file:
+        case.make(file, count)
+    found = measure([program, *words_of(case.command, path, folder)], path, size)
+    with open(path, "rb") as file:
+        given = file.read()
+    if found.output != digest(case.expected(given)):
+        sys.exit(f"dapnorm {case.command} did not write the expected output: {case.make.__doc__}")
+    return found, len(given)
+
+
+def measure_cases(chosen, figures, folder):
+    """Prints a row of the table for each case, and returns the cases that grow faster than their input."""
+    slow = []
+    for case in CASES:
+        cells, costs = [], []
+        for factor in FACTORS:
+            count = case.count * factor if chosen.size == "full" else max(1, case.count // SMALL) * factor
+            found, length = measured(case, count, chosen.program, folder, chosen.size)
+            figures.add(found, input=case.make.__doc__.rstrip(".").lower(), program="dapnorm", command=case.command, bytes=length)
+            cells += [f"{length / 1e6:.1f}", f"{found.seconds:.2f}", f"{found.memory / 1e6:.0f} MB"]
+            costs.append(found.seconds / length)
+        growth = costs[1] / costs[0]
+        print(f"| {case.make.__doc__.rstrip('.').lower()} | `{case.command}` | {' | '.join(cells)} | {growth:.1f} |", flush=True)
+        if growth > NOISE and chosen.size == "full":
+            slow.append(case)
+    return slow
 
 
 def main():
-    program = sys.argv[1] if len(sys.argv) == 2 else PROGRAM
-    print("| Input | Command | MB | Seconds | Memory | MB | Seconds | Memory | Time for each byte, to that of the smaller |")
+    chosen = options(__doc__, program="bin/dapnorm")
+    figures = Figures(chosen.size)
+    print("| Input | Command | MB | Seconds | Memory | MB | Seconds | Memory | Time for each byte, compared with the smaller input |")
     print("|---|---|---|---|---|---|---|---|---|")
-    slow = []
     with tempfile.TemporaryDirectory() as folder:
-        path = os.path.join(folder, "input")
-        for command, make in CASES:
-            cells, costs = [], []
-            for size in SIZES:
-                with open(path, "wb") as file:
-                    make(file, size)
-                length = os.path.getsize(path)
-                seconds, memory, _ = measure([program, *words_of(command, path, folder)], path)
-                cells += [f"{length / 1e6:.1f}", f"{seconds:.2f}", f"{memory / 1e6:.0f} MB"]
-                costs.append(seconds / length)
-            growth = costs[1] / costs[0]
-            print(f"| {make.__doc__.rstrip('.').lower()} | `{command[0]}` | {' | '.join(cells)} | {growth:.1f} |", flush=True)
-            if growth > NOISE:
-                slow.append(f"{command[0]}: {make.__doc__}")
-    for line in slow:
-        print(f"more than linear: {line}")
+        slow = measure_cases(chosen, figures, folder)
+    for case in slow:
+        print(f"more than linear: {case.command}: {case.make.__doc__}")
+    if chosen.json:
+        figures.write(chosen.json)
 
 
 if __name__ == "__main__":

@@ -1,9 +1,9 @@
-"""Normalises two runs of one session, and shows that the outputs are equal.
+"""Normalises two recordings of the same debug session, and shows that the outputs are equal.
 
     python3 scripts/first_look.py [PROGRAM]
 
-Without PROGRAM the smallest program over the library, `crates/first_look`, is built by `rt try`, with checks and without
-any proof.
+PROGRAM is a `dapnorm` that is built already. Without it, `rt try` builds the small program `crates/first_look`, with run-time checks and
+without proofs.
 """
 import os
 import re
@@ -20,7 +20,7 @@ SHOWN = (6, 10, 11)
 
 
 def normalised_by(program, paths):
-    """The outputs of `normalise` for these files, by a program that is there."""
+    """The outputs of `PROGRAM normalise` for these files."""
     outputs = []
     for path in paths:
         with open(path, "rb") as file:
@@ -29,15 +29,15 @@ def normalised_by(program, paths):
 
 
 def normalised_unproved(paths):
-    """The same by `rt try --cases`, which builds once and takes each file of a folder."""
+    """The same outputs by `rt try --cases`, which builds the program once and runs it on each file of a folder."""
     with tempfile.TemporaryDirectory() as folder:
         for path in paths:
             shutil.copy(path, folder)
         crate = os.path.join(TOP, "crates", "first_look")
         ran = subprocess.run(["rt", "try", "--cases", folder], cwd=crate, capture_output=True)
-    told = ran.stderr.decode(errors="replace")
-    if ran.returncode != 0 or told.count("run=ended status=0") != len(paths):
-        sys.exit(f"{told}\nThe program did not end well on each run.")
+    report = ran.stderr.decode(errors="replace")
+    if ran.returncode != 0 or report.count("run=ended status=0") != len(paths):
+        sys.exit(f"{report}\nrt try did not build the program, or the program failed.")
     outputs = re.split(rb"^== \S+\n", ran.stdout, flags=re.MULTILINE)
     return outputs[1:]
 
@@ -54,19 +54,19 @@ def main():
     if len(sys.argv) > 2:
         sys.exit(__doc__)
     paths = [os.path.join(TOP, "examples", "captures", name) for name in RUNS]
-    print("Normalises two runs of one session with delve.", end=" ", flush=True)
+    print("Normalises two recordings of the same session with delve, a debugger for Go.")
     if len(sys.argv) == 2:
-        print(f"{sys.argv[1]} is there, so nothing is built.", flush=True)
+        print(f"Runs {sys.argv[1]}.", flush=True)
         outputs = normalised_by(sys.argv[1], paths)
     else:
-        print("A small program is built with checks and without a proof: less than a minute.", flush=True)
+        print("Builds a small program first, with run-time checks and without proofs: one to two minutes.", flush=True)
         outputs = normalised_unproved(paths)
     for path in paths:
         with open(path, "rb") as file:
-            excerpt(f"Three records of {os.path.basename(path)}, as they came:", file.read())
+            excerpt(f"Three records of {os.path.basename(path)}:", file.read())
     if len(outputs) != len(paths) or not outputs[0] or outputs[0] != outputs[1]:
         sys.exit("\nThe outputs of dapnorm normalise differ.")
-    excerpt("The same records of both after dapnorm normalise:", outputs[0])
+    excerpt("The same records in the output for either recording:", outputs[0])
     count = len(list(records(outputs[0])))
     print(f"\nThe two outputs are equal: {len(outputs[0]):,} bytes, {count} records.")
 

@@ -1,7 +1,10 @@
-"""What the gate costs: minutes of one processor for each crate's proof, its tests' proof and its must-fail edits, and seconds of the dearest edits.
+"""Prints the cost of the gate: CPU minutes for each crate's proof, its tests' proof and its must-fail edits; CPU seconds for single edits.
 
-Read off the provers that run, once a second, by their command lines; so of a prover that ended at most a second is missing.
-`tests/all.py` prints the tables behind the gate. By itself this watches provers that run already, until they have been gone for a minute."""
+    python3 scripts/gate_cost.py [PROCESS [SECONDS]]
+
+It looks at the running provers once a second, so at most one second of each prover is missing. As a program it watches the provers that
+PROCESS has started, by default all provers, until none has run for SECONDS, by default 60. `tests/all.py` prints these tables after
+the gate."""
 import collections
 import glob
 import os
@@ -15,7 +18,7 @@ PARTS = ("proof", "tests", "edits")
 
 
 def prover(process):
-    """Which crate a process proves and which part of it, and how many seconds it has taken; None where it is no prover."""
+    """The crate and the part that a process proves, its start, and its CPU seconds; None if it is not a prover."""
     try:
         with open(f"{process}/cmdline", "rb") as file:
             words = file.read().decode(errors="replace").split("\0")
@@ -28,12 +31,12 @@ def prover(process):
         return None
     crate = words[words.index("--crate-name") + 1]
     part = "edits" if "/rt-edit-" in folder else "tests" if "--test" in words else "proof"
-    # its own time, and that of its children that have ended
+    # Its own time, and the time of its children that have ended.
     return (crate, part), fields[19], sum(int(fields[it]) for it in (11, 12, 13, 14)) / TICK
 
 
 def is_below(process, root):
-    """Whether a process was started by the one with the number `root`, or by one that it started."""
+    """Whether the process with the number `root` has started this one, directly or through others."""
     number = os.path.basename(process)
     while number not in ("0", "1", str(root)):
         try:
@@ -44,8 +47,12 @@ def is_below(process, root):
     return number == str(root)
 
 
+def row(name, parts):
+    return f"{name:26}" + "".join(f"{parts[part]:8.1f}" for part in PARTS) + f"{sum(parts.values()):8.1f}"
+
+
 class Cost:
-    """Adds up what provers take, from its making until `close`: those that stand below the process with the number `root`, or all."""
+    """Collects the CPU time of provers until `close`: of those that the process with the number `root` has started, or of all."""
 
     def __init__(self, root=None):
         self.root = root
@@ -69,22 +76,21 @@ class Cost:
         self.watcher.join()
 
     def table(self):
-        """The lines of the table, the dearest crate first."""
-        minutes = collections.defaultdict(lambda: collections.Counter())
+        """The lines of the table, the most expensive crate first."""
+        minutes = collections.defaultdict(collections.Counter)
         for (crate, part), seconds in self.taken.values():
             minutes[crate][part] += seconds / 60
-        lines = [f"{'minutes of one processor':26}" + "".join(f"{part:>8}" for part in PARTS) + f"{'all':>8}"]
+        lines = [f"{'CPU minutes':26}" + "".join(f"{part:>8}" for part in PARTS) + f"{'all':>8}"]
         total = collections.Counter()
-        for crate, parts in sorted(minutes.items(), key=lambda it: -it[1].total()):
+        for crate, parts in sorted(minutes.items(), key=lambda it: -sum(it[1].values())):
             total += parts
-            lines.append(f"{crate:26}" + "".join(f"{parts[part]:8.1f}" for part in PARTS) + f"{parts.total():8.1f}")
-        lines.append(f"{'all':26}" + "".join(f"{total[part]:8.1f}" for part in PARTS) + f"{total.total():8.1f}")
-        return lines
+            lines.append(row(crate, parts))
+        return [*lines, row("all", total)]
 
     def dearest(self, count):
-        """The lines of the dearest must-fail edits: seconds of one processor, crate and edit.
+        """The lines of the most expensive must-fail edits: CPU seconds, crate and edit.
 
-        A crate's edits are tried in the order of their names, each by one prover. The first of them proves the whole crate too, so it is left out."""
+        `rt ci` tries a crate's edits in the order of their names, each by one prover. The first also proves the crate, and is left out."""
         seconds = collections.defaultdict(list)
         for (_, begun), ((crate, part), taken) in self.taken.items():
             if part == "edits":
@@ -93,13 +99,18 @@ class Cost:
         for crate, times in seconds.items():
             edits = sorted(os.path.basename(it) for it in glob.glob(os.path.join(TOP, "crates", crate, "must-fail", "*.edit")))
             tried += [(taken, f"{crate}/{edit}") for edit, (_, taken) in list(zip(edits, sorted(times)))[1:]]
-        return ["seconds of the dearest edits"] + [f"{taken:8.1f}  {name}" for taken, name in sorted(tried, reverse=True)[:count]]
+        lines = [f"{taken:8.1f}  {name}" for taken, name in sorted(tried, reverse=True)[:count]]
+        return ["CPU seconds of the most expensive edits", *lines]
 
 
 def main():
-    cost = Cost()
-    while time.monotonic() - cost.seen < 60:
-        time.sleep(5)
+    numbers = sys.argv[1:]
+    if len(numbers) > 2 or not all(number.isdigit() for number in numbers):
+        sys.exit(__doc__)
+    root, seconds = [*map(int, numbers), *(None, 60)[len(numbers):]]
+    cost = Cost(root)
+    while time.monotonic() - cost.seen < seconds:
+        time.sleep(1)
     cost.close()
     print("\n".join(cost.table() + cost.dearest(30)))
     return 0

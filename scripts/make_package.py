@@ -1,22 +1,29 @@
-"""Makes what a release gives out: python3 scripts/make_package.py PROGRAM FOLDER
+"""Makes what a release gives out: python3 scripts/make_package.py PROGRAM PACK FOLDER
 
-FOLDER then has dapnorm-VERSION.tar.gz, the sources of the last commit, and
-dapnorm_VERSION_amd64.deb, a package of PROGRAM, which has to be built of that commit. The version
-is that of the first heading of CHANGELOG.md. The same commit and PROGRAM give the same bytes.
+FOLDER then has dapnorm-VERSION.proofs, which is the proof pack PACK, dapnorm-VERSION.tar.gz, the
+sources of the last commit with that pack, and dapnorm_VERSION_amd64.deb, a package of PROGRAM,
+which has to be built of that commit. A pack of other sources is refused. The version is that of
+the first heading of CHANGELOG.md. The same commit, PROGRAM and PACK give the same bytes.
 """
 import gzip
 import hashlib
+import io
 import os
 import re
 import shutil
 import subprocess
 import sys
+import tarfile
 import tempfile
 import textwrap
+
+import pack_file
 
 TOP = os.path.dirname(os.path.dirname(os.path.abspath(__file__)))
 MAINTAINER = "Bugshivel maintainers <maintainers@users.noreply.bugshivel.example>"
 TOOLS = ("git", "make", "tar", "strip", "dpkg-deb")
+# The program's crate, and the name that its pack has in the archive of the sources, where make looks for it.
+CRATE, PACKED = "dapnorm_main", "dapnorm.proofs"
 # Where Debian's zsh looks for completions of packages.
 PLACES = ["PREFIX=/usr", "AS_ZSH=share/zsh/vendor-completions/_dapnorm"]
 # Debian asks for programs without the names of their functions.
@@ -159,40 +166,55 @@ def control(tree, libc, stage):
     write("".join(sums).encode(), stage, "DEBIAN", "md5sums")
 
 
-def make(program, folder):
-    """Both files, made in this folder; gives their paths."""
+def archive(sources, name, pack, seconds):
+    """Writes the sources of the last commit and their pack, in one folder, to an archive."""
+    tree = io.BytesIO(git("archive", "--format=tar", f"--prefix={name}/", "HEAD"))
+    with tarfile.open(fileobj=tree, mode="a:") as files, open(pack, "rb") as file:
+        entry = tarfile.TarInfo(f"{name}/{PACKED}")
+        entry.size, entry.mode, entry.mtime = os.path.getsize(pack), 0o644, int(seconds)
+        entry.uname = entry.gname = "root"
+        files.addfile(entry, file)
+    write(gzip.compress(tree.getvalue(), mtime=0), sources)
+
+
+def make(program, pack, folder):
+    """The three files, made in this folder; gives their paths."""
     libc = oldest_libc(program)
     seconds, date = git("log", "-1", "--format=%ct%n%cD").decode().splitlines()
     tree, stage = os.path.join(folder, "tree"), os.path.join(folder, "stage")
     for it in (tree, stage):
         os.mkdir(it)
     subprocess.run(["tar", "-x", "-C", tree], input=git("archive", "HEAD"), check=True)
-    version = newest(tree)[0]
-    sources = os.path.join(folder, f"dapnorm-{version}.tar.gz")
-    binary = os.path.join(folder, f"dapnorm_{version}_amd64.deb")
-    git("archive", f"--prefix=dapnorm-{version}/", "-o", sources, "HEAD")
+    pack_file.refuse(pack_file.read(pack), tree, CRATE)
+    name = f"dapnorm-{newest(tree)[0]}"
+    sources, proofs = (os.path.join(folder, f"{name}.{end}") for end in ("tar.gz", "proofs"))
+    binary = os.path.join(folder, f"dapnorm_{newest(tree)[0]}_amd64.deb")
+    archive(sources, name, pack, seconds)
+    shutil.copyfile(pack, proofs)
     package(tree, program, date, stage)
     control(tree, libc, stage)
     words = ["dpkg-deb", "--root-owner-group", "-Zxz", "--build", stage, binary]
     environment = {**os.environ, "SOURCE_DATE_EPOCH": seconds}
     subprocess.run(words, stdout=subprocess.DEVNULL, check=True, env=environment)
-    return sources, binary
+    return sources, proofs, binary
 
 
 def main():
-    if len(sys.argv) != 3:
+    if len(sys.argv) != 4:
         sys.exit(__doc__)
     for tool in TOOLS:
         if shutil.which(tool) is None:
             sys.exit(f"{tool} is not found: the packages are made by {', '.join(TOOLS)}")
-    program, target = map(os.path.abspath, sys.argv[1:])
+    program, pack, target = map(os.path.abspath, sys.argv[1:])
     os.umask(0o022)
     try:
         with tempfile.TemporaryDirectory() as folder:
-            made = make(program, folder)
+            made = make(program, pack, folder)
             os.makedirs(target, exist_ok=True)
             for path in made:
                 print(shutil.copy(path, target))
+    except pack_file.Refused as why:
+        sys.exit(f"no package is made: the proof pack {pack} is refused: {why}")
     except (OSError, subprocess.CalledProcessError) as error:
         sys.exit(f"no package is made: {error}")
 

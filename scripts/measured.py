@@ -1,6 +1,7 @@
-"""Runs a command, and writes to the pipe that it is handed how many seconds it took, its exit code, and the most bytes that it held.
+"""Runs a command, and writes three numbers to a pipe: its seconds, its exit status, and the most bytes of memory that it used.
 
-It is a script of its own to be small: the system says of a process at least what the one that started it held."""
+The first argument is the number of the pipe. This is a script of its own to be small: the system never reports less memory for a process
+than for the one that started it."""
 import os
 import sys
 import time

@@ -1,4 +1,6 @@
-"""What a short script of the usual kind does in the place of `dapnorm normalise`, without judging: the measure of `make bench`, and a second opinion in the tests."""
+"""Does the work of `dapnorm normalise` as a short Python script would, without validation.
+
+`make bench` compares the two, and the tests use it as a second opinion."""
 import json
 import sys
 
@@ -8,7 +10,7 @@ MARKERS = {"client": b">", "adapter": b"<"}
 OTHER = {"client": "adapter", "adapter": "client"}
 FRAME, REFERENCE, THREAD, BREAKPOINT = "frame", "reference", "thread", "breakpoint"
 
-# Where ids stand, by the kind of a message and its command or event: the names of the members on the way, and the sort.
+# The ids of a message, by its type and its command or event: the path of each id, and its kind.
 REQUESTS = {
     "scopes": [("arguments.frameId", FRAME)],
     "variables": [("arguments.variablesReference", REFERENCE)],
@@ -34,7 +36,7 @@ EVENTS = {
     "invalidated": [("body.stackFrameId", FRAME)],
     "progressStart": [("body.requestId", "other")],
 }
-# The ids that the first rows of the profile leave as they are written: of threads and of breakpoints.
+# The ids that the first rows of the profile do not mark: those of threads and of breakpoints.
 LATER_REQUESTS = {
     **{
         name: [("arguments.threadId", THREAD)]
@@ -74,7 +76,7 @@ CAPABILITIES = """
 
 
 def places(message, first_rows):
-    """Where this message has ids: of all rows of the profile, or of the first rows alone."""
+    """The paths of the ids of this message: those of all rows of the profile, or only of the first rows."""
     kind = message["type"]
     envelope = [("seq", "own"), ("request_seq", "other")] if kind == "response" else [("seq", "own")]
     if kind == "response" and not message["success"]:
@@ -85,7 +87,7 @@ def places(message, first_rows):
 
 
 def fill(side, message):
-    """Makes the capabilities false that an adapter leaves out."""
+    """Sets each capability that an adapter leaves out to false."""
     if side == "adapter" and message["type"] == "response" and message["command"] == "initialize" and message["success"]:
         if message.get("body") is None:
             message["body"] = {}
@@ -95,7 +97,7 @@ def fill(side, message):
 
 
 def rename(names, sorts, side, path, value):
-    """The value with names in place of ids, in the order of the canonical text."""
+    """The value with its ids numbered by first appearance in the canonical content."""
     if isinstance(value, dict):
         return {name: rename(names, sorts, side, f"{path}.{name}" if path else name, value[name]) for name in sorted(value)}
     if isinstance(value, list):
@@ -109,14 +111,16 @@ def rename(names, sorts, side, path, value):
 
 
 def begin_again(names):
-    """Puts by the names of frames and of references: those behind a stop are others."""
+    """Saves the numbers of frames and of references, and restarts them at 1."""
     for sort in (FRAME, REFERENCE):
         names.setdefault(("past", sort), []).append(names.pop(sort, {}))
 
 
 def normal_records(names, recording, first_rows=False, per_stop=False):
-    """The records of the normal text of a recording that is accepted, one by one. `names` gets the names of its ids, by sort; with `per_stop`
-    those of frames and of references begin again behind each stop, and those before it are put by."""
+    """Yields the records of the normal form of a recording without errors.
+
+    `names` receives the numbers of its ids, by kind. With `per_stop` those of frames and of references restart at 1 after each stop, and
+    the earlier ones are saved."""
     for side, _, content in records(recording):
         message = json.loads(content)
         fill(side, message)
@@ -128,7 +132,7 @@ def normal_records(names, recording, first_rows=False, per_stop=False):
 
 
 def normalised(recording, first_rows=False, per_stop=False):
-    """The normal text of a recording that is accepted; or what it was by the first rows of the profile alone; or that with names per stop."""
+    """The normal form of a recording without errors: by all rows of the profile or by the first rows, with one numbering or per stop."""
     return b"".join(normal_records({}, recording, first_rows, per_stop))
 
 

@@ -1,4 +1,4 @@
-"""Prints the frames of one direction of a recording: python3 scripts/one_direction.py adapter < session.rec"""
+"""Prints the frames of one side of a recording, `client` or `adapter`: python3 scripts/one_direction.py adapter < session.rec"""
 import re
 import sys
 
@@ -7,7 +7,7 @@ LENGTH = re.compile(rb"^content-length:[ \t]*(\d+)[ \t]*\r$", re.IGNORECASE | re
 
 
 def records(recording):
-    """The side, the frame and the content of each record, read apart from the program."""
+    """The side, the frame and the content of each record, read without the program."""
     at = 0
     while at < len(recording):
         side, begin = SIDES[recording[at:at + 1]], at + 1

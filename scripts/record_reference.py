@@ -1,4 +1,6 @@
-"""What a short script of the usual kind does in the place of `dapnorm record`, without judging: the measure of `make bench`, and a second opinion in the tests."""
+"""Does the work of `dapnorm record` as a short Python script would, without validation.
+
+`make bench` compares the two, and the tests use it as a second opinion."""
 import re
 import sys
 
@@ -6,7 +8,7 @@ LENGTH = re.compile(rb"^content-length:[ \t]*(\d+)[ \t]*\r$", re.IGNORECASE | re
 
 
 def pieces(trace):
-    """The marker and the bytes of each whole piece of a trace."""
+    """The marker and the bytes of each piece of a trace."""
     at = 0
     while at < len(trace):
         line = trace.index(b"\n", at)

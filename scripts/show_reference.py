@@ -1,4 +1,6 @@
-"""What a short script of the usual kind does in the place of `dapnorm show`, without judging: the measure of `make bench`, and a second opinion in the tests."""
+"""Does the work of `dapnorm show` as a short Python script would, without validation.
+
+`make bench` compares the two, and the tests use it as a second opinion."""
 import json
 import sys
 
@@ -8,7 +10,7 @@ MARKERS = {"client": ">", "adapter": "<"}
 VIEWS = {
     "stackTrace": ("stackFrames", lambda frame: f"frame {frame['id']} {frame['line']}:{frame['column']} {quoted(frame['name'])}"),
     "scopes": ("scopes", lambda scope: f"scope {scope['variablesReference']} {quoted(scope['name'])}"),
-    "variables": ("variables", lambda variable: f"variable {variable['variablesReference']} {quoted(variable['name'])} {quoted(variable['value'])}"),
+    "variables": ("variables", lambda it: f"variable {it['variablesReference']} {quoted(it['name'])} {quoted(it['value'])}"),
 }
 
 
@@ -17,7 +19,7 @@ def quoted(text):
 
 
 def lines(number, side, message):
-    """The line of a record, and those of what its body lists."""
+    """The line of a record, and a line for each element of its body."""
     kind = message["type"]
     name = message["event"] if kind == "event" else message["command"]
     line = f"{number} {MARKERS[side]} {kind} {quoted(name)} seq={message['seq']}"
@@ -31,7 +33,7 @@ def lines(number, side, message):
 
 
 def shown(recording):
-    """What a recording whose messages all fit the profile is shown as."""
+    """What `show` prints for a recording whose messages all fit the profile."""
     out = []
     for number, (side, _, content) in enumerate(records(recording), 1):
         out += [line + "\n" for line in lines(number, side, json.loads(content))]

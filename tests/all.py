@@ -8,17 +8,32 @@ import time
 from report import TOP, toolchain
 
 sys.path.append(os.path.join(TOP, "scripts"))
+import mutation_record
 from gate_cost import Cost
 
 COUNT = re.compile(r"^(\d+) passed, (\d+) failed$")
 
 
-def counted(name, arguments):
-    """Runs a command, shows what it prints, and gives the counts of its last line."""
+# What a prover may take at most, in bytes: where memory is short, fewer run side by side.
+MOST = 5 << 30
+
+
+def provers():
+    """The number of provers that `rt ci` runs side by side: one for each processor that the process may use, as far as memory holds them.
+
+    `rt ci` takes it from RT_JOBS. Without it, it starts a proof only where its own estimate of the memory fits, so that processors wait."""
+    with open("/proc/meminfo", encoding="ascii") as file:
+        free = 1024 * int(re.search(r"^MemAvailable:\s+(\d+)", file.read(), re.MULTILINE)[1])
+    return max(1, min(len(os.sched_getaffinity(0)), free // MOST))
+
+
+def counted(name, arguments, **variables):
+    """Runs a command, prints its output, and returns the counts of its last line."""
     print(f"== {name}", flush=True)
     begun = time.monotonic()
     last = ""
-    with subprocess.Popen(arguments, cwd=TOP, stdout=subprocess.PIPE, text=True, errors="replace") as process:
+    environment = {**variables, **os.environ}
+    with subprocess.Popen(arguments, cwd=TOP, stdout=subprocess.PIPE, text=True, errors="replace", env=environment) as process:
         for line in process.stdout:
             print(line, end="", flush=True)
             last = line.strip() or last
@@ -36,9 +51,9 @@ def main():
     toolchain()
     tests = os.path.join(TOP, "tests")
     cost = Cost(os.getpid())
-    passed, failed = counted("the gate, rt ci", ["rt", "ci"])
+    passed, failed = counted("the gate, rt ci", ["rt", "ci"], RT_JOBS=str(provers()))
     cost.close()
-    print("\n".join(cost.table() + cost.dearest(30)), flush=True)
+    print("\n".join(cost.table() + cost.dearest(20) + mutation_record.table(TOP)), flush=True)
     if failed == 0:
         for name, script in [
             ("the program on the examples", "program.py"),
@@ -52,11 +67,34 @@ def main():
             ("what differs told", "differing.py"),
             ("recordings of fresh runs masked", "masks.py"),
             ("recordings shown", "showing.py"),
+            ("the words of command lines", "command_lines.py"),
+            ("the lines of refusals", "refusals.py"),
+            ("calls of the driver", "driver.py"),
+            ("the engine check", "engine_check.py"),
+            ("the engine normalise", "engine_normalise.py"),
+            ("the engine compare", "engine_compare.py"),
+            ("the engine record", "engine_record.py"),
+            ("the engine compact over devices that fail", "engine_compact.py"),
+            ("engines with names that begin again at each stop", "engine_per_stop.py"),
+            ("how much engines read", "engine_streams.py"),
+            ("engines with tables that are handed in", "engine_tables.py"),
+            ("engines on random inputs", "engine_random.py"),
+            ("growths of memory of engines refused in turn", "engine_growths.py"),
+            ("limits that the program does not have", "limits.py"),
+            ("messages and their ids", "messages.py"),
+            ("the rules of a session", "sessions.py"),
+            ("contents and their texts", "trees.py"),
+            ("faults of frames, records and traces", "frames.py"),
+            ("the rules of masks", "mask_rules.py"),
+            ("the leaves of differences", "leaves.py"),
+            ("the elements that messages list", "views.py"),
             ("growths of memory refused in turn", "fault_injection.py"),
             ("hostile inputs and failing devices", "hostile.py"),
             ("the examples", "examples.py"),
             ("the man page, completions and installation", "manual.py"),
             ("the packages", "package.py"),
+            ("the script of make mutants", "mutants.py"),
+            ("the scripts and the targets of the Makefile", "scripts.py"),
             ("what the documents name", "documents.py"),
             ("the tests that are listed", "listed.py"),
             ("the document of the profile", "profile.py"),

@@ -14,6 +14,7 @@ from worked_runs import Run, all_runs
 FROM_THE_START = {
     "compact of a loose frame", "record of two sides", "check of a configuration", "normalise of a configuration", "show of frames",
     "mask rules of a configuration", "compare a b of frames exchanged", "diff a b of a stale frame",
+    "check --complete of a configuration", "normalise --per-stop of a new frame", "compare --per-stop a b of a stale frame",
 }
 WORDS = [[], ["--help"], ["--version"], ["check", "--all"], ["rows"], ["rows", "62"], ["rows", "0"]]
 WRITE_RECORDS = ("normalise", "mask")
@@ -59,7 +60,10 @@ def each_turn(faulty, run, **asked):
 
 def turned_runs(faulty):
     """Each worked run whose growths are not those of another, and the command lines that name no job."""
-    runs = [run for run in all_runs() if "--complete" not in run.arguments and not run.name.endswith(", normal")]
+    runs = [
+        run for run in all_runs()
+        if run.name in FROM_THE_START or ("--complete" not in run.arguments and not run.name.endswith(", normal"))
+    ]
     for words in WORDS:
         run = Run(f"the words {words}", words, b"", {}, None)
         runs.append(run._replace(answer=faulty.run(run)))

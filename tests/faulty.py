@@ -46,8 +46,8 @@ class Faulty:
         """The status, the output and the errors of a run under what is asked of the shim, as `read_fails=3`."""
         environment = {f"FAULT_INJECTION_{name.upper()}": str(number) for name, number in asked.items()}
         ran = subprocess.run(
-            [PROGRAM, *run.arguments], input=run.given, capture_output=True, cwd=self.place(run.files), pass_fds=passed, timeout=120,
-            env={"LD_PRELOAD": self.shim, **environment},
+            ["dapnorm", *run.arguments], executable=PROGRAM, input=run.given, capture_output=True, cwd=self.place(run.files), pass_fds=passed,
+            timeout=120, env={"LD_PRELOAD": self.shim, **environment},
         )
         return ran.returncode, ran.stdout, ran.stderr
 

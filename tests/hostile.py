@@ -39,6 +39,9 @@ COMMANDS = [
     "mask rules of a configuration", "compare a b of frames exchanged", "diff a b of a stale frame",
 ]
 
+# Runs whose writes fail too, and how many bytes a write takes at most.
+OTHER_WRITES = [("check of a configuration", 3), ("show of an event", PIECE), ("diff a b of another reason", PIECE)]
+
 
 def asks_each(report, title, faulty, run, cases):
     """Runs under each thing that is asked of the shim, and the answers that are wanted; one line for all."""
@@ -73,9 +76,9 @@ def failing_readers(report, faulty):
             asks_each(report, f"{name} with reads of {read} that fail", faulty, named(name), cases)
     rules = [({"read_fails": place, "read_of": 3}, (4, b"", refusal("rules: read fault"))) for place in range(len(RULES) + 1)]
     asks_each(report, "rules that cannot be read", faulty, named(MASKING), rules)
-    for name in ("compact of a loose frame", "check of a configuration", "show of frames"):
+    for name, read in (("compact of a loose frame", 5), ("check of a configuration", 5), ("show of frames", 5), ("show of an event", 7)):
         run = named(name)
-        cases = [({"read_fails": place, "read": 5}, (4, b"", READ_FAULT)) for place in range(len(run.given) + 1)]
+        cases = [({"read_fails": place, "read": read}, (4, b"", READ_FAULT)) for place in range(len(run.given) + 1)]
         asks_each(report, f"{name} with reads that fail", faulty, run, cases)
     both = named("compare a b of frames exchanged")
     for which, file in (("A", 3), ("B", 4)):
@@ -86,12 +89,12 @@ def failing_readers(report, faulty):
 
 def failing_writers(report, faulty):
     """A writer that fails, or takes nothing, behind each number of bytes: just these have gone out."""
-    for name in COMMANDS:
+    for name, write in [*((name, 7) for name in COMMANDS), *OTHER_WRITES]:
         run = named(name)
         text = run.answer[1]
         for failing in ({}, {"takes_nothing": 1}):
-            cases = [({"write_fails": place, "write": 7, **failing}, (4, text[:place], WRITE_FAULT)) for place in range(len(text))]
-            asks_each(report, f"{name} with writes that fail {failing or ''}".rstrip(), faulty, run, cases)
+            cases = [({"write_fails": place, "write": write, **failing}, (4, text[:place], WRITE_FAULT)) for place in range(len(text))]
+            asks_each(report, f"{name} with writes of {write} that fail {failing or ''}".rstrip(), faulty, run, cases)
     for words in (["rows", "62"], ["--version"], ["--help"]):
         run = Run(str(words), words, b"", {}, None)
         text = faulty.run(run)[1]

@@ -1,5 +1,6 @@
 """Makes the packages of the last commit with the program that the gate built, and looks into them:
-the sources, the Debian package unpacked and installed below a folder, and what `make dist` says."""
+the sources with their proof pack, the Debian package unpacked and installed below a folder, and what `make dist` says.
+tests/small_repository.py proves and packs a program; the packs here say of which sources they are, and hold no proofs."""
 import gzip
 import os
 import re
@@ -8,12 +9,18 @@ import subprocess
 import sys
 import tempfile
 
+import small_repository
 from report import PROGRAM, TOP, Report
 
 SCRIPT = os.path.join(TOP, "scripts", "make_package.py")
 sys.path.append(os.path.dirname(SCRIPT))
-from make_package import STRIP, TOOLS
+import pack_file
+from make_package import CRATE, PACKED, STRIP, TOOLS
 
+# The scripts that the targets for programs and packages run.
+MAKING = ["kit.py", "make_package.py", "pack_file.py", "proof_pack.py", "prove_all.py", "side_by_side.py"]
+IDENTITY = ["-c", "user.name=somebody", "-c", "user.email=somebody@example.org"]
+COMMIT = ["git", *IDENTITY, "commit", "-qam", "as it stands", "--allow-empty"]
 DOCUMENTS = ["README.md", "changelog.Debian.gz", "changelog.gz", "copyright"]
 # What the package has in another place, or in another form, than `make install`.
 MOVED = {
@@ -38,25 +45,46 @@ def below(folder):
     return {name: (read(path), os.stat(path).st_mode & 0o777) for name, path in found.items()}
 
 
-def made(report, folder):
-    """The paths of both packages, which are made twice."""
+def cloned(folder):
+    """A copy of the repository at its last commit, with the Makefile and the scripts of make as they are now."""
+    copy = os.path.join(folder, "copy")
+    subprocess.run(["git", "clone", "-q", TOP, copy], check=True)
+    shutil.copy(os.path.join(TOP, "Makefile"), copy)
+    for name in MAKING:
+        shutil.copy(os.path.join(TOP, "scripts", name), os.path.join(copy, "scripts"))
+    subprocess.run(["git", "add", "-A"], cwd=copy, check=True)
+    subprocess.run(COMMIT, cwd=copy, check=True)
+    return copy
+
+
+def pack_of(tree, path, **other):
+    """A pack without proofs, which says that it is of the sources of a tree, or what is said in their place."""
+    with tempfile.TemporaryDirectory() as nothing:
+        pack_file.write(path, {**pack_file.manifest(tree, CRATE, "a kit"), **other}, nothing)
+    return path
+
+
+def made(report, pack, folder):
+    """The paths of the packages, which are made twice."""
     outputs = []
     for name in ("one", "other"):
         target = os.path.join(folder, name)
-        answer = ran(sys.executable, SCRIPT, PROGRAM, target)
+        answer = ran(sys.executable, SCRIPT, PROGRAM, pack, target)
         report.check("the packages are made", answer.returncode == 0, answer.stderr)
         outputs.append(below(target) if os.path.exists(target) else {})
-    report.check("the same commit and program give the same bytes", outputs[0] == outputs[1] != {})
+    report.check("the same commit, program and pack give the same bytes", outputs[0] == outputs[1] != {})
     changes = subprocess.check_output(["git", "show", "HEAD:CHANGELOG.md"], cwd=TOP, text=True)
     version = re.search(r"^## (\S+),", changes, re.MULTILINE)[1]
-    names = [f"dapnorm-{version}.tar.gz", f"dapnorm_{version}_amd64.deb"]
+    names = [f"dapnorm-{version}.proofs", f"dapnorm-{version}.tar.gz", f"dapnorm_{version}_amd64.deb"]
     there = sorted(outputs[0])
     report.check("their names have the version", there == names, repr(there))
-    return [os.path.join(folder, "one", name) for name in names], version
+    proofs, *others = (os.path.join(folder, "one", name) for name in names)
+    report.check("the proof pack lies beside the sources", os.path.exists(proofs) and read(proofs) == read(pack))
+    return others, version
 
 
-def sources(report, path, version, folder):
-    """The files of the last commit, each with its bytes and mode; gives their folder."""
+def sources(report, path, pack, version, folder):
+    """The files of the last commit, each with its bytes and mode, and the pack; gives their folder."""
     subprocess.run(["tar", "-xzf", path, "-C", folder], check=True)
     tree = os.path.join(folder, f"dapnorm-{version}")
     report.check("the sources are one folder", os.listdir(folder) == [f"dapnorm-{version}"])
@@ -66,6 +94,7 @@ def sources(report, path, version, folder):
         mode, _, blob, name = re.split(r"[ \t]", line, maxsplit=3)
         wanted[name] = (blob, mode == "100755")
     there = below(tree)
+    report.check("the sources have their pack", there.pop(PACKED, None) == (read(pack), 0o644))
     report.check("the sources have the files of git", sorted(there) == sorted(wanted))
     words = ["git", "hash-object", "--no-filters", "--stdin-paths"]
     paths = "".join(os.path.join(tree, name) + "\n" for name in there)
@@ -74,6 +103,14 @@ def sources(report, path, version, folder):
     differing = [name for name in found if found[name] != wanted.get(name)]
     report.check("their bytes and modes are those of git", differing == [], repr(differing))
     return tree
+
+
+def default_pack(report, tree):
+    """By `make` the sources are built over the pack that lies there, and by `make PROOFS=` they are proved."""
+    for words, script in (((), f'proof_pack.py build crates/{CRATE} "{PACKED}"'), (("PROOFS=",), f"prove_all.py crates/{CRATE}")):
+        said = ran("make", "-n", "-C", tree, "-f", os.path.join(TOP, "Makefile"), *words).stdout
+        found = re.findall(r"(?:prove_all|proof_pack)\.py .*", said)
+        report.check(f"make {' '.join(words)} runs {script}", len(found) == 1 and found[0].startswith(script), said)
 
 
 def program_runs(report, place, root):
@@ -175,61 +212,76 @@ def install(report, path, folder):
     report.check("dpkg removes it", gone, repr((answer.stderr, left)))
 
 
-def refused(report, folder):
-    """In a copy of the repository: `make dist` takes no uncommitted change, and no other file."""
-    copy = os.path.join(folder, "copy")
-    subprocess.run(["git", "clone", "-q", TOP, copy], check=True)
-    shutil.copy(os.path.join(TOP, "Makefile"), copy)
-    shutil.copy(SCRIPT, os.path.join(copy, "scripts"))
-    identity = ["-c", "user.name=somebody", "-c", "user.email=somebody@example.org"]
-    commit = ["git", *identity, "commit", "-qam", "as it stands", "--allow-empty"]
-    subprocess.run(commit, cwd=copy, check=True)
+def refused(report, copy, folder):
+    """`make dist` takes no uncommitted change, and no other file."""
+    pack, target = pack_of(copy, os.path.join(folder, "copy.proofs")), os.path.join(copy, "dist")
     words = ["make", "-C", copy, "dist"]
-    answer = ran(*words, f"PROGRAM={PROGRAM}")
-    good = answer.returncode == 0 and len(os.listdir(os.path.join(copy, "dist"))) == 2
-    report.check("make dist makes two files", good, answer.stdout + answer.stderr)
-    shutil.rmtree(os.path.join(copy, "dist"), ignore_errors=True)
-    answer = ran(*words, f"PROGRAM={SCRIPT}")
-    said = answer.returncode != 0 and "is no program" in answer.stderr
-    good = said and "Traceback" not in answer.stderr
-    report.check("make dist refuses a file that is no program", good, answer.stderr)
+    answer = ran(*words, f"PROGRAM={PROGRAM}", f"PACK={pack}")
+    good = answer.returncode == 0 and len(os.listdir(target)) == 3
+    report.check("make dist makes three files", good, answer.stdout + answer.stderr)
+    shutil.rmtree(target, ignore_errors=True)
+    other = pack_of(copy, os.path.join(folder, "other.proofs"), sources={"crates/dap_items/src/lib.rt": "other"})
+    for program, given, why in ((SCRIPT, pack, "is no program"), (PROGRAM, other, "other sources"), (PROGRAM, SCRIPT, "it is damaged")):
+        answer = ran(*words, f"PROGRAM={program}", f"PACK={given}")
+        good = answer.returncode != 0 and why in answer.stderr and "Traceback" not in answer.stderr
+        report.check(f"make dist refuses what {why}", good, answer.stderr)
     for name in ("README.md", os.path.join("crates", "dap_items", "new.rt")):
         with open(os.path.join(copy, name), "a", encoding="utf-8") as file:
             file.write("\n")
-        answer = ran(*words, f"PROGRAM={PROGRAM}")
+        answer = ran(*words, f"PROGRAM={PROGRAM}", f"PACK={pack}")
         said = answer.returncode != 0 and "commit" in answer.stdout
         report.check(f"make dist refuses a change of {name}", said, answer.stdout + answer.stderr)
-        subprocess.run(["git", *identity, "stash", "-qu"], cwd=copy, check=True)
+        subprocess.run(["git", *IDENTITY, "stash", "-qu"], cwd=copy, check=True)
     changes = read(copy, "CHANGELOG.md").replace(b"\n## ", b"\n## soon\n\n- more\n\n## ", 1)
     with open(os.path.join(copy, "CHANGELOG.md"), "wb") as file:
         file.write(changes)
-    subprocess.run(commit, cwd=copy, check=True)
-    answer = ran(*words, f"PROGRAM={PROGRAM}")
+    subprocess.run(COMMIT, cwd=copy, check=True)
+    answer = ran(*words, f"PROGRAM={PROGRAM}", f"PACK={pack}")
     said = answer.returncode != 0 and "first heading" in answer.stderr
     report.check("make dist refuses changes without a version", said, answer.stderr)
-    left = os.path.exists(os.path.join(copy, "dist"))
+    left = os.path.exists(target)
     report.check("a refused make dist leaves nothing", not left)
+
+
+def pack_targets(report, copy):
+    """`make proofs` makes bin/dapnorm.proofs after bin/dapnorm, and a program over a pack is built again by `make`."""
+    said = ran("make", "-n", "-C", copy, "proofs", "PROOFS=").stdout
+    found = re.findall(r"(?:prove_all|proof_pack)\.py \w+.*", said)
+    wanted = [f"prove_all.py crates/{CRATE}", f"proof_pack.py make crates/{CRATE} bin/dapnorm.proofs bin/dapnorm"]
+    report.check("make proofs proves and packs", found == wanted, said)
+    os.makedirs(os.path.join(copy, "bin"))
+    for name, goal, builds in (("dapnorm", "all", 0), ("over_pack", "all", 1), ("over_pack", "install", 0)):
+        with open(os.path.join(copy, "bin", name), "w", encoding="utf-8"):
+            pass
+        said = ran("make", "-n", "-C", copy, goal).stdout
+        report.check(f"make {goal} with bin/{name} proves {builds} programs", said.count("prove_all.py") == builds, said)
+    shutil.rmtree(os.path.join(copy, "bin"))
 
 
 def main():
     report = Report()
     if not report.check("the gate has built the program", os.access(PROGRAM, os.X_OK)):
         return report.close()
+    small_repository.tried(report)
     missing = [tool for tool in (*TOOLS, "dpkg") if shutil.which(tool) is None]
     if missing or ran("git", "log", "-1", cwd=TOP).returncode != 0:
         want = ", ".join(missing) or "a commit"
         print(f"packages are not tried, for want of {want}", flush=True)
         return report.close()
     with tempfile.TemporaryDirectory() as folder:
-        (archive, debian), version = made(report, folder)
-        if report.failed == 0:
+        copy = cloned(folder)
+        failed, pack = report.failed, pack_of(copy, os.path.join(folder, "pack"))
+        (archive, debian), version = made(report, pack, folder)
+        if report.failed == failed:
             unpacked, root = os.path.join(folder, "sources"), os.path.join(folder, "root")
             os.mkdir(unpacked)
-            tree = sources(report, archive, version, unpacked)
+            tree = sources(report, archive, pack, version, unpacked)
+            default_pack(report, tree)
             package(report, debian, version, root)
             contents(report, root, tree, folder)
             install(report, debian, folder)
-        refused(report, folder)
+        pack_targets(report, copy)
+        refused(report, copy, folder)
     return report.close()
 
 

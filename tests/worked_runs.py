@@ -78,10 +78,28 @@ DISCONNECT = '>{"command":"disconnect","seq":2,"type":"request"}'
 DISCONNECTED = '<{"command":"disconnect","request_seq":2,"seq":2,"success":true,"type":"response"}'
 LAUNCH = '>{"arguments":{"x":%s},"command":"launch","seq":2,"type":"request"}'
 BREAKPOINTS = '>{"arguments":{"breakpoints":[{"line":%s}]},"command":"setBreakpoints","seq":2,"type":"request"}'
+THREAD_LIST = (
+    '<{"body":{"threads":[{"id":%d,"name":"m"},{"id":%d,"name":"w"}]},"command":"threads","request_seq":2,"seq":2,"success":true,'
+    '"type":"response"}'
+)
+PAUSE = '>{"arguments":{"threadId":%d},"command":"pause","seq":3,"type":"request"}'
+PAUSED = '%s{"command":"pause","request_seq":%d,"seq":%d,"success":true,"type":"response"}'
+CHANGED = '<{"body":{"breakpoint":{"id":%d,"verified":true},"reason":"changed"},"event":"breakpoint","seq":2,"type":"event"}'
+STOPPED_AT = '<{"body":{"hitBreakpointIds":[%d,%d],"reason":"breakpoint","threadId":%d},"event":"stopped","seq":3,"type":"event"}'
+SCOPES = (
+    '<{"body":{"scopes":[{"name":"a \\"b\\"\\n","variablesReference":-7},{"name":"\u00e9","variablesReference":0}]},"command":"scopes",'
+    '"request_seq":-2,"seq":0,"success":true,"type":"response"}'
+)
 
 BEGUN, NORMAL_BEGUN = [INITIALIZE, RESPONSE], [INITIALIZE, FILLED]
 CONFIGURED = [*BEGUN, INITIALIZED, DONE, DONE_RESPONSE]
 NORMAL_CONFIGURED = [*NORMAL_BEGUN, INITIALIZED, DONE, DONE_RESPONSE]
+ENDED, NORMAL_ENDED = [*BEGUN, DISCONNECT, DISCONNECTED], [*NORMAL_BEGUN, DISCONNECT, DISCONNECTED]
+IN_TERMINAL = [TERMINAL % 1, TERMINAL_RESPONSE % 1]
+LISTED_THREADS = [THREADS, THREAD_LIST % (7, 4), PAUSE % 4]
+NORMAL_THREADS = [*NORMAL_BEGUN, THREADS, THREAD_LIST % (1, 2), PAUSE % 2]
+HIT_BREAKPOINTS = [CHANGED % 9, STOPPED_AT % (9, 12, 7)]
+NORMAL_BREAKPOINTS = [*NORMAL_BEGUN, CHANGED % 1, STOPPED_AT % (1, 2, 1)]
 
 
 def renumbered(line, **numbers):
@@ -135,6 +153,18 @@ SESSIONS = {
     "the least number": ([renumbered(INITIALIZE, seq=(1, -2**63))], [INITIALIZE], (1, 0)),
     "an open request": ([*BEGUN, THREADS], [*NORMAL_BEGUN, THREADS], (1, 0)),
     "lists 125 deep": ([*BEGUN, LAUNCH % ("[" * 125 + "]" * 125)], [*NORMAL_BEGUN, LAUNCH % ("[" * 125 + "]" * 125)], (1, 0)),
+    "the first request": ([INITIALIZE], [INITIALIZE], (1, 0)),
+    "a beginning": (BEGUN, NORMAL_BEGUN, (0, 0)),
+    "a disconnect": (ENDED, NORMAL_ENDED, (0, 0)),
+    "output between all messages": (
+        [OUTPUT, INITIALIZE, OUTPUT, RESPONSE, OUTPUT], [OUTPUT, INITIALIZE, OUTPUT, FILLED, OUTPUT], (0, 0),
+    ),
+    "one number on both sides": ([*BEGUN, *IN_TERMINAL], [*NORMAL_BEGUN, *IN_TERMINAL], (0, 0)),
+    "threads": ([*BEGUN, *LISTED_THREADS], NORMAL_THREADS, (1, 0)),
+    "breakpoints": ([*BEGUN, *HIT_BREAKPOINTS], NORMAL_BREAKPOINTS, (0, 0)),
+    # Golden files from before ids of threads and of breakpoints were renamed.
+    "an old golden file with threads": ([*NORMAL_BEGUN, *LISTED_THREADS], NORMAL_THREADS, (1, 0)),
+    "an old golden file with breakpoints": ([*NORMAL_BEGUN, *HIT_BREAKPOINTS], NORMAL_BREAKPOINTS, (0, 0)),
 }
 
 # Lines that are refused as messages or for a rule behind others, by all that judges messages or sessions.
@@ -149,12 +179,26 @@ REFUSED_LINES = {
     "configured twice": (CONFIGURED, renumbered(DONE, seq=(2, 3)), "record 6: ConfiguredTwice"),
     "no request": (BEGUN, RESPONSE.replace('"request_seq":1', '"request_seq":9'), "record 3: NoRequest"),
     "another command": ([*BEGUN, THREADS], RESPONSE.replace('"request_seq":1', '"request_seq":2'), "record 4: OtherCommand"),
-    "behind the end": ([*BEGUN, DISCONNECT, DISCONNECTED], renumbered(THREADS, seq=(2, 3)), "record 5: AfterDisconnect"),
+    "behind the end": (ENDED, renumbered(THREADS, seq=(2, 3)), "record 5: AfterDisconnect"),
     "no source": (BEGUN, BREAKPOINTS % "3", "record 3: Missing row 13"),
     "no object": ([], ">[]", "record 1: NotObject"),
     "no type": ([], ">{}", "record 1: UnknownType"),
     "no number": ([], '>{"type":"request"}', "record 1: Missing row 1"),
     "a number too large": ([], '>{"seq":9223372036854775808,"type":"event"}', "record 1: WrongType row 1"),
+    "a later event of the client": (BEGUN, ">" + INITIALIZED[1:], "record 3: EventFromClient"),
+    "output of the client": ([], ">" + OUTPUT[1:], "record 1: EventFromClient"),
+    "initialized twice with a new number": (BEGUN, renumbered(INITIALIZE, seq=(1, 3)), "record 3: InitializeTwice"),
+    "a number that the adapter has used": ([*BEGUN, *IN_TERMINAL], TERMINAL % 1, "record 5: SeqUsed"),
+    # Two rules are violated. The first one in the order of the rules is reported, and the name has the second one.
+    "not initialized, and NoRequest": ([], RESPONSE, "record 1: NotInitialized"),
+    "still initializing, and NoRequest": ([INITIALIZE], PAUSED % (">", 9, 2), "record 2: StillInitializing"),
+    "still initializing, and InitializeTwice": ([INITIALIZE], renumbered(INITIALIZE, seq=(1, 3)), "record 2: StillInitializing"),
+    "initialized twice, and AfterDisconnect": (ENDED, renumbered(INITIALIZE, seq=(1, 3)), "record 5: InitializeTwice"),
+    "initialized twice, and SeqUsed": (BEGUN, INITIALIZE, "record 3: InitializeTwice"),
+    "after the end, and SeqUsed": (ENDED, THREADS, "record 5: AfterDisconnect"),
+    "a number that is used, and ConfiguredEarly": (BEGUN, renumbered(DONE, seq=(2, 1)), "record 3: SeqUsed"),
+    "a number that is used, and ConfiguredTwice": (CONFIGURED, DONE, "record 6: SeqUsed"),
+    "answered twice, and OtherCommand": (BEGUN, PAUSED % ("<", 1, 1), "record 3: AnsweredTwice"),
 }
 
 # Bytes that are refused behind lines, as records or contents, by all that reads recordings.
@@ -181,8 +225,8 @@ blank  request  launch     arguments.x   # also a fraction
 drop   event    initialized
 """
 MASKED = {
-    '"reason":"step"': '"reason":""', '"value":"1"': '"value":"0"', '"result":"1"': '"result":""', '"x":0.5': '"x":0',
-    "[" * 125 + "]" * 125: "[]",
+    '"reason":"step"': '"reason":""', '"reason":"breakpoint"': '"reason":""', '"value":"1"': '"value":"0"', '"result":"1"': '"result":""',
+    '"x":0.5': '"x":0', "[" * 125 + "]" * 125: "[]",
 }
 
 # Files of rules that are refused, and why.
@@ -224,6 +268,16 @@ COMPACTED = {
     "two lengths": (b"Content-Length: 2\r\nContent-Length: 2\r\n\r\n", "record 1: TwoLengths"),
     "a sign": (b"Content-Length: +5\r\n\r\n", "record 1: BadLength"),
     "eleven digits": (b"Content-Length: 12345678901\r\n\r\n", "record 1: BadLength"),
+    "two frames": (frame("{ }") + frame("[ 1,2]"), frame("{}") + frame("[1,2]")),
+    "no JSON in the second frame": (frame("{}") + frame('{"a":.}'), "record 2: Json"),
+    "another bracket in the second frame": (frame("{}") + frame("{]"), "record 2: Json"),
+    "no UTF-8": (b'Content-Length: 3\r\n\r\n"\xff"', "record 1: Json"),
+    "an exponent": (frame('{"a":1e3}'), "record 1: Fraction"),
+    "a fault before another one": (frame("1.5") + frame("!"), "record 1: Fraction"),
+    "two lengths before a content": (b"Content-Length: 2\r\nContent-Length: 2\r\n\r\n{}", "record 1: TwoLengths"),
+    "a content too long": (b"Content-Length: 16777217\r\n\r\n", "record 1: ContentTooLong"),
+    "a content cut": (b"Content-Length: 2\r\n\r\n{", "record 1: Cut"),
+    "the name of a field cut": (b"Content-Le", "record 1: Cut"),
 }
 
 OF_ADAPTER = b"<25\n" + frame("null")
@@ -239,12 +293,15 @@ TRACES = {
     "another marker": (b"x", b"", "piece 1: BadMarker"),
     "a cut piece": (b">10\nCont", b"", "piece 1: Cut"),
     "a cut frame": (OF_ADAPTER + b">10\nContent-Le", FIRST_RECORD, "piece 2: client Cut"),
+    "a cut second piece": (OF_ADAPTER + b">10\nCont", FIRST_RECORD, "piece 2: Cut"),
+    "a header too long": (OF_ADAPTER * 3 + b"<4096\n" + b"a" * 4096, FIRST_RECORD * 3, "piece 4: adapter HeaderTooLong"),
 }
 
 # Two recordings, and what `compare` prints or tells of them.
 FRAME_PAIRS = b"same\nclient-seq 1 1\nclient-seq 2 2\nadapter-seq 1 1\nadapter-seq 2 2\nframe 1000 1001\nframe 1001 1000\nthread 1 1\n"
 FRAMES_LINES, EXCHANGED_LINES = SESSIONS["frames"][0], SESSIONS["frames the other way round"][0]
 TWICE = recording([*BEGUN, RESPONSE])
+STEP, HIT = recording([*BEGUN, STOPPED]), recording([*BEGUN, STOPPED.replace("step", "breakpoint")])
 COMPARED = {
     "nothing": (b"", b"", (0, b"same\n", b"")),
     "other numbers": (recording(CONFIGURED), recording(UNNUMBERED), (1, b"differ 3\n", b"")),
@@ -256,16 +313,27 @@ COMPARED = {
     "a fault behind a difference": (
         recording(CONFIGURED), recording(UNNUMBERED[:4]) + b"!", (1, b"differ 3\n", b""),
     ),
+    "another reason": (STEP, HIT, (1, b"differ 3\n", b"")),
+    "another kind": (STEP, recording([*BEGUN, THREADS]), (1, b"differ 3\n", b"")),
+    "another event": (STEP, recording([*BEGUN, OUTPUT]), (1, b"differ 3\n", b"")),
+    "an empty second recording": (STEP, b"", (1, b"differ 1\n", b"")),
+    "an empty first recording": (b"", STEP, (1, b"differ 1\n", b"")),
 }
 
 # What `diff` prints of those that differ, or prints otherwise than `compare`.
 LOWER_SEQ = b'differ 3\n< event "initialized"\nA seq 2\nB seq 1\n'
+OTHER_REASON = b'differ 3\n< event "stopped"\nA body.reason "step"\nB body.reason "breakpoint"\n'
 DIFFERENCES = {
     "other numbers": LOWER_SEQ,
     "frames exchanged": b"same\n",
     "a stale frame": b'differ 8\n< response "stackTrace"\nA body.stackFrames[0].id 1\nB body.stackFrames[0].id 2\n',
     "an end": b'differ 5\nA < response "configurationDone"\nB ends\n',
     "a fault behind a difference": LOWER_SEQ,
+    "another reason": OTHER_REASON,
+    "another kind": b'differ 3\nA < event "stopped"\nB > request "threads"\n',
+    "another event": b'differ 3\nA < event "stopped"\nB < event "output"\n',
+    "an empty second recording": b'differ 1\nA > request "initialize"\nB ends\n',
+    "an empty first recording": b'differ 1\nA ends\nB > request "initialize"\n',
 }
 
 # The same with `--per-stop`: normal forms of sessions above, and what `compare` prints of two.
@@ -280,19 +348,41 @@ COMPARED_PER_STOP = {
     "a stale frame": (0, STOP_PAIRS, b""),
     "an end": (1, b"differ 5\n", b""),
     "a refusal of the second": (2, b"", refusal("B: record 3: AnsweredTwice")),
+    "another reason": (1, b"differ 3\n", b""),
 }
 
 SHOWN_BEGUN = '1 > request "initialize" seq=1\n2 < response "initialize" seq=1 request_seq=1 ok\n'
+SHOWN_VARIABLES = '  variable 0 "a" "1"\n  variable 5 "b" "1"\n  variable 0 "c" "1"\n  variable 5 "d" "1"\n  variable 3 "e" "1"\n'
 SHOWN_STACK = SHOWN_BEGUN + '3 > request "stackTrace" seq=2\n4 < response "stackTrace" seq=2 request_seq=2 '
 
 # What `show` prints of sessions above.
 SHOWN = {
     "frames": SHOWN_STACK + 'ok\n  frame 1000 3:1 "f"\n  frame 1001 9:1 "g"\n',
     "a failure": SHOWN_STACK + "failed\n",
-    "variables": SHOWN_BEGUN + '3 > request "variables" seq=2\n4 < response "variables" seq=2 request_seq=2 ok\n'
-    '  variable 0 "a" "1"\n  variable 5 "b" "1"\n  variable 0 "c" "1"\n  variable 5 "d" "1"\n  variable 3 "e" "1"\n',
+    "variables": SHOWN_BEGUN + '3 > request "variables" seq=2\n4 < response "variables" seq=2 request_seq=2 ok\n' + SHOWN_VARIABLES,
     "output first": '1 < event "output" seq=1\n',
     "nothing": "",
+}
+
+# Lines that `check` refuses, and the output of `show`, which checks no rule of a session.
+SHOWN_LINES = {
+    "variables alone": ([LISTED % (5, 5, 3)], '1 < response "variables" seq=2 request_seq=2 ok\n' + SHOWN_VARIABLES),
+    "scopes": (
+        [OUTPUT, SCOPES],
+        '1 < event "output" seq=1\n2 < response "scopes" seq=0 request_seq=-2 ok\n  scope -7 "a \\"b\\"\\n"\n  scope 0 "\u00e9"\n',
+    ),
+    "a failure alone": ([STACK, FAILED], '1 > request "stackTrace" seq=2\n2 < response "stackTrace" seq=2 request_seq=2 failed\n'),
+    "a second response": ([*BEGUN, RESPONSE], SHOWN_BEGUN + '3 < response "initialize" seq=1 request_seq=1 ok\n'),
+    "an event": ([INITIALIZED], '1 < event "initialized" seq=2\n'),
+}
+
+# Recordings that `show` refuses.
+REFUSED_TO_SHOW = {
+    "a header cut": (b">Content", "record 1: Cut"),
+    "no JSON": (record(">{"), "record 1: Json"),
+    "a fraction alone": (record(">0.5"), "record 1: Fraction"),
+    "no object": (record(">[]"), "record 1: NotObject"),
+    "no number": (recording([INITIALIZED, '<{"type":"event"}']), "record 2: Missing row 1"),
 }
 
 
@@ -332,6 +422,8 @@ def of_sessions():
         yield of_mask(name, given, (0, recording(masked(lines)), b""))
     for name, shown in SHOWN.items():
         yield stream(name, ["show"], recording(SESSIONS[name][0]), (0, shown.encode(), b""))
+    for name, (lines, shown) in SHOWN_LINES.items():
+        yield stream(name, ["show"], recording(lines), (0, shown.encode(), b""))
     fraction = [*BEGUN, LAUNCH % "0.5"]
     yield stream("a fraction", ["check"], recording(fraction), (2, b"", refusal("record 3: Fraction")))
     yield of_mask("a fraction", recording(fraction), (0, recording(masked(fraction)), b""))
@@ -342,6 +434,7 @@ def of_refusals():
         given = recording([*lines, line])
         yield stream(name, ["normalise"], given, (2, recording(normal_of(lines)), refusal(told)))
         yield stream(name, ["check"], given, (2, b"", refusal(told)))
+        yield stream(name, ["check", "--complete"], given, (2, b"", refusal(told)))
         yield of_mask(name, given, (0, recording(masked([*lines, line])), b""))
     for name, (lines, rest, told) in REFUSED_BYTES.items():
         given = recording(lines) + rest
@@ -349,6 +442,8 @@ def of_refusals():
         yield stream(name, ["check"], given, (2, b"", refusal(told)))
         yield stream(name, ["show"], given, (2, b"", refusal(told)))
         yield of_mask(name, given, (2, recording(masked(lines)), refusal(told)))
+    for name, (given, told) in REFUSED_TO_SHOW.items():
+        yield stream(name, ["show"], given, (2, b"", refusal(told)))
 
 
 def of_others():
@@ -370,7 +465,8 @@ def of_stops():
         told = b"accepted records=%d open=0,0\n" % len(lines)
         yield stream(name, ["normalise", "--per-stop"], recording(lines), (0, recording(normal), b""))
         yield stream(f"{name}, normal", ["normalise", "--per-stop"], recording(normal), (0, recording(normal), b""))
-        yield stream(f"{name}, with the names of the whole, normal", ["normalise", "--per-stop"], recording(whole), (0, recording(normal), b""))
+        of_whole = f"{name}, with the names of the whole, normal"
+        yield stream(of_whole, ["normalise", "--per-stop"], recording(whole), (0, recording(normal), b""))
         yield stream(name, ["check", "--per-stop"], recording(lines), (0, told, b""))
         yield stream(name, ["check", "--complete", "--per-stop"], recording(lines), (0, told, b""))
     for name, answer in COMPARED_PER_STOP.items():

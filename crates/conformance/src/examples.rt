@@ -19,31 +19,8 @@ pub const LIMITS: Limits = Limits {
     input: 4_294_967_296,
 };
 
-/// The same with an input of so many bytes at most.
-pub fn up_to(input: u64) -> Limits {
-    Limits { input, ..LIMITS }
-}
-
-/// The same with so many ids of a sort at most.
-pub fn with_ids(ids: usize) -> Limits {
-    Limits { ids, ..LIMITS }
-}
-
-/// The same with contents of so many bytes at most.
-pub fn with_contents(content: usize) -> Limits {
-    Limits {
-        frame: FrameLimits {
-            content,
-            ..LIMITS.frame
-        },
-        ..LIMITS
-    }
-}
-
-/// A content with spaces and its members out of order, and its canonical form.
+/// A frame whose content has spaces and its members out of order.
 pub const LOOSE: &[u8] = b"Content-Length: 15\r\n\r\n{ \"b\":1,\"a\":2 }";
-
-pub const CANONICAL: &[u8] = b"Content-Length: 13\r\n\r\n{\"a\":2,\"b\":1}";
 
 /// A table over an index set with its default hasher.
 pub type IndexTable = IndexNames<BuildHasherDefault<FoldHasher>>;

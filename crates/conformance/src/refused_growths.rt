@@ -3,99 +3,13 @@
 //!
 //! tests/fault_injection.py runs these under a shim that refuses. Without it each makes one turn
 //! with ample memory.
-use crate::engines::Engine;
-use crate::examples::{CANONICAL, LIMITS, LOOSE};
-use crate::growths::{Case, asks_each_turn, tells_each_turn, was_wanted};
-use crate::recordings::{OUTPUT, recording};
-use crate::showing::{FRAMES, SCOPES, VARIABLES};
-use crate::traces::{BOTH_SIDES, FIRST, RECORDED};
+use crate::examples::{LIMITS, LOOSE};
+use crate::growths::was_wanted;
 use dap_frame::{Fed, FrameFault, Framer, write_frame};
-use dap_tree::{Side, Tree, TreeFault, read_tree, write_tree};
-use dapnorm::{Job, RecorderFault, Refused, UsageFault, job};
+use dap_tree::{Tree, TreeFault, read_tree, write_tree};
 use fault_injection::{refuse_growth, was_refused};
 use std::alloc::Global;
 use std::process::Abort;
-
-const COMPACTED: [Case<'static>; 4] = [
-    Case {
-        engine: Engine::Compact,
-        input: LOOSE,
-        wanted: Ok(()),
-        written: CANONICAL,
-    },
-    Case {
-        engine: Engine::Compact,
-        input: b"",
-        wanted: Ok(()),
-        written: b"",
-    },
-    Case {
-        engine: Engine::Compact,
-        input: b"Content-Length: 3\r\n\r\n1.5",
-        wanted: Err(Refused::Fraction(1)),
-        written: b"",
-    },
-    Case {
-        engine: Engine::Compact,
-        input: b"Content-Length: 9\r\n\r\n{\"a\":[1.5",
-        wanted: Err(Refused::Json(1)),
-        written: b"",
-    },
-];
-
-#[test]
-fn compact_is_refused_in_turn(rt: HostRuntime) {
-    for case in &COMPACTED {
-        asks_each_turn(&rt, rt.alloc(), case);
-    }
-}
-
-/// A piece of the client's frame and then all of the adapter's.
-const CUT_TRACE: &[u8] = b">10\nContent-Le<25\nContent-Length: 4\r\n\r\nnull";
-
-const TRACED: [Case<'static>; 3] = [
-    Case {
-        engine: Engine::Record,
-        input: b"",
-        wanted: Ok(()),
-        written: b"",
-    },
-    Case {
-        engine: Engine::Record,
-        input: BOTH_SIDES,
-        wanted: Ok(()),
-        written: RECORDED,
-    },
-    Case {
-        engine: Engine::Record,
-        input: CUT_TRACE,
-        wanted: Err(Refused::Recorder(2, RecorderFault::Frame(Side::Client, FrameFault::Cut))),
-        written: FIRST,
-    },
-];
-
-#[test]
-fn record_is_refused_in_turn(rt: HostRuntime) {
-    for case in &TRACED {
-        asks_each_turn(&rt, rt.alloc(), case);
-    }
-}
-
-const SHOWN: &str =
-    "1 < event \"output\" seq=1\n2 < response \"stackTrace\" seq=2 request_seq=2 ok\n  frame 1000 3:1 \"f\"\n  frame 1001 9:1 \"g\"\n3 < response \"scopes\" seq=0 request_seq=-2 ok\n  scope -7 \"a \\\"b\\\"\\n\"\n  scope 0 \"\u{e9}\"\n4 < response \"variables\" seq=2 request_seq=2 ok\n  variable 0 \"a\" \"1\"\n  variable 5 \"b\" \"1\"\n  variable 0 \"c\" \"1\"\n  variable 5 \"d\" \"1\"\n  variable 3 \"e\" \"1\"\n";
-
-#[test]
-fn show_is_refused_in_turn(rt: HostRuntime) {
-    let lines = [OUTPUT, FRAMES, SCOPES, VARIABLES];
-    let bytes = recording(&rt, rt.alloc(), &lines);
-    let case = Case {
-        engine: Engine::Show,
-        input: bytes.as_slice(),
-        wanted: Ok(()),
-        written: SHOWN.as_bytes(),
-    };
-    asks_each_turn(&rt, rt.alloc(), &case);
-}
 
 /// Asks for what `write_frame` answers and leaves behind a text, with this growth refused. Whether
 /// it was.
@@ -190,65 +104,6 @@ fn a_framer_is_refused_in_turn(rt: HostRuntime) {
             break;
         }
     }
-}
-
-/// Words, and the job that they are.
-const JOBS: [(&[&str], Job<'static>); 7] = [
-    (&["dapnorm", "compact"], Job::Compact),
-    (&["dapnorm", "record"], Job::Record),
-    (
-        &["dapnorm", "normalise"],
-        Job::Normalise { per_stop: false },
-    ),
-    (
-        &["dapnorm", "normalise", "--per-stop"],
-        Job::Normalise { per_stop: true },
-    ),
-    (&["dapnorm", "show"], Job::Show),
-    (
-        &["dapnorm", "check", "--complete"],
-        Job::Check {
-            complete: true,
-            per_stop: false,
-        },
-    ),
-    (
-        &["dapnorm", "compare", "a", "b"],
-        Job::Compare {
-            a: "a",
-            b: "b",
-            per_stop: false,
-        },
-    ),
-];
-
-/// Asks for the job with this growth refused. Whether it was.
-fn finds_job(rt: &impl Abort, alloc: Global, words: &[&str], wanted: &Job, turn: u16) -> bool {
-    refuse_growth(alloc, turn);
-    let answer = job(alloc, words);
-    let is_refused = was_refused(alloc);
-    match answer {
-        Ok(job) => assert!(rt; job == *wanted),
-        Err(UsageFault::Memory) => was_wanted(rt, is_refused, turn),
-        Err(_) => assert!(rt; false, "another fault at turn {turn}"),
-    }
-    is_refused
-}
-
-#[test]
-fn the_command_line_is_refused_in_turn(rt: HostRuntime) {
-    for (words, wanted) in &JOBS {
-        for turn in 1..1000u16 {
-            if !finds_job(&rt, rt.alloc(), words, wanted, turn) {
-                break;
-            }
-        }
-    }
-}
-
-#[test]
-fn want_of_memory_is_told_without_memory(rt: HostRuntime) {
-    tells_each_turn(&rt, rt.alloc(), &Job::Compact, LOOSE, CANONICAL);
 }
 
 /// Whether the tree is sound and written so.

@@ -5,7 +5,7 @@
 //! makes one turn with ample memory.
 ghost use Rattle.std.specs.Prelude.{◌<◌, ◌^◌};
 
-use crate::devices::{Output, ROOM, TestSink};
+use crate::devices::TestSink;
 use crate::examples::LIMITS;
 use crate::growths::{has_leading_records, was_wanted};
 use crate::recordings::{
@@ -172,7 +172,7 @@ fn masks_turn(
     turn: u16,
 ) -> bool {
     let mut reader = MemorySource::new(input);
-    let mut sink = TestSink::new(alloc, ROOM).expect(rt, "no memory");
+    let mut sink = TestSink::new(alloc, false).expect(rt, "no memory");
     refuse_growth(alloc, turn);
     let answer = masked(alloc, rules, &mut reader, &mut sink);
     let is_refused = was_refused(alloc);
@@ -198,11 +198,7 @@ fn mask_is_refused_in_turn(rt: HostRuntime) {
 
 /// Asks for a write fault behind all that is left where the flush fails.
 fn fails_to_flush(rt: &impl Abort, alloc: Global, rules: &MaskRules, input: &[u8], left: &[Line]) {
-    let output = Output {
-        fails_to_flush: true,
-        ..ROOM
-    };
-    let mut sink = TestSink::new(alloc, output).expect(rt, "no memory");
+    let mut sink = TestSink::new(alloc, true).expect(rt, "no memory");
     let answer = masked(alloc, rules, &mut MemorySource::new(input), &mut sink);
     assert!(rt; answer == Err(Refused::WriteFault));
     assert!(rt; sink.bytes() == recording(rt, alloc, left).as_slice());

@@ -7,7 +7,6 @@
 use crate::examples::{IndexTable, LIMITS, index_tables};
 use crate::growths::was_wanted;
 use crate::recordings::{INITIALIZE, INITIALIZE_RESPONSE, recording};
-use crate::traces::RECORDED;
 use dap_frame::FrameFault;
 use dap_message::{Message, MessageFault, Side, typed};
 use dap_recording::{
@@ -19,6 +18,9 @@ use dap_tree::{SORTS, Sort, read_tree};
 use fault_injection::{refuse_growth, was_refused};
 use std::alloc::Global;
 use std::process::Abort;
+
+/// A frame of the adapter and one of the client.
+const RECORDED: &[u8] = b"<Content-Length: 4\r\n\r\nnull\n>Content-Length: 2\r\n\r\n{}\n";
 
 /// Two requests of a client.
 const SCOPES_REQUEST: &str =

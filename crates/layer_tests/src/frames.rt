@@ -1,5 +1,4 @@
-//! Frames read and written.
-use crate::texts::is_printed;
+//! A framer that is fed step by step, and frames written.
 use dap_frame::{Content, FrameFault, FrameLimits, Framer, write_frame};
 use std::alloc::Global;
 use std::process::Abort;
@@ -9,71 +8,6 @@ const LIMITS: FrameLimits = FrameLimits {
     header: 4096,
     content: 16_777_216,
 };
-
-/// Bytes, and the fault that a new framer tells of them.
-type Told = (&'static [u8], Option<FrameFault>);
-
-/// Asks for the fault that a new framer tells of these bytes.
-fn tells(rt: &impl Abort, alloc: Global, (bytes, fault): Told) {
-    let told = Framer::new(alloc, LIMITS).feed(bytes).err();
-    assert_eq!(rt; told, fault);
-}
-
-const HEADER_FAULTS: [Told; 6] = [
-    (b"Content-Length 5\r\n\r\n", Some(FrameFault::HeaderLine)),
-    (b"\r\n\r\n", Some(FrameFault::HeaderLine)),
-    (b"X: 1\r\n\r\n", Some(FrameFault::NoLength)),
-    (
-        b"Content-Length: 2\r\nContent-Length: 2\r\n\r\n",
-        Some(FrameFault::TwoLengths),
-    ),
-    (b"Content-Length: +5\r\n\r\n", Some(FrameFault::BadLength)),
-    (
-        b"Content-Length: 12345678901\r\n\r\n",
-        Some(FrameFault::BadLength),
-    ),
-];
-
-#[test]
-fn header_faults(rt: HostRuntime) {
-    for told in HEADER_FAULTS {
-        tells(&rt, rt.alloc(), told);
-    }
-}
-
-const SEVERAL_FAULTS: [Told; 2] = [
-    (
-        b"Content-Length: +5\r\nContent-Length 5\r\n\r\n",
-        Some(FrameFault::HeaderLine),
-    ),
-    (
-        b"Content-Length: 16777217\r\nContent-Length: 2\r\n\r\n",
-        Some(FrameFault::TwoLengths),
-    ),
-];
-
-#[test]
-fn first_fault_of_the_whole_header_part(rt: HostRuntime) {
-    for told in SEVERAL_FAULTS {
-        tells(&rt, rt.alloc(), told);
-    }
-}
-
-const LONG_CONTENTS: [Told; 3] = [
-    (b"Content-Length: 16777217\r\n\r", None),
-    (
-        b"Content-Length: 16777217\r\n\r\n",
-        Some(FrameFault::ContentTooLong),
-    ),
-    (b"Content-Length: 16777216\r\n\r\n", None),
-];
-
-#[test]
-fn content_too_long_is_told_before_any_content(rt: HostRuntime) {
-    for told in LONG_CONTENTS {
-        tells(&rt, rt.alloc(), told);
-    }
-}
 
 /// A call on a framer, and its answer.
 #[derive(Clone, Copy)]
@@ -148,9 +82,6 @@ fn answers_all(rt: &impl Abort, alloc: Global, steps: &[Step]) {
     }
 }
 
-/// As many bytes as a header part may have, and no line's end.
-const LETTERS: [u8; 4096] = [b'a'; 4096];
-
 #[test]
 fn header_too_long(rt: HostRuntime) {
     let steps = [
@@ -160,7 +91,6 @@ fn header_too_long(rt: HostRuntime) {
         Step::Refuses(b"a", FrameFault::HeaderTooLong),
     ];
     answers_all(&rt, rt.alloc(), &steps);
-    tells(&rt, rt.alloc(), (&LETTERS, Some(FrameFault::HeaderTooLong)));
 }
 
 const CUT: [Step; 4] = [
@@ -231,20 +161,19 @@ fn writes(
     limits.sound() && write_frame(&mut out, content, limits) == answer && out.as_slice() == after
 }
 
+/// What stands before a frame, its content, and the text with the frame after it.
+const WRITTEN: [(&[u8], &[u8], &[u8]); 2] = [
+    (b"", b"{}", b"Content-Length: 2\r\n\r\n{}"),
+    (
+        b"Content-Length: 2\r\n\r\n{}",
+        b"hello, world",
+        b"Content-Length: 2\r\n\r\n{}Content-Length: 12\r\n\r\nhello, world",
+    ),
+];
+
 #[test]
 fn written_frames(rt: HostRuntime) {
-    for (before, content, after) in [
-        (
-            b"".as_slice(),
-            b"{}".as_slice(),
-            b"Content-Length: 2\r\n\r\n{}".as_slice(),
-        ),
-        (
-            b"Content-Length: 2\r\n\r\n{}",
-            b"hello, world",
-            b"Content-Length: 2\r\n\r\n{}Content-Length: 12\r\n\r\nhello, world",
-        ),
-    ] {
+    for (before, content, after) in &WRITTEN {
         assert!(rt; writes(rt.alloc(), (before, content, 12), Ok(()), after));
     }
 }
@@ -263,27 +192,13 @@ const LIMITS_AND_WHETHER_SOUND: [(usize, usize, bool); 5] = [
     (65_536, 2_147_483_648, false),
 ];
 
-#[test]
-fn sound_limits(rt: HostRuntime) {
-    for (header, content, sound) in LIMITS_AND_WHETHER_SOUND {
-        assert!(rt; FrameLimits { header, content }.sound() == sound);
-    }
+fn is_sound(header: usize, content: usize) -> bool {
+    FrameLimits { header, content }.sound()
 }
 
-const TEXTS: [(FrameFault, &str); 8] = [
-    (FrameFault::HeaderLine, "HeaderLine"),
-    (FrameFault::NoLength, "NoLength"),
-    (FrameFault::TwoLengths, "TwoLengths"),
-    (FrameFault::BadLength, "BadLength"),
-    (FrameFault::HeaderTooLong, "HeaderTooLong"),
-    (FrameFault::ContentTooLong, "ContentTooLong"),
-    (FrameFault::Cut, "Cut"),
-    (FrameFault::Memory, "Memory"),
-];
-
 #[test]
-fn texts_of_faults(rt: HostRuntime) {
-    for (fault, text) in TEXTS {
-        assert!(rt; is_printed(rt.alloc(), &fault, text));
+fn sound_limits(rt: HostRuntime) {
+    for (header, content, sound) in &LIMITS_AND_WHETHER_SOUND {
+        assert!(rt; is_sound(*header, *content) == *sound);
     }
 }

@@ -10,8 +10,6 @@ mod frames;
 #[cfg(test)]
 mod lines;
 #[cfg(test)]
-mod masks;
-#[cfg(test)]
 mod messages;
 #[cfg(test)]
 mod names;

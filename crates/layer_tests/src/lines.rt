@@ -12,19 +12,9 @@ pub const INITIALIZE: Line = (
     "{\"arguments\":{\"adapterID\":\"mock\"},\"command\":\"initialize\",\"seq\":1,\"type\":\"request\"}",
 );
 
-pub const INITIALIZE_AGAIN: Line = (
-    Client,
-    "{\"arguments\":{\"adapterID\":\"mock\"},\"command\":\"initialize\",\"seq\":2,\"type\":\"request\"}",
-);
-
 pub const INITIALIZE_RESPONSE: Line = (
     Adapter,
     "{\"command\":\"initialize\",\"request_seq\":1,\"seq\":1,\"success\":true,\"type\":\"response\"}",
-);
-
-pub const INITIALIZED: Line = (
-    Adapter,
-    "{\"event\":\"initialized\",\"seq\":2,\"type\":\"event\"}",
 );
 
 pub const CONFIGURATION_DONE: Line = (
@@ -45,46 +35,6 @@ pub const THREADS: Line = (
 pub const STOPPED: Line = (
     Adapter,
     "{\"body\":{\"reason\":\"step\"},\"event\":\"stopped\",\"seq\":2,\"type\":\"event\"}",
-);
-
-pub const OUTPUT: Line = (
-    Adapter,
-    "{\"body\":{\"output\":\"hi\"},\"event\":\"output\",\"seq\":1,\"type\":\"event\"}",
-);
-
-pub const RUN_IN_TERMINAL: Line = (
-    Adapter,
-    "{\"arguments\":{\"args\":[\"sh\"],\"cwd\":\"/\"},\"command\":\"runInTerminal\",\"seq\":0,\"type\":\"request\"}",
-);
-
-pub const RUN_IN_TERMINAL_RESPONSE: Line = (
-    Client,
-    "{\"command\":\"runInTerminal\",\"request_seq\":0,\"seq\":2,\"success\":true,\"type\":\"response\"}",
-);
-
-pub const DISCONNECT: Line = (
-    Client,
-    "{\"command\":\"disconnect\",\"seq\":2,\"type\":\"request\"}",
-);
-
-pub const DISCONNECT_RESPONSE: Line = (
-    Adapter,
-    "{\"command\":\"disconnect\",\"request_seq\":2,\"seq\":2,\"success\":true,\"type\":\"response\"}",
-);
-
-pub const DISCONNECT_FAILED: Line = (
-    Adapter,
-    "{\"command\":\"disconnect\",\"request_seq\":2,\"seq\":2,\"success\":false,\"type\":\"response\"}",
-);
-
-pub const THREADS_THIRD: Line = (
-    Client,
-    "{\"command\":\"threads\",\"seq\":3,\"type\":\"request\"}",
-);
-
-pub const THREADS_FIRST: Line = (
-    Client,
-    "{\"command\":\"threads\",\"seq\":1,\"type\":\"request\"}",
 );
 
 /// The message of a line.

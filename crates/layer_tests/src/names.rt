@@ -1,8 +1,7 @@
 //! Names for the ids of messages.
-use crate::lines::{INITIALIZE, INITIALIZE_RESPONSE, Line, STOPPED, THREADS, message};
-use crate::texts::is_printed;
+use crate::lines::{INITIALIZE, Line, STOPPED, THREADS, message};
 use dap_message::Message;
-use dap_rename::{Mode, NameFault, Names, PairFault, PlainNames, Tables, laws};
+use dap_rename::{Mode, NameFault, Names, PlainNames, Tables, laws};
 use dap_tree::Side::{Adapter, Client};
 use dap_tree::Sort;
 use std::alloc::Global;
@@ -33,7 +32,7 @@ pub fn renamed(
 }
 
 /// A line that is renamed, and what it becomes.
-#[derive(Clone, Copy, Debug)]
+#[derive(Clone, Copy)]
 enum Step {
     /// This content.
     Text(Line, &'static str),
@@ -86,8 +85,8 @@ fn answers_all(rt: &impl Abort, alloc: Global, limit: u8, steps: &[Step]) {
 
 /// Asks that the names answer so.
 fn names_answer(rt: &impl Abort, alloc: Global, names: &mut Names<PlainNames>, steps: &[Step]) {
-    for step in steps {
-        assert!(rt; answers(alloc, names, *step), "{step:?}");
+    for (number, step) in steps.iter().enumerate() {
+        assert!(rt; answers(alloc, names, *step), "step {number}");
     }
 }
 
@@ -138,9 +137,6 @@ pub const STACK_TRACE: Line = (
     "{\"arguments\":{\"threadId\":1},\"command\":\"stackTrace\",\"seq\":2,\"type\":\"request\"}",
 );
 
-const STACK_TRACE_TEXT: &str =
-    "{\"arguments\":{\"threadId\":1},\"command\":\"stackTrace\",\"seq\":2,\"type\":\"request\"}";
-
 pub const TWO_FRAMES: Line = (
     Adapter,
     "{\"body\":{\"stackFrames\":[{\"column\":1,\"id\":1000,\"line\":3,\"name\":\"f\"},{\"column\":1,\"id\":1001,\"line\":9,\"name\":\"g\"}]},\"command\":\"stackTrace\",\"request_seq\":2,\"seq\":2,\"success\":true,\"type\":\"response\"}",
@@ -150,80 +146,6 @@ pub const FRAMES_EXCHANGED: Line = (
     Adapter,
     "{\"body\":{\"stackFrames\":[{\"column\":1,\"id\":1001,\"line\":3,\"name\":\"f\"},{\"column\":1,\"id\":1000,\"line\":9,\"name\":\"g\"}]},\"command\":\"stackTrace\",\"request_seq\":2,\"seq\":2,\"success\":true,\"type\":\"response\"}",
 );
-
-/// The content of either, renamed: 186 bytes.
-const FRAMES_NAMED: &str =
-    "{\"body\":{\"stackFrames\":[{\"column\":1,\"id\":1,\"line\":3,\"name\":\"f\"},{\"column\":1,\"id\":2,\"line\":9,\"name\":\"g\"}]},\"command\":\"stackTrace\",\"request_seq\":2,\"seq\":2,\"success\":true,\"type\":\"response\"}";
-
-const INITIALIZE_IDS: &[(Sort, i64)] = &[(Sort::ClientSeq, 1), (Sort::AdapterSeq, 1)];
-
-/// Asks that frames become the named ones.
-fn frames_become(rt: &impl Abort, alloc: Global, frames: Line) {
-    let steps = [
-        Step::Text(INITIALIZE, INITIALIZE_TEXT),
-        Step::Ids(INITIALIZE_RESPONSE, INITIALIZE_IDS),
-        Step::Text(STACK_TRACE, STACK_TRACE_TEXT),
-        Step::Text(frames, FRAMES_NAMED),
-        Step::Count(Sort::Frame, 2),
-    ];
-    answers_all(rt, alloc, 100, &steps);
-}
-
-#[test]
-fn exchanged_frame_ids(rt: HostRuntime) {
-    assert!(rt; FRAMES_NAMED.len() == 186);
-    frames_become(&rt, rt.alloc(), TWO_FRAMES);
-    frames_become(&rt, rt.alloc(), FRAMES_EXCHANGED);
-}
-
-const REFERENCES: [Step; 3] = [
-    Step::Text(
-        (
-            Client,
-            "{\"arguments\":{\"variablesReference\":9},\"command\":\"variables\",\"seq\":2,\"type\":\"request\"}",
-        ),
-        "{\"arguments\":{\"variablesReference\":1},\"command\":\"variables\",\"seq\":1,\"type\":\"request\"}",
-    ),
-    Step::Text(
-        (
-            Adapter,
-            "{\"body\":{\"variables\":[{\"name\":\"a\",\"value\":\"1\",\"variablesReference\":0},{\"name\":\"b\",\"value\":\"1\",\"variablesReference\":5},{\"name\":\"c\",\"value\":\"1\",\"variablesReference\":0},{\"name\":\"d\",\"value\":\"1\",\"variablesReference\":5},{\"name\":\"e\",\"value\":\"1\",\"variablesReference\":3}]},\"command\":\"variables\",\"request_seq\":2,\"seq\":2,\"success\":true,\"type\":\"response\"}",
-        ),
-        "{\"body\":{\"variables\":[{\"name\":\"a\",\"value\":\"1\",\"variablesReference\":0},{\"name\":\"b\",\"value\":\"1\",\"variablesReference\":2},{\"name\":\"c\",\"value\":\"1\",\"variablesReference\":0},{\"name\":\"d\",\"value\":\"1\",\"variablesReference\":2},{\"name\":\"e\",\"value\":\"1\",\"variablesReference\":3}]},\"command\":\"variables\",\"request_seq\":1,\"seq\":1,\"success\":true,\"type\":\"response\"}",
-    ),
-    Step::Count(Sort::Reference, 3),
-];
-
-#[test]
-fn references_of_variables(rt: HostRuntime) {
-    answers_all(&rt, rt.alloc(), 100, &REFERENCES);
-}
-
-const APART: [Step; 2] = [
-    Step::Ids(
-        (
-            Client,
-            "{\"arguments\":{\"expression\":\"x\",\"frameId\":5},\"command\":\"evaluate\",\"seq\":2,\"type\":\"request\"}",
-        ),
-        &[(Sort::Frame, 1), (Sort::ClientSeq, 1)],
-    ),
-    Step::Ids(
-        (
-            Adapter,
-            "{\"body\":{\"result\":\"1\",\"variablesReference\":6},\"command\":\"evaluate\",\"request_seq\":2,\"seq\":2,\"success\":true,\"type\":\"response\"}",
-        ),
-        &[
-            (Sort::Reference, 1),
-            (Sort::ClientSeq, 1),
-            (Sort::AdapterSeq, 1),
-        ],
-    ),
-];
-
-#[test]
-fn frames_apart_from_references(rt: HostRuntime) {
-    answers_all(&rt, rt.alloc(), 100, &APART);
-}
 
 /// A frame of a stop, and one of the next.
 pub const FRAME: Line = (
@@ -281,29 +203,6 @@ fn frames_go_on_behind_a_stop(rt: HostRuntime) {
     let mut names = names_of_mode(rt.alloc(), (100, 1), Mode::Whole);
     assert!(rt; names.mode() == Mode::Whole);
     names_answer(&rt, rt.alloc(), &mut names, &GO_ON);
-}
-
-const NAME_FAULTS: [(NameFault, &str); 2] = [
-    (NameFault::Full, "Full"),
-    (NameFault::Memory, "Memory"),
-];
-
-const PAIR_FAULTS: [(PairFault, &str); 5] = [
-    (PairFault::BadStop(4), "BadStop 4"),
-    (PairFault::ZeroReference(1), "ZeroReference 1"),
-    (PairFault::FromTwice(2), "FromTwice 2"),
-    (PairFault::ToTwice(3), "ToTwice 3"),
-    (PairFault::Memory, "Memory"),
-];
-
-#[test]
-fn texts_of_faults(rt: HostRuntime) {
-    for (fault, text) in &NAME_FAULTS {
-        assert!(rt; is_printed(rt.alloc(), fault, text));
-    }
-    for (fault, text) in &PAIR_FAULTS {
-        assert!(rt; is_printed(rt.alloc(), fault, text));
-    }
 }
 
 #[test]

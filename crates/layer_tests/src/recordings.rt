@@ -1,5 +1,4 @@
-//! Recordings and traces read and written, and frames recorded.
-use crate::texts::is_printed;
+//! Readers of records and traces that go on after a fault or step by step, and frames recorded.
 use dap_frame::{FrameFault, FrameLimits};
 use dap_recording::{
     FedRecord, FedTrace, Record, RecordCause, RecordFault, RecordReader, Recorder, RecorderFault,
@@ -13,43 +12,6 @@ const LIMITS: FrameLimits = FrameLimits {
     header: 4096,
     content: 16_777_216,
 };
-
-/// The fault that a new reader tells of these bytes, which hold at most one record, or of their
-/// end.
-fn record_fault(alloc: Global, bytes: &[u8]) -> Option<RecordFault> {
-    let mut reader = RecordReader::new(alloc, LIMITS);
-    match reader.feed(bytes).err() {
-        None => reader.finish().err(),
-        fault => fault,
-    }
-}
-
-const RECORD_FAULTS: [(&[u8], RecordCause); 6] = [
-    (b"!", RecordCause::BadMarker),
-    (b">Content-Length: 2\r\n\r\n{}x", RecordCause::NoLineEnd),
-    (
-        b">Content-Length: 82\r\n\r\n{\"arguments\":{\"adapterID\":\"mock\"},\"command\":\"initialize\",\"seq\":1,\"type\":\"request\"",
-        RecordCause::Cut,
-    ),
-    (b">Content-Length: 2\r\n\r\n{}", RecordCause::Cut),
-    (b">", RecordCause::Cut),
-    (
-        b">Content-Length: 16777217\r\n\r\n",
-        RecordCause::Frame(FrameFault::ContentTooLong),
-    ),
-];
-
-fn has_record_fault(alloc: Global, bytes: &[u8], cause: RecordCause) -> bool {
-    record_fault(alloc, bytes) == Some(RecordFault { number: 1, cause })
-}
-
-#[test]
-fn record_faults(rt: HostRuntime) {
-    for (bytes, cause) in &RECORD_FAULTS {
-        assert!(rt; has_record_fault(rt.alloc(), bytes, *cause));
-    }
-    assert!(rt; record_fault(rt.alloc(), b"") == None);
-}
 
 fn is_record(record: &Record, side: Side, content: &[u8]) -> bool {
     record.side == side && record.content.as_slice() == content
@@ -76,54 +38,20 @@ const BAD_MARKER: RecordFault = RecordFault {
 /// A record of 27 bytes, and a byte that is no marker.
 const FAULTY: &[u8] = b"<Content-Length: 4\r\n\r\nnull\n!";
 
+/// Returns whether a reader reports the fault, and reports it again at each later call.
+fn shows_bad_marker(reader: &mut RecordReader) -> bool {
+    reader.feed(b"!").err() == Some(BAD_MARKER)
+        && reader.feed(FAULTY).err() == Some(BAD_MARKER)
+        && reader.finish() == Err(BAD_MARKER)
+}
+
 #[test]
 fn second_record_and_its_fault(rt: HostRuntime) {
     let mut reader = RecordReader::new(rt.alloc(), LIMITS);
     assert!(rt; FAULTY.len() == 28);
     assert!(rt; reads(&mut reader, FAULTY, 27, Side::Adapter, b"null"));
     assert!(rt; reader.finish() == Ok(()));
-    assert!(rt; reader.feed(b"!").err() == Some(BAD_MARKER));
-    assert!(rt; reader.feed(FAULTY).err() == Some(BAD_MARKER));
-    assert!(rt; reader.finish() == Err(BAD_MARKER));
-}
-
-const TWO_RECORDS: &[u8] = b">Content-Length: 2\r\n\r\n{}\n<Content-Length: 4\r\n\r\nnull\n";
-
-/// Writes a record that was read, if there is one. Whether one byte was taken.
-fn writes_again(out: &mut Vec<u8>, fed: &FedRecord) -> bool {
-    let is_written = match &fed.whole {
-        None => true,
-        Some(record) => {
-            write_record(out, record.side, record.content.as_slice(), LIMITS) == Ok(())
-        }
-    };
-    is_written && fed.used == 1
-}
-
-fn reads_and_writes(reader: &mut RecordReader, out: &mut Vec<u8>, byte: u8) -> bool {
-    match reader.feed(&[byte]) {
-        Ok(fed) => writes_again(out, &fed),
-        Err(_) => false,
-    }
-}
-
-#[test]
-fn written_records(rt: HostRuntime) {
-    let mut out = Vec::new(rt.alloc());
-    assert!(rt; write_record(&mut out, Side::Client, b"{}", LIMITS) == Ok(()));
-    assert!(rt; write_record(&mut out, Side::Adapter, b"null", LIMITS) == Ok(()));
-    assert!(rt; out.as_slice() == TWO_RECORDS);
-}
-
-#[test]
-fn written_records_one_byte_at_a_time(rt: HostRuntime) {
-    let mut read = Vec::new(rt.alloc());
-    let mut reader = RecordReader::new(rt.alloc(), LIMITS);
-    for byte in TWO_RECORDS {
-        assert!(rt; reads_and_writes(&mut reader, &mut read, *byte));
-    }
-    assert!(rt; reader.finish() == Ok(()));
-    assert!(rt; read.as_slice() == TWO_RECORDS);
+    assert!(rt; shows_bad_marker(&mut reader));
 }
 
 /// Contents of one byte.
@@ -157,27 +85,14 @@ fn trace_fault(rt: &impl Abort, bytes: &[u8]) -> Option<TraceFault> {
     reader.finish().err()
 }
 
-const TRACE_FAULTS: [(&[u8], u64, TraceCause); 8] = [
-    (b">01\n", 1, TraceCause::BadCount),
-    (b">\n", 1, TraceCause::BadCount),
-    (b">1x", 1, TraceCause::BadCount),
-    (b">99999999990", 1, TraceCause::BadCount),
-    (b">9999999999", 1, TraceCause::Cut),
-    (b"x", 1, TraceCause::BadMarker),
-    (b">10\nCont", 1, TraceCause::Cut),
-    (b"<0\n>2\n{}!", 3, TraceCause::BadMarker),
-];
-
-fn has_trace_fault(rt: &impl Abort, bytes: &[u8], piece: u64, cause: TraceCause) -> bool {
-    trace_fault(rt, bytes) == Some(TraceFault { piece, cause })
-}
+const BAD_PIECE: TraceFault = TraceFault {
+    piece: 3,
+    cause: TraceCause::BadMarker,
+};
 
 #[test]
-fn trace_faults(rt: HostRuntime) {
-    for (bytes, piece, cause) in &TRACE_FAULTS {
-        assert!(rt; has_trace_fault(&rt, bytes, *piece, *cause));
-    }
-    assert!(rt; trace_fault(&rt, b"") == None);
+fn third_piece_and_its_fault(rt: HostRuntime) {
+    assert!(rt; trace_fault(&rt, b"<0\n>2\n{}!") == Some(BAD_PIECE));
     assert!(rt; trace_fault(&rt, b"<0\n>2\n{}") == None);
 }
 
@@ -237,23 +152,20 @@ fn record_input(rt: &impl Abort, reader: &mut TraceReader, recorder: &mut Record
     }
 }
 
-/// Asks for what a new recorder makes of a trace that comes so many bytes at a time: the text, and
-/// what `finish` tells.
-fn records(
-    rt: &impl Abort,
-    alloc: Global,
-    (trace, step): (&[u8], usize),
-    text: &[u8],
-    end: Result<(), RecorderFault>,
-) {
+/// Returns the recorder of a trace that comes this many bytes at a time.
+fn recorder_of(rt: &impl Abort, alloc: Global, trace: &[u8], step: usize) -> Recorder {
     assert!(rt; 0 < step);
     let mut recorder = Recorder::new(alloc, LIMITS);
     let mut reader = TraceReader::new();
     for input in trace.chunks(step) {
         record_input(rt, &mut reader, &mut recorder, input);
     }
-    assert_eq!(rt; recorder.text(), text);
-    assert_eq!(rt; recorder.finish(), end);
+    recorder
+}
+
+/// Returns whether the recorder has these records and no fault.
+fn has_recorded(recorder: &Recorder, text: &[u8]) -> bool {
+    recorder.text() == text && recorder.finish() == Ok(())
 }
 
 const BOTH_SIDES: &[u8] =
@@ -264,83 +176,39 @@ const RECORDED: &[u8] = b"<Content-Length: 4\r\n\r\nnull\n>Content-Length: 2\r\n
 #[test]
 fn records_stand_in_the_order_of_their_last_bytes(rt: HostRuntime) {
     for step in 1..64 {
-        records(&rt, rt.alloc(), (BOTH_SIDES, step), RECORDED, Ok(()));
+        let recorder = recorder_of(&rt, rt.alloc(), BOTH_SIDES, step);
+        assert!(rt; has_recorded(&recorder, RECORDED), "{step} bytes");
     }
-}
-
-const CUT: &[u8] = b"<25\nContent-Length: 4\r\n\r\nnull>10\nContent-Le";
-
-const CLIENT_CUT: Result<(), RecorderFault> = Err(RecorderFault::Frame(
-    Side::Client,
-    FrameFault::Cut,
-));
-
-#[test]
-fn cut_in_a_frame_of_the_client(rt: HostRuntime) {
-    let text = b"<Content-Length: 4\r\n\r\nnull\n";
-    records(&rt, rt.alloc(), (CUT, 7), text, CLIENT_CUT);
-    records(&rt, rt.alloc(), (b"", 1), b"", Ok(()));
 }
 
 const FRAME: &[u8] = b"Content-Length: 2\r\n\r\n{}";
 
 const NO_LENGTH: RecorderFault = RecorderFault::Frame(Side::Adapter, FrameFault::NoLength);
 
-/// Pieces of a side, and what a recorder answers.
-const PIECES: [(Side, &[u8], Result<usize, RecorderFault>); 3] = [
+/// A piece of a side, and what a recorder returns.
+type Piece = (Side, &'static [u8], Result<usize, RecorderFault>);
+
+const PIECES: [Piece; 3] = [
     (Side::Client, FRAME, Ok(23)),
     (Side::Adapter, b"X: 1\r\n\r\n", Err(NO_LENGTH)),
     (Side::Client, FRAME, Err(NO_LENGTH)),
 ];
 
+fn answers(recorder: &mut Recorder, piece: &Piece) -> bool {
+    let (side, bytes, answer) = piece;
+    recorder.piece(*side, bytes) == *answer
+}
+
+fn has_stopped(recorder: &Recorder) -> bool {
+    recorder.finish() == Err(NO_LENGTH)
+        && recorder.text() == b">Content-Length: 2\r\n\r\n{}\n".as_slice()
+}
+
 #[test]
 fn fault_of_one_side_stops_both(rt: HostRuntime) {
     let mut recorder = Recorder::new(rt.alloc(), LIMITS);
-    for (side, bytes, answer) in &PIECES {
-        assert!(rt; recorder.piece(*side, bytes) == *answer);
+    for piece in &PIECES {
+        assert!(rt; answers(&mut recorder, piece));
     }
-    assert!(rt; recorder.finish() == Err(NO_LENGTH));
-    assert!(rt; recorder.text() == b">Content-Length: 2\r\n\r\n{}\n".as_slice());
-}
-
-const RECORD_TEXTS: [(RecordCause, &str); 5] = [
-    (RecordCause::BadMarker, "BadMarker"),
-    (
-        RecordCause::Frame(FrameFault::ContentTooLong),
-        "ContentTooLong",
-    ),
-    (RecordCause::NoLineEnd, "NoLineEnd"),
-    (RecordCause::Cut, "Cut"),
-    (RecordCause::Memory, "Memory"),
-];
-
-const RECORDER_TEXTS: [(RecorderFault, &str); 3] = [
-    (
-        RecorderFault::Frame(Side::Client, FrameFault::HeaderLine),
-        "client HeaderLine",
-    ),
-    (
-        RecorderFault::Frame(Side::Adapter, FrameFault::Cut),
-        "adapter Cut",
-    ),
-    (RecorderFault::Memory, "Memory"),
-];
-
-const TRACE_TEXTS: [(TraceCause, &str); 3] = [
-    (TraceCause::BadMarker, "BadMarker"),
-    (TraceCause::BadCount, "BadCount"),
-    (TraceCause::Cut, "Cut"),
-];
-
-#[test]
-fn texts_of_faults(rt: HostRuntime) {
-    for (cause, text) in &RECORD_TEXTS {
-        assert!(rt; is_printed(rt.alloc(), cause, text));
-    }
-    for (fault, text) in &RECORDER_TEXTS {
-        assert!(rt; is_printed(rt.alloc(), fault, text));
-    }
-    for (cause, text) in &TRACE_TEXTS {
-        assert!(rt; is_printed(rt.alloc(), cause, text));
-    }
+    assert!(rt; has_stopped(&recorder));
 }

@@ -51,7 +51,7 @@ fn pairs_that_are_none(rt: HostRuntime) {
     let first = pair(Sort::Frame, 5, 6);
     let zero = pair(Sort::Reference, 0, 0);
     let to_zero = pair(Sort::Reference, 1, 0);
-    for (pairs, fault) in [
+    for (pairs, fault) in &[
         (
             [first, pair(Sort::Frame, 5, 7)].as_slice(),
             PairFault::FromTwice(2),
@@ -75,15 +75,15 @@ fn pairs_that_are_none(rt: HostRuntime) {
             PairFault::ZeroReference(2),
         ),
     ] {
-        assert!(rt; is_renaming(rt.alloc(), pairs, Err(fault)));
+        assert!(rt; is_renaming(rt.alloc(), pairs, Err(*fault)));
     }
 }
 
 /// The messages of a session with those frames.
 fn session(rt: &impl Abort, alloc: Global, frames: Line) -> Vec<Message> {
     let mut messages = Vec::new(alloc);
-    for line in [INITIALIZE, INITIALIZE_RESPONSE, STACK_TRACE, frames] {
-        let message = message(alloc, line).expect(rt, "no message");
+    for line in &[INITIALIZE, INITIALIZE_RESPONSE, STACK_TRACE, frames] {
+        let message = message(alloc, *line).expect(rt, "no message");
         messages.push(message).expect(rt, "no memory");
     }
     messages
@@ -109,8 +109,8 @@ fn pairs_of_two_frames(stop: u64) -> [Pair; 5] {
 #[test]
 fn renaming_between_names_with_a_stop(rt: HostRuntime) {
     let mut names = names_of_mode(rt.alloc(), (100, 1), Mode::PerStop);
-    for line in [FRAME, STOPPED, NEXT_FRAME] {
-        assert!(rt; renamed(rt.alloc(), &mut names, line).is_ok());
+    for line in &[FRAME, STOPPED, NEXT_FRAME] {
+        assert!(rt; renamed(rt.alloc(), &mut names, *line).is_ok());
     }
     let renaming = own_pairs(rt.alloc(), &names).expect(&rt, "no renaming");
     assert!(rt; renaming.pairs() == pairs_of_two_frames(1).as_slice());
@@ -255,23 +255,26 @@ fn carries(rt: &impl Abort, alloc: Global, from: Line, to: Line) -> bool {
 fn carries_frames(rt: &impl Abort, alloc: Global, pairs: &[Pair], mode: Mode) -> bool {
     let renaming = Renaming::new(alloc, pairs).expect(rt, "no renaming");
     let mut messages = Vec::new(alloc);
-    for line in [FRAME, STOPPED, NEXT_FRAME] {
-        let message = message(alloc, line).expect(rt, "no message");
+    for line in &[FRAME, STOPPED, NEXT_FRAME] {
+        let message = message(alloc, *line).expect(rt, "no message");
         messages.push(message).expect(rt, "no memory");
     }
     renaming.carries(messages.as_slice(), messages.as_slice(), mode)
 }
 
+/// The stop of the second frame, the mode, and whether the frames are carried.
+const OF_STOPS: [(u64, Mode, bool); 4] = [
+    (1, Mode::PerStop, true),
+    (1, Mode::Whole, false),
+    (0, Mode::Whole, true),
+    (0, Mode::PerStop, false),
+];
+
 #[test]
 fn carried_by_the_pairs_of_each_stop(rt: HostRuntime) {
-    for (stop, mode, carries) in [
-        (1, Mode::PerStop, true),
-        (1, Mode::Whole, false),
-        (0, Mode::Whole, true),
-        (0, Mode::PerStop, false),
-    ] {
-        let pairs = pairs_of_two_frames(stop);
-        assert!(rt; carries_frames(&rt, rt.alloc(), &pairs, mode) == carries);
+    for (stop, mode, carries) in &OF_STOPS {
+        let pairs = pairs_of_two_frames(*stop);
+        assert!(rt; carries_frames(&rt, rt.alloc(), &pairs, *mode) == *carries);
     }
 }
 

@@ -9,7 +9,7 @@ fn hasher() -> BuildHasherDefault<FoldHasher> {
 }
 
 /// A call on a table, and its answer.
-#[derive(Clone, Copy, Debug)]
+#[derive(Clone, Copy)]
 enum Step {
     Name(i64, Result<i64, NameFault>),
     Find(i64, Option<i64>),
@@ -44,8 +44,8 @@ fn answers<T: NameTable>(table: &mut T, step: Step) -> bool {
 
 /// Asks that a table answers these calls so.
 fn answers_all<T: NameTable>(rt: &impl Abort, table: &mut T, steps: &[Step]) {
-    for step in steps {
-        assert!(rt; answers(table, *step), "{step:?}");
+    for (number, step) in steps.iter().enumerate() {
+        assert!(rt; answers(table, *step), "step {number}");
     }
 }
 

@@ -1,8 +1,79 @@
-//! What is printed of a value.
+//! Texts of faults and sides that no command prints.
+use dap_frame::FrameFault;
+use dap_message::MessageFault;
+use dap_recording::{RecordCause, RecorderFault};
+use dap_rename::{NameFault, PairFault};
+use dap_session::{Rule, SessionFault};
+use dap_tree::{Side, TreeFault};
 use std::alloc::Global;
 use std::fmt::Display;
 
-/// Whether the value is printed so.
-pub fn is_printed<D: Display>(alloc: Global, value: &D, text: &str) -> bool {
+/// Returns whether the value has this text.
+fn is_printed<D: Display>(alloc: Global, value: &D, text: &str) -> bool {
     matches!(format!(in alloc; "{value}"), Ok(printed) if printed.as_str() == text)
+}
+
+/// Returns whether each fault of a failed allocation has the text `Memory`.
+fn is_memory_printed(alloc: Global) -> bool {
+    is_printed(alloc, &FrameFault::Memory, "Memory")
+        && is_printed(alloc, &MessageFault::Memory, "Memory")
+        && is_printed(alloc, &RecordCause::Memory, "Memory")
+        && is_printed(alloc, &RecorderFault::Memory, "Memory")
+        && is_printed(alloc, &SessionFault::Memory, "Memory")
+}
+
+#[test]
+fn texts_of_memory(rt: HostRuntime) {
+    assert!(rt; is_memory_printed(rt.alloc()));
+}
+
+/// Returns whether the sides and the faults of trees have their texts.
+fn are_trees_printed(alloc: Global) -> bool {
+    is_printed(alloc, &Side::Client, "client")
+        && is_printed(alloc, &Side::Adapter, "adapter")
+        && is_printed(alloc, &TreeFault::Json, "Json")
+        && is_printed(alloc, &TreeFault::Fraction, "Fraction")
+        && is_printed(alloc, &TreeFault::Memory, "Memory")
+}
+
+#[test]
+fn texts_of_trees(rt: HostRuntime) {
+    assert!(rt; are_trees_printed(rt.alloc()));
+}
+
+/// Returns whether the faults of names and of pairs have their texts.
+fn are_names_printed(alloc: Global) -> bool {
+    is_printed(alloc, &NameFault::Full, "Full")
+        && is_printed(alloc, &NameFault::Memory, "Memory")
+        && is_printed(alloc, &PairFault::BadStop(4), "BadStop 4")
+        && is_printed(alloc, &PairFault::ZeroReference(1), "ZeroReference 1")
+        && is_printed(alloc, &PairFault::FromTwice(2), "FromTwice 2")
+        && is_printed(alloc, &PairFault::ToTwice(3), "ToTwice 3")
+        && is_printed(alloc, &PairFault::Memory, "Memory")
+}
+
+#[test]
+fn texts_of_names(rt: HostRuntime) {
+    assert!(rt; are_names_printed(rt.alloc()));
+}
+
+const RULES: [(Rule, &str); 11] = [
+    (Rule::EventFromClient, "EventFromClient"),
+    (Rule::NotInitialized, "NotInitialized"),
+    (Rule::StillInitializing, "StillInitializing"),
+    (Rule::InitializeTwice, "InitializeTwice"),
+    (Rule::AfterDisconnect, "AfterDisconnect"),
+    (Rule::SeqUsed, "SeqUsed"),
+    (Rule::ConfiguredEarly, "ConfiguredEarly"),
+    (Rule::ConfiguredTwice, "ConfiguredTwice"),
+    (Rule::NoRequest, "NoRequest"),
+    (Rule::AnsweredTwice, "AnsweredTwice"),
+    (Rule::OtherCommand, "OtherCommand"),
+];
+
+#[test]
+fn texts_of_broken_rules(rt: HostRuntime) {
+    for (rule, text) in &RULES {
+        assert!(rt; is_printed(rt.alloc(), &SessionFault::Broken(*rule), text));
+    }
 }

@@ -1,81 +1,12 @@
-//! Trees read, looked into, changed, copied and written.
-use crate::texts::is_printed;
+//! Calls on trees: members, ids, copies and texts.
 use dap_tree::{
-    Scratch, Side, Sort, Tree, TreeFault, laws, read_tree, read_tree_with, write_tree,
-    write_tree_to,
+    Scratch, Sort, Tree, TreeFault, laws, read_tree, read_tree_with, write_tree, write_tree_to,
 };
 use std::alloc::Global;
-use std::process::Abort;
 
 /// Whether the tree is sound and written so.
 pub fn is_written(alloc: Global, tree: &Tree, text: &str) -> bool {
     tree.sound() && matches!(write_tree(alloc, tree), Ok(written) if written.as_str() == text)
-}
-
-/// A content, and the text of its tree, or why it has none.
-type Reading = (&'static [u8], Result<&'static str, TreeFault>);
-
-/// Asks that a content is read so.
-fn reads(rt: &impl Abort, alloc: Global, (content, wanted): Reading) {
-    match (read_tree(alloc, content), wanted) {
-        (Ok(tree), Ok(text)) => assert!(rt; is_written(alloc, &tree, text), "{text}"),
-        (Err(fault), Err(wanted)) => assert_eq!(rt; fault, wanted),
-        _ => assert!(rt; false, "{wanted:?}"),
-    }
-}
-
-const NUMBERS: [Reading; 6] = [
-    (b"18446744073709551615", Ok("18446744073709551615")),
-    (b"-9223372036854775808", Ok("-9223372036854775808")),
-    (b"18446744073709551616", Err(TreeFault::Fraction)),
-    (b"-9223372036854775809", Err(TreeFault::Fraction)),
-    (b"-0", Err(TreeFault::Fraction)),
-    (b"[1e3]", Err(TreeFault::Fraction)),
-];
-
-#[test]
-fn whole_numbers(rt: HostRuntime) {
-    for reading in NUMBERS {
-        reads(&rt, rt.alloc(), reading);
-    }
-}
-
-static NINES: [u8; 400] = [b'9'; 400];
-
-#[test]
-fn integers_of_many_digits(rt: HostRuntime) {
-    let alloc = rt.alloc();
-    assert!(rt; read_tree(alloc, &NINES[..300]).err() == Some(TreeFault::Fraction));
-    assert!(rt; read_tree(alloc, &NINES).err() == Some(TreeFault::Json));
-}
-
-const CONTENTS: [Reading; 5] = [
-    (b" [ 0 ]\n", Ok("[0]")),
-    (b"", Err(TreeFault::Json)),
-    (b"[0", Err(TreeFault::Json)),
-    (b"[1e999]", Err(TreeFault::Json)),
-    (b"\"\xff\"", Err(TreeFault::Json)),
-];
-
-#[test]
-fn json_and_other_contents(rt: HostRuntime) {
-    for reading in CONTENTS {
-        reads(&rt, rt.alloc(), reading);
-    }
-}
-
-/// Contents with a fraction, which a later member of the same name may replace.
-const FRACTIONS: [Reading; 3] = [
-    (b"{\"a\":1.5,\"a\":2}", Ok("{\"a\":2}")),
-    (b"{\"a\":2,\"a\":1.5}", Err(TreeFault::Fraction)),
-    (b"[1.5,}", Err(TreeFault::Json)),
-];
-
-#[test]
-fn fractions_tell_of_the_whole_text(rt: HostRuntime) {
-    for reading in FRACTIONS {
-        reads(&rt, rt.alloc(), reading);
-    }
 }
 
 /// Appends the text of the tree of a content. Whether it has one.
@@ -96,39 +27,11 @@ const APPENDED: [&[u8]; 3] = [
 fn appended_texts(rt: HostRuntime) {
     let mut scratch = Scratch::new(rt.alloc());
     let mut out = Vec::new(rt.alloc());
-    for content in APPENDED {
+    for content in &APPENDED {
         assert!(rt; appends(rt.alloc(), content, &mut scratch, &mut out));
     }
     assert!(rt; !appends(rt.alloc(), b"[1,", &mut scratch, &mut out));
     assert!(rt; out.as_slice() == b"[1]{\"a\":\"b\"}{\"a\":2}".as_slice());
-}
-
-/// A text of 17 bytes.
-const UNESCAPED: &str = "{\"a\":\"\u{e9}/\\u0001\"}";
-
-#[test]
-fn escapes(rt: HostRuntime) {
-    assert!(rt; UNESCAPED.len() == 17);
-    let content = b"{\"a\":\"\\u00e9\\/\\u0001\"}";
-    reads(&rt, rt.alloc(), (content, Ok(UNESCAPED)));
-}
-
-#[test]
-fn members_by_name(rt: HostRuntime) {
-    let content = b"{\"b\":1,\"a\":[true,null],\"B\":{},\"b\":2,\"\":3}";
-    let text = "{\"\":3,\"B\":{},\"a\":[true,null],\"b\":2}";
-    reads(&rt, rt.alloc(), (content, Ok(text)));
-}
-
-fn nested_text(alloc: Global, levels: usize) -> Result<String, TreeFault> {
-    let mut text = String::new(alloc);
-    for _ in 0..levels {
-        text.push_str("[")?;
-    }
-    for _ in 0..levels {
-        text.push_str("]")?;
-    }
-    Ok(text)
 }
 
 fn nested_tree(alloc: Global, levels: usize) -> Result<Tree, TreeFault> {
@@ -141,34 +44,12 @@ fn nested_tree(alloc: Global, levels: usize) -> Result<Tree, TreeFault> {
     Ok(tree)
 }
 
-/// Whether the tree of a text, and a copy of it, are written so again.
-fn stays(alloc: Global, text: &str) -> bool {
-    match read_tree(alloc, text.as_bytes()) {
-        Ok(tree) => is_written(alloc, &tree, text) && is_copied(alloc, &tree, text),
-        Err(_) => false,
-    }
-}
-
 /// Whether a copy of the tree is sound and written so.
 pub fn is_copied(alloc: Global, tree: &Tree, text: &str) -> bool {
     match tree.copy(alloc) {
         Ok(copy) => is_written(alloc, &copy, text),
         Err(_) => false,
     }
-}
-
-fn is_nested_too_deep(alloc: Global, levels: usize) -> bool {
-    match nested_text(alloc, levels) {
-        Ok(text) => read_tree(alloc, text.as_bytes()).err() == Some(TreeFault::Json),
-        Err(_) => false,
-    }
-}
-
-#[test]
-fn nesting(rt: HostRuntime) {
-    let alloc = rt.alloc();
-    assert!(rt; matches!(nested_text(alloc, 127), Ok(text) if stays(alloc, text.as_str())));
-    assert!(rt; is_nested_too_deep(alloc, 128));
 }
 
 /// Numbers, and whether a tree of each is sound.
@@ -192,8 +73,8 @@ fn is_sound_at(alloc: Global, levels: usize) -> Option<bool> {
 
 #[test]
 fn sound_trees(rt: HostRuntime) {
-    for (number, sound) in WHOLE {
-        assert!(rt; is_sound(number) == sound);
+    for (number, sound) in &WHOLE {
+        assert!(rt; is_sound(*number) == *sound);
     }
     assert!(rt; is_sound_at(rt.alloc(), 127) == Some(true));
     assert!(rt; is_sound_at(rt.alloc(), 128) == Some(false));
@@ -358,6 +239,22 @@ fn copied_ids(rt: HostRuntime) {
     assert!(rt; matches!(evaluate_request(alloc), Ok(tree) if is_copied_with_ids(alloc, &tree)));
 }
 
+/// Returns whether a copy of this many nested lists has their text, two bytes for each list.
+fn is_nest_copied(alloc: Global, levels: usize) -> bool {
+    match nested_tree(alloc, levels) {
+        Ok(tree) if tree.sound() => match write_tree(alloc, &tree) {
+            Ok(text) => text.len() / 2 == levels && is_copied(alloc, &tree, text.as_str()),
+            Err(_) => false,
+        },
+        _ => false,
+    }
+}
+
+#[test]
+fn copy_of_nested_lists(rt: HostRuntime) {
+    assert!(rt; is_nest_copied(rt.alloc(), 127));
+}
+
 /// A list of two ids.
 fn ids(alloc: Global) -> Result<Tree, TreeFault> {
     let mut items = Vec::new(alloc);
@@ -374,13 +271,6 @@ fn ids_written_as_numbers(rt: HostRuntime) {
 }
 
 #[test]
-fn side_texts(rt: HostRuntime) {
-    for (side, text) in [(Side::Client, "client"), (Side::Adapter, "adapter")] {
-        assert!(rt; is_printed(rt.alloc(), &side, text));
-    }
-}
-
-#[test]
 fn order_of_sorts(rt: HostRuntime) {
     assert!(rt;
         Sort::ClientSeq < Sort::AdapterSeq
@@ -389,17 +279,6 @@ fn order_of_sorts(rt: HostRuntime) {
             && Sort::Reference < Sort::Thread
             && Sort::Thread < Sort::Breakpoint
     );
-}
-
-#[test]
-fn fault_texts(rt: HostRuntime) {
-    for (fault, text) in [
-        (TreeFault::Json, "Json"),
-        (TreeFault::Fraction, "Fraction"),
-        (TreeFault::Memory, "Memory"),
-    ] {
-        assert!(rt; is_printed(rt.alloc(), &fault, text));
-    }
 }
 
 #[test]

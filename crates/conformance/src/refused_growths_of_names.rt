@@ -1,0 +1,112 @@
+//! Each growth of tables of names, and of the renaming between names, refused in turn: the answer is
+//! that of ample memory, or want of memory, and never another.
+//!
+//! tests/fault_injection.py runs these under a shim that refuses. Without it each makes one turn
+//! with ample memory.
+use crate::examples::{IndexTable, index_tables};
+use crate::growths::was_wanted;
+use dap_message::{Message, MessageFault, Side, typed};
+use dap_rename::{IndexNames, Mode, NameFault, NameTable, Names, PlainNames, Renaming};
+use dap_tree::read_tree;
+use fault_injection::{refuse_growth, was_refused};
+use std::alloc::Global;
+use std::hash::RandomState;
+use std::process::Abort;
+
+/// Asks for the name of a number that is new, again where memory was wanted. Whether it was.
+fn names_new<T: NameTable>(
+    rt: &impl Abort,
+    alloc: Global,
+    table: &mut T,
+    index: i64,
+    turn: u16,
+) -> bool {
+    assert!(rt; 0 <= index && index < 40);
+    let number = 7 * index - 90;
+    let answer = table.name(number);
+    if answer != Err(NameFault::Memory) {
+        assert!(rt; answer == Ok(index + 1));
+        return false;
+    }
+    was_wanted(rt, was_refused(alloc), turn);
+    assert!(rt; table.len() as i64 == index);
+    assert!(rt; table.find(number).is_none());
+    assert!(rt; table.name(number) == Ok(index + 1));
+    true
+}
+
+/// Names forty numbers in a table for as many, and one more. Whether a growth was refused.
+fn names_turn<T: NameTable>(rt: &impl Abort, alloc: Global, table: &mut T, turn: u16) -> bool {
+    let mut is_wanted = false;
+    refuse_growth(alloc, turn);
+    for index in 0..40i64 {
+        if names_new(rt, alloc, table, index, turn) {
+            is_wanted = true;
+        }
+    }
+    assert!(rt; table.name(1_000) == Err(NameFault::Full));
+    assert!(rt; table.name(-90) == Ok(1));
+    // Hearing of a refusal ends it.
+    is_wanted || was_refused(alloc)
+}
+
+#[test]
+fn tables_are_refused_in_turn(rt: HostRuntime) {
+    let hasher = RandomState::new(&rt).expect(&rt, "no random words");
+    for turn in 1..1_000u16 {
+        let mut plain = PlainNames::new(rt.alloc(), 40);
+        let mut index = IndexNames::new(rt.alloc(), 40, hasher);
+        let by_plain = names_turn(&rt, rt.alloc(), &mut plain, turn);
+        let by_index = names_turn(&rt, rt.alloc(), &mut index, turn);
+        if !by_plain && !by_index {
+            break;
+        }
+    }
+}
+
+/// A request with a frame id.
+const SCOPES_REQUEST: &str =
+    "{\"arguments\":{\"frameId\":5},\"command\":\"scopes\",\"seq\":8,\"type\":\"request\"}";
+
+fn request(alloc: Global) -> Result<Message, MessageFault> {
+    match read_tree(alloc, SCOPES_REQUEST.as_bytes()) {
+        Ok(tree) => typed(alloc, Side::Client, tree),
+        Err(_) => Err(MessageFault::Memory),
+    }
+}
+
+/// The pairs between the names and themselves.
+fn own_pairs(alloc: Global, names: &Names<IndexTable>) -> Result<usize, NameFault> {
+    Ok(Renaming::between(alloc, names, names)?.pairs().len())
+}
+
+/// Asks for the two pairs between the names of a request with this growth refused. Whether it was.
+fn pairs_turn(rt: &impl Abort, alloc: Global, names: &Names<IndexTable>, turn: u16) -> bool {
+    refuse_growth(alloc, turn);
+    let answer = own_pairs(alloc, names);
+    let is_refused = was_refused(alloc);
+    if answer == Err(NameFault::Memory) {
+        was_wanted(rt, is_refused, turn);
+    } else {
+        assert!(rt; answer == Ok(2));
+    }
+    is_refused
+}
+
+/// The names of a request.
+fn request_names(rt: &impl Abort, alloc: Global) -> Names<IndexTable> {
+    let mut names = Names::new(alloc, index_tables(alloc, 9), Mode::Whole);
+    let request = request(alloc).expect(rt, "no message");
+    assert!(rt; names.rename(request).is_ok());
+    names
+}
+
+#[test]
+fn the_renaming_between_names_is_refused_in_turn(rt: HostRuntime) {
+    let names = request_names(&rt, rt.alloc());
+    for turn in 1..1_000u16 {
+        if !pairs_turn(&rt, rt.alloc(), &names, turn) {
+            break;
+        }
+    }
+}

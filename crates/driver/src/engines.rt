@@ -1,0 +1,393 @@
+//! The engines of `dapnorm`, called by functions that promise nothing, which are cheap to prove.
+ghost use Rattle.std.specs.Prelude.{◌≡◌, IfOk, IsTrue};
+ghost use Rattle.dap_rename.specs.IndexNames.{index_limit, index_numbers};
+ghost use Rattle.dap_rename.specs.PlainNames.{plain_limit, plain_numbers};
+ghost use Rattle.dapnorm.specs.Limits.{AreSound};
+ghost use Rattle.dapnorm.specs.NameTables.{AreReady};
+ghost use Rattle.driver.specs.Devices.{AreNew};
+
+use crate::call::{Call, Function, Handed};
+use crate::devices::Devices;
+use dap_rename::{IndexNames, PlainNames};
+use dapnorm::{
+    Checked, CompareRefused, Job, Limits, NameTable, Normalised, Refused, Tables, Verdict, check,
+    check_with, compact, compare, compare_with, normalise, normalise_bytes, normalise_with, record,
+    run_compare, run_compare_with, run_diff, run_diff_with, run_stream, run_stream_with, show,
+};
+use std::alloc::Global;
+use std::hash::RandomState;
+
+/// The result of an engine.
+#[derive(Drop)]
+pub enum Outcome {
+    /// Nothing was called: the limits are not sound, or the job has two inputs.
+    Refused,
+    Written(Result<(), Refused>),
+    Checked(Result<Checked, Refused>),
+    Compared(Result<Verdict, CompareRefused>),
+    NormalText(Result<Normalised, Refused>),
+    Same(Result<bool, Refused>),
+    /// The status of the program.
+    Status(u8),
+}
+
+/// Returns whether the engines take these limits.
+pub fn are_sound(limits: Limits) -> bool
+    ensures { IsTrue result → AreSound limits }
+{
+    limits.frame.sound() && limits.ids <= 2_147_483_647 && limits.input <= 1 << 62
+}
+
+fn compacted(alloc: Global, call: &Call<'_>, devices: &mut Devices<'_>) -> Result<(), Refused>
+    requires limits { AreSound call.now.limits }
+    requires new { AreNew devices.old }
+{
+    compact(alloc, &mut devices.a, &mut devices.output, call.limits)
+}
+
+fn recorded(alloc: Global, call: &Call<'_>, devices: &mut Devices<'_>) -> Result<(), Refused>
+    requires limits { AreSound call.now.limits }
+    requires new { AreNew devices.old }
+{
+    record(alloc, &mut devices.a, &mut devices.output, call.limits)
+}
+
+fn shown(alloc: Global, call: &Call<'_>, devices: &mut Devices<'_>) -> Result<(), Refused>
+    requires limits { AreSound call.now.limits }
+    requires new { AreNew devices.old }
+{
+    show(alloc, &mut devices.a, &mut devices.output, call.limits)
+}
+
+fn normalised(alloc: Global, call: &Call<'_>, devices: &mut Devices<'_>) -> Result<(), Refused>
+    requires limits { AreSound call.now.limits }
+    requires new { AreNew devices.old }
+{
+    normalise(
+        alloc,
+        &mut devices.a,
+        &mut devices.output,
+        call.limits,
+        call.mode,
+    )
+}
+
+fn normalised_with<T: NameTable + Drop>(
+    alloc: Global,
+    call: &Call<'_>,
+    devices: &mut Devices<'_>,
+    tables: Tables<T>,
+) -> Result<(), Refused>
+    requires limits { AreSound call.now.limits }
+    requires new { AreNew devices.old }
+    requires tables { AreReady T.numbers T.limit call.now.limits tables }
+{
+    normalise_with(
+        alloc,
+        &mut devices.a,
+        &mut devices.output,
+        call.limits,
+        tables,
+        call.mode,
+    )
+}
+
+fn checked(alloc: Global, call: &Call<'_>, devices: &mut Devices<'_>) -> Result<Checked, Refused>
+    requires limits { AreSound call.now.limits }
+    requires new { AreNew devices.old }
+{
+    check(alloc, &mut devices.a, call.limits, call.complete, call.mode)
+}
+
+fn checked_with<T: NameTable + Drop>(
+    alloc: Global,
+    call: &Call<'_>,
+    devices: &mut Devices<'_>,
+    tables: Tables<T>,
+) -> Result<Checked, Refused>
+    requires limits { AreSound call.now.limits }
+    requires new { AreNew devices.old }
+    requires tables { AreReady T.numbers T.limit call.now.limits tables }
+{
+    check_with(
+        alloc,
+        &mut devices.a,
+        call.limits,
+        call.complete,
+        tables,
+        call.mode,
+    )
+}
+
+fn compared(
+    alloc: Global,
+    call: &Call<'_>,
+    devices: &mut Devices<'_>,
+) -> Result<Verdict, CompareRefused>
+    requires limits { AreSound call.now.limits }
+    requires new { AreNew devices.old }
+{
+    compare(
+        alloc,
+        &mut devices.a,
+        &mut devices.b,
+        call.limits,
+        call.mode,
+    )
+}
+
+fn compared_with<T: NameTable + Drop>(
+    alloc: Global,
+    call: &Call<'_>,
+    devices: &mut Devices<'_>,
+    tables_a: Tables<T>,
+    tables_b: Tables<T>,
+) -> Result<Verdict, CompareRefused>
+    requires limits { AreSound call.now.limits }
+    requires new { AreNew devices.old }
+    requires tables_a { AreReady T.numbers T.limit call.now.limits tables_a }
+    requires tables_b { AreReady T.numbers T.limit call.now.limits tables_b }
+{
+    compare_with(
+        alloc,
+        &mut devices.a,
+        &mut devices.b,
+        call.limits,
+        tables_a,
+        tables_b,
+        call.mode,
+    )
+}
+
+/// Returns whether the normal texts of both inputs are the same.
+fn have_same_texts(alloc: Global, call: &Call<'_>) -> Result<bool, Refused>
+    requires limits { AreSound call.now.limits }
+{
+    let text_a = normal_text(alloc, call.a.text, call)?;
+    let text_b = normal_text(alloc, call.b.text, call)?;
+    Ok(text_a.same(&text_b))
+}
+
+/// Returns the normal text of the bytes. Two texts of one mode can be compared.
+fn normal_text(alloc: Global, bytes: &[u8], call: &Call<'_>) -> Result<Normalised, Refused>
+    requires limits { AreSound call.now.limits }
+    ensures mode { IfOk result (λ text. text.mode ≡ call.now.mode) }
+{
+    normalise_bytes(alloc, bytes, call.limits, call.mode)
+}
+
+fn streamed(alloc: Global, call: &Call<'_>, job: Job<'_>, devices: &mut Devices<'_>) -> Outcome
+    requires limits { AreSound call.now.limits }
+    requires new { AreNew devices.old }
+{
+    if matches!(
+        job,
+        Job::Compare { .. } | Job::Diff { .. } | Job::Mask { .. }
+    ) {
+        return Outcome::Refused;
+    }
+    Outcome::Status(run_stream(
+        alloc,
+        &job,
+        &mut devices.a,
+        &mut devices.output,
+        &mut devices.errors,
+        call.limits,
+    ))
+}
+
+fn streamed_with<T: NameTable + Drop>(
+    alloc: Global,
+    call: &Call<'_>,
+    job: Job<'_>,
+    devices: &mut Devices<'_>,
+    tables: Tables<T>,
+) -> Outcome
+    requires limits { AreSound call.now.limits }
+    requires new { AreNew devices.old }
+    requires tables { AreReady T.numbers T.limit call.now.limits tables }
+{
+    if matches!(
+        job,
+        Job::Compare { .. } | Job::Diff { .. } | Job::Mask { .. }
+    ) {
+        return Outcome::Refused;
+    }
+    Outcome::Status(run_stream_with(
+        alloc,
+        &job,
+        &mut devices.a,
+        &mut devices.output,
+        &mut devices.errors,
+        call.limits,
+        tables,
+    ))
+}
+
+fn compare_printed(alloc: Global, call: &Call<'_>, devices: &mut Devices<'_>) -> Outcome
+    requires limits { AreSound call.now.limits }
+    requires new { AreNew devices.old }
+{
+    Outcome::Status(run_compare(
+        alloc,
+        &mut devices.a,
+        &mut devices.b,
+        &mut devices.output,
+        &mut devices.errors,
+        call.limits,
+        call.mode,
+    ))
+}
+
+fn compare_printed_with<T: NameTable + Drop>(
+    alloc: Global,
+    call: &Call<'_>,
+    devices: &mut Devices<'_>,
+    tables_a: Tables<T>,
+    tables_b: Tables<T>,
+) -> Outcome
+    requires limits { AreSound call.now.limits }
+    requires new { AreNew devices.old }
+    requires tables_a { AreReady T.numbers T.limit call.now.limits tables_a }
+    requires tables_b { AreReady T.numbers T.limit call.now.limits tables_b }
+{
+    Outcome::Status(run_compare_with(
+        alloc,
+        &mut devices.a,
+        &mut devices.b,
+        &mut devices.output,
+        &mut devices.errors,
+        call.limits,
+        tables_a,
+        tables_b,
+        call.mode,
+    ))
+}
+
+fn diff_printed(alloc: Global, call: &Call<'_>, devices: &mut Devices<'_>) -> Outcome
+    requires limits { AreSound call.now.limits }
+    requires new { AreNew devices.old }
+{
+    Outcome::Status(run_diff(
+        alloc,
+        &mut devices.a,
+        &mut devices.b,
+        &mut devices.output,
+        &mut devices.errors,
+        call.limits,
+        call.mode,
+    ))
+}
+
+fn diff_printed_with<T: NameTable + Drop>(
+    alloc: Global,
+    call: &Call<'_>,
+    devices: &mut Devices<'_>,
+    tables_a: Tables<T>,
+    tables_b: Tables<T>,
+) -> Outcome
+    requires limits { AreSound call.now.limits }
+    requires new { AreNew devices.old }
+    requires tables_a { AreReady T.numbers T.limit call.now.limits tables_a }
+    requires tables_b { AreReady T.numbers T.limit call.now.limits tables_b }
+{
+    Outcome::Status(run_diff_with(
+        alloc,
+        &mut devices.a,
+        &mut devices.b,
+        &mut devices.output,
+        &mut devices.errors,
+        call.limits,
+        tables_a,
+        tables_b,
+        call.mode,
+    ))
+}
+
+/// Calls an engine that makes its own name tables.
+fn outcome_own(alloc: Global, call: &Call<'_>, devices: &mut Devices<'_>) -> Outcome
+    requires limits { AreSound call.now.limits }
+    requires new { AreNew devices.old }
+{
+    match call.function {
+        Function::Normalise => Outcome::Written(normalised(alloc, call, devices)),
+        Function::Check => Outcome::Checked(checked(alloc, call, devices)),
+        Function::Compare => Outcome::Compared(compared(alloc, call, devices)),
+        Function::RunStream(job) => streamed(alloc, call, job, devices),
+        Function::RunCompare => compare_printed(alloc, call, devices),
+        Function::RunDiff => diff_printed(alloc, call, devices),
+        _ => Outcome::Refused,
+    }
+}
+
+/// Calls an engine with these name tables.
+fn outcome_with<T: NameTable + Drop>(
+    alloc: Global,
+    call: &Call<'_>,
+    devices: &mut Devices<'_>,
+    tables_a: Tables<T>,
+    tables_b: Tables<T>,
+) -> Outcome
+    requires limits { AreSound call.now.limits }
+    requires new { AreNew devices.old }
+    requires tables_a { AreReady T.numbers T.limit call.now.limits tables_a }
+    requires tables_b { AreReady T.numbers T.limit call.now.limits tables_b }
+{
+    match call.function {
+        Function::Normalise => Outcome::Written(normalised_with(alloc, call, devices, tables_a)),
+        Function::Check => Outcome::Checked(checked_with(alloc, call, devices, tables_a)),
+        Function::Compare => Outcome::Compared(compared_with(
+            alloc, call, devices, tables_a, tables_b,
+        )),
+        Function::RunStream(job) => streamed_with(alloc, call, job, devices, tables_a),
+        Function::RunCompare => compare_printed_with(alloc, call, devices, tables_a, tables_b),
+        Function::RunDiff => diff_printed_with(alloc, call, devices, tables_a, tables_b),
+        _ => Outcome::Refused,
+    }
+}
+
+/// Makes tables that look for a number from the front.
+fn plain(alloc: Global, limits: Limits) -> Tables<PlainNames>
+    requires { AreSound limits }
+    ensures { AreReady plain_numbers plain_limit limits result }
+{
+    Tables::plain(alloc, limits.ids)
+}
+
+/// Makes tables that look by this hash.
+fn indexed(alloc: Global, limits: Limits, hasher: RandomState) -> Tables<IndexNames<RandomState>>
+    requires { AreSound limits }
+    ensures { AreReady index_numbers index_limit limits result }
+{
+    Tables::indexed(alloc, limits.ids, hasher)
+}
+
+/// Calls the function of a call.
+pub fn outcome_of(
+    alloc: Global,
+    call: &Call<'_>,
+    devices: &mut Devices<'_>,
+    hasher: RandomState,
+) -> Outcome
+    requires limits { AreSound call.now.limits }
+    requires new { AreNew devices.old }
+{
+    let limits = call.limits;
+    match (call.function, call.handed) {
+        (Function::Compact, _) => Outcome::Written(compacted(alloc, call, devices)),
+        (Function::Record, _) => Outcome::Written(recorded(alloc, call, devices)),
+        (Function::Show, _) => Outcome::Written(shown(alloc, call, devices)),
+        (Function::NormalText, _) => Outcome::NormalText(normal_text(alloc, call.a.text, call)),
+        (Function::SameTexts, _) => Outcome::Same(have_same_texts(alloc, call)),
+        (_, Handed::Own) => outcome_own(alloc, call, devices),
+        (_, Handed::Plain) => {
+            let (tables_a, tables_b) = (plain(alloc, limits), plain(alloc, limits));
+            outcome_with(alloc, call, devices, tables_a, tables_b)
+        }
+        (_, Handed::Indexed) => {
+            let tables_a = indexed(alloc, limits, hasher);
+            let tables_b = indexed(alloc, limits, hasher);
+            outcome_with(alloc, call, devices, tables_a, tables_b)
+        }
+    }
+}

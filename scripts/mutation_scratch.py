@@ -1,0 +1,193 @@
+"""A scratch copy of the repository, in which wrong bodies are tried by the toolchain's own functions.
+
+The sources are copied and what earlier checks kept is linked, so nothing in the repository changes while provers run."""
+import importlib.machinery
+import importlib.util
+import os
+import shutil
+import signal
+import subprocess
+import sys
+import tempfile
+import threading
+from types import ModuleType
+from typing import Dict, List, Optional
+
+PARTS = ("src", "specs", "proofs")
+TIERS = ("must-fail", "mutants")
+
+
+class Interrupted(Exception):
+    """The run was interrupted, so no further prover is started."""
+
+
+def load_rt() -> ModuleType:
+    """Returns the toolchain's command `rt` as a module, found through `rt doc`."""
+    if shutil.which("rt") is None:
+        sys.exit("rt, the command of the Rattle toolchain, is not found: put its folder bin on PATH")
+    page = subprocess.run(["rt", "doc"], capture_output=True, text=True, check=True).stdout.split()[0]
+    sys.dont_write_bytecode = True
+    loader = importlib.machinery.SourceFileLoader("rt", os.path.join(os.path.dirname(page), "bin", "rt"))
+    made = importlib.util.module_from_spec(importlib.util.spec_from_loader("rt", loader))
+    sys.modules["rt"] = made
+    loader.exec_module(made)
+    return made
+
+
+def link(source: str, to: str) -> None:
+    """Links a file, or copies it if the two folders are on different file systems. The provers replace files and never write into them."""
+    try:
+        os.link(source, to)
+    except OSError:
+        shutil.copyfile(source, to)
+
+
+def clone(source: str, to: str) -> None:
+    """Makes a folder whose files are those of another one."""
+    if os.path.isdir(source):
+        shutil.copytree(source, to, copy_function=link)
+    else:
+        os.makedirs(to)
+
+
+class Scratch:
+    """The scratch copy of a repository. As a context it removes its folder in the end, and `stop` ends the provers."""
+
+    def __init__(self, top: str):
+        self.top = top
+        self.rt = load_rt()
+        # its first call sets a signal's handler, which only the main thread may
+        self.rt.rtlib.guarded()
+        # rt tries an edit by this function of its own: here its provers are counted, and can be ended
+        self.rt.checked = self.check
+        self.room = tempfile.TemporaryDirectory(prefix="dapnorm-mutants-")
+        self.folder = self.room.name
+        self.lock = threading.Lock()
+        self.running: Dict[int, subprocess.Popen] = {}
+        self.seconds: Dict[str, float] = {}
+        self.is_stopped = False
+        self.copies = 0
+        self.crates: Dict[str, object] = {}
+
+    def __enter__(self) -> "Scratch":
+        return self
+
+    def __exit__(self, *_) -> None:
+        self.stop()
+        self.room.cleanup()
+
+    def copy_sources(self) -> None:
+        """Copies the crates' sources and edits, and reads the list of crates."""
+        shutil.copyfile(os.path.join(self.top, "crates.txt"), os.path.join(self.folder, "crates.txt"))
+        for name in sorted(os.listdir(os.path.join(self.top, "crates"))):
+            for part in (*PARTS, *TIERS):
+                source = os.path.join(self.top, "crates", name, part)
+                if os.path.isdir(source):
+                    shutil.copytree(source, os.path.join(self.folder, "crates", name, part))
+        self.crates = {it.name: it for it in self.rt.rtlib.crates_below(self.folder)}
+
+    def take_libraries(self, names: List[str]) -> None:
+        """Links the libraries below the crates, and builds those that no earlier run has left."""
+        below = {it.name: it for name in names for it in self.crates[name].below()}
+        for crate in sorted(below.values(), key=lambda it: len(it.below())):
+            self.take_library(crate)
+
+    def take_library(self, crate) -> None:
+        kept = os.path.join(self.top, "crates", crate.name, "out")
+        made = os.path.dirname(crate.rlib)
+        if os.path.isfile(os.path.join(kept, "rlib", "stamp")):
+            shutil.copytree(os.path.join(kept, "rlib"), made, copy_function=link)
+        if crate.is_built():
+            return
+        print(f"{crate.name}: builds this library first, since its folder out/ has none of these sources; `make` keeps them", flush=True)
+        clone(os.path.join(kept, "incremental"), os.path.join(crate.folder, "out", "incremental"))
+        said = self.build(crate)
+        if said:
+            sys.exit(f"{crate.name} is not proved, so no crate above it can be tried:\n{said}")
+
+    def build(self, crate) -> str:
+        """Builds a library in the scratch copy, and returns the last lines of what was printed if it is not proved."""
+        printed = []
+
+        def call(*words: str) -> int:
+            ran = self.prove(crate.name, crate.folder, [*self.rt.rtlib.guarded(), *words])
+            printed.extend(ran.stdout.rstrip("\n").split("\n"))
+            return ran.returncode
+
+        # the toolchain's own function that runs a prover: here it is counted, and can be ended
+        crate.call = call
+        try:
+            status = crate.build_rlib(["--jobs", "1"], anew=False)
+        finally:
+            del crate.call
+        return "\n".join(printed[-12:]) if status else ""
+
+    def is_proved(self, name: str) -> bool:
+        """Returns whether the folder out/ of the repository has a library of these very sources, and the work of its proof."""
+        kept = os.path.join(self.top, "crates", name, "out")
+        has_work = os.path.isdir(os.path.join(kept, "incremental")) and bool(os.listdir(os.path.join(kept, "incremental")))
+        return has_work and self.rt.rtlib.text_of(os.path.join(kept, "rlib", "stamp")) == self.crates[name].stamp()
+
+    def base(self, name: str) -> str:
+        """Returns a folder with the work that earlier checks of the crate kept, made at the first call."""
+        folder = os.path.join(self.folder, "kept", name)
+        if not os.path.isdir(folder):
+            clone(os.path.join(self.top, "crates", name, "out", "incremental"), folder)
+        return folder
+
+    def forget(self, name: str) -> None:
+        """Removes the kept work of a crate that is done."""
+        shutil.rmtree(os.path.join(self.folder, "kept", name), ignore_errors=True)
+
+    def over(self, name: str) -> tempfile.TemporaryDirectory:
+        """Returns a copy of the crate's kept work, as a context: what a check of a wrong body leaves there is used by no other check."""
+        room = tempfile.TemporaryDirectory(prefix="over-", dir=self.folder)
+        os.rmdir(room.name)
+        clone(self.base(name), room.name)
+        return room
+
+    def check(self, crate, texts: Dict[str, str], flags: List[str], kept: Optional[str]) -> subprocess.CompletedProcess:
+        """Checks a copy of the crate with these texts in place of its own, as `rt must-fail` does."""
+        with tempfile.TemporaryDirectory(prefix="edit-", dir=self.folder) as room:
+            for part in PARTS:
+                if os.path.isdir(os.path.join(crate.folder, part)):
+                    shutil.copytree(os.path.join(crate.folder, part), os.path.join(room, part))
+            for path, text in texts.items():
+                with open(os.path.join(room, path), "w", encoding="utf-8") as out:
+                    out.write(text)
+            words = [self.rt.rtlib.RATTLE, "check", *crate.words(flags, keeps=False)]
+            words += ["--incremental", kept] if kept else []
+            return self.prove(crate.name, room, [*self.rt.rtlib.guarded(), *words])
+
+    def prove(self, name: str, folder: str, words: List[str]) -> subprocess.CompletedProcess:
+        """Runs one prover, and adds its processor time to the crate's."""
+        with self.lock:
+            if self.is_stopped:
+                raise Interrupted
+            how = {"stdin": subprocess.DEVNULL, "stdout": subprocess.PIPE, "stderr": subprocess.STDOUT, "text": True, "errors": "replace"}
+            process = subprocess.Popen(words, cwd=folder, **how)
+            self.running[process.pid] = process
+        said = process.stdout.read()
+        process.stdout.close()
+        _, status, usage = os.wait4(process.pid, 0)
+        process.returncode = os.waitstatus_to_exitcode(status)
+        with self.lock:
+            del self.running[process.pid]
+            self.seconds[name] = self.seconds.get(name, 0.0) + usage.ru_utime + usage.ru_stime
+            if self.is_stopped:
+                raise Interrupted
+        return subprocess.CompletedProcess(words, process.returncode, said)
+
+    def stop(self) -> None:
+        """Ends the provers that run, with what they started, and lets no other one start."""
+        self.is_stopped = True
+        for process in list(self.running.values()):
+            try:
+                group = os.getpgid(process.pid)
+                # one that has only just started is still in the group of this script
+                if group == os.getpgrp():
+                    process.kill()
+                else:
+                    os.killpg(group, signal.SIGKILL)
+            except ProcessLookupError:
+                pass

@@ -1,0 +1,102 @@
+"""Runs the program on command lines: words that name a job, words that name none, and words that request help."""
+import os
+import sys
+import tempfile
+
+from faulty import Faulty
+from report import PROGRAM, Report
+from worked_runs import (
+    BEGUN, CANONICAL, COMPARED, CONFIGURED, DIFFERENCES, FRAME, INITIALIZED, LOOSE, NEW_FRAME, NORMAL_PER_STOP, NORMAL_STOPS, RECORDED,
+    RULES, STOP_PAIRS, THREADS, TRACE, Run, frame, masked, recording,
+)
+
+FILES = {"a.rec": COMPARED["a stale frame"][0], "b.rec": COMPARED["a stale frame"][1], "lldb.mask": RULES}
+OPEN = recording([*BEGUN, THREADS])
+ACCEPTED, INCOMPLETE = (0, b"accepted records=3 open=1,0\n", b""), (2, b"", b"dapnorm: incomplete: 1 client, 0 adapter\n")
+ROW = b"62 response stackTrace body.stackFrames[].id needed frame\n"
+
+# Words, an input, and the status, the output and the errors of the job that the words name. No other job has this answer to the input.
+# Only past the limits of the program do `check` and `check --per-stop` differ.
+JOBS = [
+    (["compact"], frame(LOOSE), (0, frame(CANONICAL), b"")),
+    (["record"], TRACE, (0, RECORDED, b"")),
+    (["normalise"], recording(NEW_FRAME), (0, recording([*NORMAL_STOPS, FRAME % (2, 3, 5)]), b"")),
+    (["normalise", "--per-stop"], recording(NEW_FRAME), (0, recording(NORMAL_PER_STOP), b"")),
+    (["show"], recording([INITIALIZED]), (0, b'1 < event "initialized" seq=2\n', b"")),
+    (["mask", "lldb.mask"], recording(CONFIGURED), (0, recording(masked(CONFIGURED)), b"")),
+    (["rows", "62"], b"", (0, ROW, b"")),
+    (["check"], OPEN, ACCEPTED),
+    (["check", "--complete"], OPEN, INCOMPLETE),
+    (["check", "--per-stop"], OPEN, ACCEPTED),
+    (["check", "--per-stop", "--complete"], OPEN, INCOMPLETE),
+    (["compare", "a.rec", "b.rec"], b"", (1, b"differ 8\n", b"")),
+    (["compare", "a.rec", "b.rec", "--per-stop"], b"", (0, STOP_PAIRS, b"")),
+    (["diff", "a.rec", "b.rec"], b"", (1, DIFFERENCES["a stale frame"], b"")),
+    (["diff", "--per-stop", "a.rec", "b.rec"], b"", (0, b"same\n", b"")),
+]
+
+# No subcommand, wrong ones, and words that a subcommand does not take.
+NO_JOBS = [
+    [], ["compacted"], ["compact", "file"], ["check", "--complete", "--complete"], ["compact", "--complete"], ["check", "file"],
+    ["compare", "a.rec"], ["mask"], ["--per-stop"], ["show", "--per-stop"], ["normalise", "--per-stop", "--per-stop"],
+]
+
+# Words that request help or the version, and a part of the text that is printed.
+HELP = [
+    (["--help"], b"Usage: dapnorm"), (["--version"], b"dapnorm 0.1.0 "), (["compact", "--help"], b"Usage: dapnorm"),
+    (["check", "--help"], b"Usage: dapnorm check [OPTIONS]"), (["check", "--help"], b"--complete"), (["diff", "--help"], b"--per-stop"),
+]
+
+
+def run_of(words, given=b""):
+    return Run(str(words), words, given, FILES, None)
+
+
+def jobs(report, faulty):
+    for words, given, wanted in JOBS:
+        answer = faulty.run(run_of(words, given))
+        report.check(f"{words} is a job", answer == wanted, repr(answer))
+    status, output, errors = faulty.run(run_of(["rows"]))
+    held = (status, errors) == (0, b"") and ROW in output and output.count(b"\n") > 1
+    report.check("['rows'] is a job", held, repr((status, errors)))
+
+
+def no_jobs(report, faulty):
+    for words in NO_JOBS:
+        status, output, errors = faulty.run(run_of(words))
+        held = (status, output) == (3, b"") and errors.startswith(b"error: ") and errors.endswith(b"\n")
+        report.check(f"{words} is no job", held, repr((status, output, errors)))
+
+
+def help_texts(report, faulty):
+    """The text is printed if it can be written, and the status reports a write that fails after 10 bytes."""
+    for words, part in HELP:
+        status, output, errors = faulty.run(run_of(words))
+        report.check(f"{words} prints {part}", status == 0 and part in output and errors == b"", repr((status, output, errors)))
+        answer = faulty.run(run_of(words), write_fails=10)
+        report.check(f"{words} with writes that fail", answer == (4, output[:10], b""), repr(answer))
+
+
+def no_memory(report, faulty):
+    """Each command line, with its first allocations refused: memory that is refused while the words are read is reported."""
+    wanted = (5, b"", b"dapnorm: out of memory\n")
+    for words in ([], ["--help"], ["compact"], ["check", "--all"]):
+        found = [faulty.run_refused(run_of(words), turn) for turn in range(1, 4)]
+        report.check(f"{words} without memory", (wanted, True) in found, repr(found))
+
+
+def main():
+    report = Report()
+    if not report.check("the gate has built the program", os.access(PROGRAM, os.X_OK)):
+        return report.close()
+    with tempfile.TemporaryDirectory() as folder:
+        faulty = Faulty(folder)
+        jobs(report, faulty)
+        no_jobs(report, faulty)
+        help_texts(report, faulty)
+        no_memory(report, faulty)
+    return report.close()
+
+
+if __name__ == "__main__":
+    sys.exit(main())

@@ -1,0 +1,120 @@
+"""Checks which files of rules are refused, and what rules make of contents and of recordings, by the command `mask`."""
+import sys
+
+from asked import asks_of_files, judged
+from worked_runs import record, refusal
+
+# Files of rules, and the line and the cause that each is refused for.
+REFUSED = [
+    (b"drop event output\nhide event output\n", "line 2: BadRule"),
+    (b"drop response threads", "line 1: BadRule"),
+    (b"blank event process", "line 1: BadRule"),
+    (b"blank event process body. id", "line 1: BadRule"),
+    (b'blank event process body."id', "line 1: BadRule"),
+    (b"\n# \xff\n", "line 2: NotUtf8"),
+    (b"blank event * seq", "line 1: BadPlace"),
+    (b"digits request * command", "line 1: BadPlace"),
+    (b"blank response threads success", "line 1: BadPlace"),
+    (b"blank response * request_seq", "line 1: BadPlace"),
+    (b"blank response * body.variables[].variablesReference", "line 1: BadPlace"),
+    (b'blank event process body.id\n\nblank event process "body" . id\n', "line 3: BadRule"),
+    (b'blank event process body.id\n\nblank event "process" body."i\\u0064" # again\n', "line 3: Repeated"),
+    (b"drop event *\r\ndrop event *\r\n", "line 2: Repeated"),
+    (b"hex event output body.output\ndigits event * body.output\n", "line 2: DigitsBehindHex"),
+    # One line feed too many.
+    (b"\n" * 65_537, "line 65537: TooLong"),
+    (b"blank event process body.id x", "line 1: BadRule"),
+]
+
+RULES = b"""# lldb-dap
+blank  event process body.systemProcessId
+digits response threads body.threads[].name   # OS numbers
+hex    response variables body.variables[].value
+blank  event terminated statistics
+blank  request "launch" arguments."a b"
+drop   event output
+"""
+
+# Contents, and the text that each is masked to; an event that is left out has none.
+MASKED = [
+    (
+        '{"type":"event","event":"process","body":{"systemProcessId":4711,"name":"a1"}}',
+        '{"body":{"name":"a1","systemProcessId":0},"event":"process","type":"event"}',
+    ),
+    (
+        '{"type":"event","event":"proces","body":{"systemProcessId":4711}}',
+        '{"body":{"systemProcessId":4711},"event":"proces","type":"event"}',
+    ),
+    (
+        '{"type":"response","command":"threads","body":{"threads":[{"name":"tid 4711"},{"name":"8 of 15"},7]}}',
+        '{"body":{"threads":[{"name":"tid 0"},{"name":"0 of 0"},7]},"command":"threads","type":"response"}',
+    ),
+    (
+        '{"type":"response","command":"variables","body":{"variables":[{"value":"0xBEEF 0x, 0X1g 42"}]}}',
+        '{"body":{"variables":[{"value":"0x0 0x, 0x0g 42"}]},"command":"variables","type":"response"}',
+    ),
+    (
+        '{"type":"event","event":"terminated","statistics":{"time":1.5}}',
+        '{"event":"terminated","statistics":{},"type":"event"}',
+    ),
+    (
+        '{"type":"request","command":"launch","arguments":{"a b":true,"a":null}}',
+        '{"arguments":{"a":null,"a b":false},"command":"launch","type":"request"}',
+    ),
+    ('{"type":"event","event":"output","body":1.5}', None),
+]
+
+# Contents that have no text, and the fault of each.
+UNMASKED = [
+    ('{"type":"event","event":"terminated","statistic":1.5}', "Fraction"),
+    ('{"type":"event","event":"output"', "Json"),
+]
+
+# A recording, what is written of it, and why it is refused.
+OUTPUT = b'<Content-Length: 36\r\n\r\n{ "type":"event", "event":"output" }\n'
+RECORDINGS = [
+    (b"", b"", None),
+    (OUTPUT + b'>Content-Length: 13\r\n\r\n{ "a": "p1" }\n', b'>Content-Length: 10\r\n\r\n{"a":"p1"}\n', None),
+    (
+        b">Content-Length: 2\r\n\r\n{}\n" + OUTPUT + b">Content-Length: 3\r\n\r\n1.5\n",
+        b">Content-Length: 2\r\n\r\n{}\n", "record 3: Fraction",
+    ),
+    (b"<Content-Length: 2\r\n\r\n[]\n!", b"<Content-Length: 2\r\n\r\n[]\n", "record 2: BadMarker"),
+]
+
+
+def masks(report, name, rules, given, written, why=None):
+    """Checks what is written of a recording, and why it is refused."""
+    wanted = (0, written, b"") if why is None else (2, written, refusal(why))
+    asks_of_files(report, name, ["mask", "rules"], {"rules": rules}, given, wanted)
+
+
+def refused_rules(report):
+    for number, (rules, why) in enumerate(REFUSED, 1):
+        masks(report, f"refused rules, row {number}", rules, b"nothing is read of this", b"", f"rules: {why}")
+
+
+def a_thousand_rules(report):
+    rules = [b"drop event e%d\n" % number for number in range(1001)]
+    masks(report, "a thousand rules", b"".join(rules[:1000]), b"", b"")
+    masks(report, "one rule more", b"".join(rules), b"", b"", "rules: line 1001: TooMany")
+
+
+def masked_contents(report):
+    for number, (content, text) in enumerate(MASKED, 1):
+        written = b"" if text is None else record("<" + text)
+        masks(report, f"masked contents, row {number}", RULES, record("<" + content), written)
+    for number, (content, fault) in enumerate(UNMASKED, 1):
+        masks(report, f"contents that cannot be masked, row {number}", RULES, record("<" + content), b"", f"record 1: {fault}")
+    whole = b"".join(record("<" + content) for content, _ in MASKED)
+    written = b"".join(record("<" + text) for _, text in MASKED if text is not None)
+    masks(report, "all masked contents, one after the other", RULES, whole, written)
+
+
+def masked_recordings(report):
+    for number, (given, written, why) in enumerate(RECORDINGS, 1):
+        masks(report, f"masked recordings, row {number}", RULES, given, written, why)
+
+
+if __name__ == "__main__":
+    sys.exit(judged(refused_rules, a_thousand_rules, masked_contents, masked_recordings))
