@@ -42,12 +42,12 @@ TO_PROVE := $(if $(PROOFS),,$(and $(filter all bin/dapnorm proofs dist,$(or $(MA
 bin/dapnorm: $(SOURCES) $(PROOFS) $(if $(TO_PROVE),need-rt) | need-rt need-python
 	@mkdir -p bin
 ifeq ($(PROOFS),)
-	@echo "Proves the $(words $(CRATES)) crates of the program and builds it: a quarter of an hour from nothing on 4 processors. Prints a line for each crate."
+	@echo "Proves the $(words $(CRATES)) crates of the program and builds it: 20 minutes from nothing on 4 processors. Prints a line for each crate."
 	@python3 scripts/prove_all.py crates/dapnorm_main
 	@cp crates/dapnorm_main/out/dapnorm_main bin/dapnorm
 	@rm -f bin/over_pack
 else
-	@echo "Builds the program from its sources over the proof pack $(PROOFS): about a minute. Prints a line for each crate."
+	@echo "Builds the program from its sources over the proof pack $(PROOFS). Prints a line for each crate."
 	@echo "This proves nothing. You trust whoever made the pack that the proofs passed. To prove the program here: make PROOFS="
 	@python3 scripts/proof_pack.py build crates/dapnorm_main "$(PROOFS)" bin/dapnorm
 	@echo "$(PROOFS)" > bin/over_pack
@@ -62,14 +62,14 @@ proofs: $(PACK)
 
 test: need-rt need-python
 	@command -v git > /dev/null || { echo "git is not found: the gate asks it which files there are"; exit 1; }
-	@echo "Proves every crate from nothing, tries the must-fail edits, and runs the tests: one to two hours on 4 cores."
+	@echo "Proves every crate from nothing, tries the must-fail edits, and runs the tests: about 40 minutes on 4 cores."
 	@python3 tests/all.py
 
 # The crates that the command line names, none if it names none.
 TRIED = $(if $(findstring command,$(origin CRATES)),$(CRATES))
 
 mutants: need-rt need-python
-	@echo "Tries the wrong bodies of $(or $(TRIED),all crates): about ten minutes for all on 4 processors after make, longer if make has proved less."
+	@echo "Tries the wrong bodies of $(or $(TRIED),all crates): 18 minutes for all on 4 processors after make, longer if make has proved less."
 	@python3 scripts/mutants.py $(TRIED)
 
 # Runs the program that make has built, if it exists.

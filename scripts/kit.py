@@ -10,7 +10,7 @@ from types import ModuleType
 from typing import List
 
 # The names that the scripts use of rt's module, of its library and of a crate. They refuse a kit that lacks one.
-NEEDED = ("main", "processors", "free", "rtlib")
+NEEDED = ("checked", "free", "main", "must_fail", "need", "processors", "read_edit", "rtlib", "unread")
 NEEDED_OF_LIBRARY = (
     "crates_below", "every", "guarded", "lock", "stop_on_links", "stop_on_text", "stop_on_unread", "Crate", "KIT", "RATTLE",
 )

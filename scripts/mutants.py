@@ -13,6 +13,7 @@ import time
 from concurrent.futures import FIRST_COMPLETED, ThreadPoolExecutor, wait
 from typing import Callable, Dict, Iterator, List, NamedTuple
 
+import kit
 import mutation_record
 from mutation_record import TIERS
 from mutation_rounds import Edit, Output, Verdict, in_rounds, is_readable, joined, judged, read_edits, tried_alone
@@ -160,11 +161,6 @@ def tried(scratch: Scratch, names: List[str], jobs: int) -> Report:
     return report
 
 
-def kit_of(rt) -> str:
-    with open(os.path.join(rt.KIT, "KIT-ID"), encoding="utf-8") as file:
-        return file.read().strip()
-
-
 def run(top: str, names: List[str], jobs: int) -> int:
     """Tries the edits of crates, all crates if none is named, writes the record and prints the sum."""
     begun = time.monotonic()
@@ -175,9 +171,9 @@ def run(top: str, names: List[str], jobs: int) -> int:
             for name in sorted(set(names) - set(chosen)):
                 print(f"{name} has no wrong bodies")
             report = tried(scratch, chosen, jobs)
-            kit = kit_of(scratch.rt)
+            version = kit.version()
             folders = {it: os.path.join(scratch.folder, "crates", it) for it in chosen if not report.failed(it)}
-            entries = {it: mutation_record.entry(folder, counts(scratch.folder, it), kit) for it, folder in folders.items()}
+            entries = {it: mutation_record.entry(folder, counts(scratch.folder, it), version) for it, folder in folders.items()}
         except (KeyboardInterrupt, Interrupted):
             print("interrupted: nothing in the repository was changed", file=sys.stderr)
             return 130

@@ -1,8 +1,6 @@
 """A scratch copy of the repository, in which wrong bodies are tried by the toolchain's own functions.
 
 The sources are copied and what earlier checks kept is linked, so nothing in the repository changes while provers run."""
-import importlib.machinery
-import importlib.util
 import os
 import shutil
 import signal
@@ -10,28 +8,14 @@ import subprocess
 import sys
 import tempfile
 import threading
-from types import ModuleType
 from typing import Dict, List, Optional
 
-PARTS = ("src", "specs", "proofs")
-TIERS = ("must-fail", "mutants")
+import kit
+from mutation_record import PARTS, TIERS
 
 
 class Interrupted(Exception):
     """The run was interrupted, so no further prover is started."""
-
-
-def load_rt() -> ModuleType:
-    """Returns the toolchain's command `rt` as a module, found through `rt doc`."""
-    if shutil.which("rt") is None:
-        sys.exit("rt, the command of the Rattle toolchain, is not found: put its folder bin on PATH")
-    page = subprocess.run(["rt", "doc"], capture_output=True, text=True, check=True).stdout.split()[0]
-    sys.dont_write_bytecode = True
-    loader = importlib.machinery.SourceFileLoader("rt", os.path.join(os.path.dirname(page), "bin", "rt"))
-    made = importlib.util.module_from_spec(importlib.util.spec_from_loader("rt", loader))
-    sys.modules["rt"] = made
-    loader.exec_module(made)
-    return made
 
 
 def link(source: str, to: str) -> None:
@@ -55,7 +39,7 @@ class Scratch:
 
     def __init__(self, top: str):
         self.top = top
-        self.rt = load_rt()
+        self.rt = kit.load()
         # its first call sets a signal's handler, which only the main thread may
         self.rt.rtlib.guarded()
         # rt tries an edit by this function of its own: here its provers are counted, and can be ended

@@ -15,6 +15,7 @@ from report import TOP, Report
 sys.dont_write_bytecode = True
 # before this folder, which has a mutants.py too
 sys.path.insert(0, os.path.join(TOP, "scripts"))
+import kit
 import mutants
 import mutation_record
 import mutation_rounds
@@ -306,7 +307,7 @@ def of_words(report):
 
 def main():
     report = Report()
-    rattle = mutation_scratch.load_rt().rtlib.RATTLE
+    rattle = kit.load().rtlib.RATTLE
     of_sources(report, rattle)
     of_outputs(report)
     of_rounds(report)
