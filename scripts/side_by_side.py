@@ -32,11 +32,12 @@ def chains(tasks: List[Task]) -> Dict[str, float]:
 
 
 def jobs_for(leads: bool, idle: int, ready: int, processors: int) -> int:
-    """Returns how many of the idle processors a task gets, if `ready` tasks can start now, including this one."""
+    """Returns how many jobs a task gets, if `ready` tasks can start now, including this one."""
     if not leads:
         return max(1, idle // ready)
-    # The other tasks that can start get a processor each, but the chain gets half of all processors in any case.
-    return max(1, min(idle, max(idle - (ready - 1), processors // 2)))
+    # The other tasks that can start get a processor each. The chain gets half of all processors in any case, also if fewer are idle:
+    # it ends last, so it is better that two tasks share a processor for a while.
+    return max(1, idle - (ready - 1), processors // 2)
 
 
 class SideBySide:
