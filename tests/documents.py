@@ -76,7 +76,7 @@ def links(report):
 def crates(report):
     """The README has a line for each crate of the program."""
     with open(os.path.join(TOP, "crates.txt"), encoding="utf-8") as file:
-        names = set(re.findall(r"^(\w+):", file.read(), re.MULTILINE)) - {"layer_tests", "conformance", "driver", "fault_injection"}
+        names = set(re.findall(r"^(\w+):", file.read(), re.MULTILINE)) - {"layer_tests", "allocation_tests", "conformance", "driver", "fault_injection"}
     with open(os.path.join(TOP, "README.md"), encoding="utf-8") as file:
         told = set(re.findall(r"^\| `(\w+)` \|", file.read(), re.MULTILINE))
     report.check("the README has each crate of the program", told == names, repr(told ^ names))
@@ -94,7 +94,7 @@ def files(report):
     """Files of the crates that are named in full, as `dap_frame/specs/Frame.antt`."""
     for path in documents():
         with open(path, encoding="utf-8") as file:
-            for name in re.findall(r"`(?:crates/)?((?:dap\w+|callers|layer_tests|conformance|driver)/[\w/]+\.(?:antt|rt))`", file.read()):
+            for name in re.findall(r"`(?:crates/)?((?:dap\w+|callers|layer_tests|allocation_tests|conformance|driver)/[\w/]+\.(?:antt|rt))`", file.read()):
                 report.check(f"{os.path.relpath(path, TOP)} names the file {name}", os.path.exists(os.path.join(TOP, "crates", name)))
 
 

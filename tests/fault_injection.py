@@ -1,5 +1,4 @@
 """Runs the built tests and the program under the shim that refuses growths of memory, each in turn."""
-import glob
 import os
 import re
 import subprocess
@@ -24,11 +23,14 @@ MEMORY = b"dapnorm: out of memory\n"
 def run_tests(report, shim):
     """Each test that asks for refusals, by itself."""
     found = 0
-    for tests in sorted(glob.glob(os.path.join(TOP, "crates", "*", "out", "*_tests"))):
+    for crate, part in (("allocation_tests", ""), ("conformance", "masks")):
+        tests = os.path.join(TOP, "crates", crate, "out", f"{crate}_tests")
+        if not report.check(f"the gate has built the tests of {crate}", os.access(tests, os.X_OK)):
+            continue
         listed = subprocess.run([tests, "--list"], capture_output=True, text=True, check=True).stdout
         for line in listed.splitlines():
             name = line.removesuffix(": test")
-            if name == line or "refused_growths" not in name:
+            if name == line or part not in name:
                 continue
             found += 1
             ran = subprocess.run([tests, name], env={**os.environ, "LD_PRELOAD": shim}, capture_output=True, text=True, timeout=120)

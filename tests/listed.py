@@ -6,7 +6,7 @@ import sys
 
 from report import TOP, Report
 
-OF_CRATE = re.compile(r"`(conformance|layer_tests)` `(\w+)`((?:,? `[a-z]\w*`(?! `))*)")
+OF_CRATE = re.compile(r"`(allocation_tests|conformance|layer_tests)` `(\w+)`((?:,? `[a-z]\w*`(?! `))*)")
 OF_SCRIPT = re.compile(r"`tests/(\w+)\.py` `(\w+)`")
 
 
@@ -30,11 +30,11 @@ def main():
         report.check(f"{crate} has the test {module}::{test}", test in tests_of(crate, module))
     for script, function in scripts:
         report.check(f"tests/{script}.py has {function}", re.search(rf"^def {function}\(", read("tests", f"{script}.py"), re.MULTILINE) is not None)
-    for path in glob.glob(os.path.join(TOP, "crates", "conformance", "src", "*refused_growths*.rt")):
-        module = os.path.basename(path).removesuffix(".rt")
-        for test in tests_of("conformance", module):
-            is_named = ("conformance", module, test) in named or f"`{module}`, the other tests of the module" in listed
-            report.check(f"docs/TESTS.md has {module}::{test}", is_named)
+    for crate, pattern in (("allocation_tests", "*.rt"), ("conformance", "masks.rt")):
+        for path in glob.glob(os.path.join(TOP, "crates", crate, "src", pattern)):
+            module = os.path.basename(path).removesuffix(".rt")
+            for test in tests_of(crate, module):
+                report.check(f"docs/TESTS.md has {module}::{test}", (crate, module, test) in named)
     return report.close()
 
 

@@ -1,10 +1,6 @@
-//! Each growth of a call refused in turn: the answer is that of ample memory, or want of memory,
-//! and never another.
-//!
-//! tests/fault_injection.py runs these under a shim that refuses. Without it each makes one turn
-//! with ample memory.
-use crate::examples::{LIMITS, LOOSE};
-use crate::growths::was_wanted;
+//! Each allocation of a framer, of `write_frame`, of a tree that is read and of its copy fails in
+//! turn.
+use crate::examples::{LIMITS, was_wanted};
 use dap_frame::{Fed, FrameFault, Framer, write_frame};
 use dap_tree::{Tree, TreeFault, read_tree, write_tree};
 use fault_injection::{refuse_growth, was_refused};
@@ -16,12 +12,12 @@ use std::process::Abort;
 fn writes_frame(rt: &impl Abort, alloc: Global, turn: u16) -> bool {
     let mut out = Vec::from_slice(alloc, b"before").expect(rt, "no memory");
     refuse_growth(alloc, turn);
-    let answer = write_frame(&mut out, b"{}", LIMITS.frame);
+    let answer = write_frame(&mut out, b"{}", LIMITS);
     let is_refused = was_refused(alloc);
     if answer == Err(FrameFault::Memory) {
         was_wanted(rt, is_refused, turn);
         assert!(rt; out.as_slice() == b"before".as_slice());
-        assert!(rt; write_frame(&mut out, b"{}", LIMITS.frame) == Ok(()));
+        assert!(rt; write_frame(&mut out, b"{}", LIMITS) == Ok(()));
     } else {
         assert!(rt; answer == Ok(()));
     }
@@ -38,7 +34,10 @@ fn write_frame_is_refused_in_turn(rt: HostRuntime) {
     }
 }
 
-/// The content of the loose frame.
+/// A frame whose content has spaces and its members out of order.
+const LOOSE: &[u8] = b"Content-Length: 15\r\n\r\n{ \"b\":1,\"a\":2 }";
+
+/// The content of that frame.
 const FIRST_CONTENT: &[u8] = b"{ \"b\":1,\"a\":2 }";
 
 /// What a framer made of one piece of at most 20 bytes.
@@ -74,7 +73,7 @@ fn feed(framer: &mut Framer, bytes: &[u8]) -> Made {
 /// Asks that a framer gives its content with this growth refused, and is as before where it was.
 /// Whether it was.
 fn feeds_all(rt: &impl Abort, alloc: Global, turn: u16) -> bool {
-    let mut framer = Framer::new(alloc, LIMITS.frame);
+    let mut framer = Framer::new(alloc, LIMITS);
     let mut rest = LOOSE;
     let mut is_wanted = false;
     let mut is_given = false;

@@ -1,5 +1,5 @@
-//! Each growth of memory refused in turn, while the differences of two trees are told.
-use crate::growths::was_wanted;
+//! Each allocation fails in turn while the differences of two trees are written.
+use crate::examples::was_wanted;
 use dap_difference::difference_text;
 use dap_tree::{Tree, read_tree};
 use fault_injection::{refuse_growth, was_refused};

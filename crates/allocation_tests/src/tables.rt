@@ -1,9 +1,6 @@
-//! Each growth of a small table of names, of a renaming, and of a text past the limit of a content
-//! refused in turn: the answer is that of ample memory, or want of memory, and never another.
-//!
-//! tests/fault_injection.py runs these under a shim that refuses. Without it each makes one turn
-//! with ample memory.
-use crate::growths::was_wanted;
+//! Each allocation of a small name table, of a renaming, and of a content that is too long to be
+//! written fails in turn.
+use crate::examples::was_wanted;
 use dap_frame::{FrameFault, FrameLimits, write_frame};
 use dap_recording::write_record;
 use dap_rename::{IndexNames, NameFault, NameTable, Pair, PairFault, PlainNames, Renaming};

@@ -1,10 +1,6 @@
-//! Each growth of a call that writes a tree, or reads one with room that is kept, refused in turn:
-//! the answer is that of ample memory, or want of memory, and never another. What is lent is as
-//! before, and the same call made again answers what it would have answered at first.
-//!
-//! tests/fault_injection.py runs these under a shim that refuses. Without it each makes one turn
-//! with ample memory.
-use crate::growths::was_wanted;
+//! Each allocation of a call that writes a tree, or reads one into buffers that it reuses, fails in
+//! turn. What the call borrowed is as before, and the same call returns the same with memory.
+use crate::examples::was_wanted;
 use dap_tree::{Scratch, Tree, TreeFault, read_tree, read_tree_with, write_tree, write_tree_to};
 use fault_injection::{refuse_growth, was_refused};
 use std::alloc::Global;

@@ -1,9 +1,5 @@
-//! Each growth of a call on messages refused in turn: the answer is that of ample memory, or want
-//! of memory, and never another. What is lent is as before.
-//!
-//! tests/fault_injection.py runs these under a shim that refuses. Without it each makes one turn
-//! with ample memory.
-use crate::growths::was_wanted;
+//! Each allocation of a call on messages fails in turn. What the call borrowed is as before.
+use crate::examples::was_wanted;
 use dap_message::{Message, MessageFault, Side, typed};
 use dap_tree::{Sort, Tree, TreeFault, read_tree, write_tree};
 use fault_injection::{refuse_growth, was_refused};

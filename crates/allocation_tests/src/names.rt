@@ -1,10 +1,5 @@
-//! Each growth of tables of names, and of the renaming between names, refused in turn: the answer is
-//! that of ample memory, or want of memory, and never another.
-//!
-//! tests/fault_injection.py runs these under a shim that refuses. Without it each makes one turn
-//! with ample memory.
-use crate::examples::{IndexTable, index_tables};
-use crate::growths::was_wanted;
+//! Each allocation of name tables, and of the renaming between names, fails in turn.
+use crate::examples::{IndexTable, index_tables, was_wanted};
 use dap_message::{Message, MessageFault, Side, typed};
 use dap_rename::{IndexNames, Mode, NameFault, NameTable, Names, PlainNames, Renaming};
 use dap_tree::read_tree;

@@ -1,12 +1,6 @@
-//! Each growth of a reader of records, a recorder, a session and names refused in turn: the answer
-//! is that of ample memory, or want of memory, and never another. After want of memory each is as
-//! before, and takes the same again.
-//!
-//! tests/fault_injection.py runs these under a shim that refuses. Without it each makes one turn
-//! with ample memory.
-use crate::examples::{IndexTable, LIMITS, index_tables};
-use crate::growths::was_wanted;
-use crate::recordings::{INITIALIZE, INITIALIZE_RESPONSE, recording};
+//! Each allocation of a record reader, a recorder, a session and names fails in turn. After a
+//! failed allocation each is as before, and accepts the same input again.
+use crate::examples::{IndexTable, LIMITS, index_tables, was_wanted};
 use dap_frame::FrameFault;
 use dap_message::{Message, MessageFault, Side, typed};
 use dap_recording::{
@@ -18,6 +12,17 @@ use dap_tree::{SORTS, Sort, read_tree};
 use fault_injection::{refuse_growth, was_refused};
 use std::alloc::Global;
 use std::process::Abort;
+
+/// The request that a session starts with, and its response.
+const INITIALIZE: &str =
+    "{\"arguments\":{\"adapterID\":\"mock\"},\"command\":\"initialize\",\"seq\":1,\"type\":\"request\"}";
+
+const INITIALIZE_RESPONSE: &str =
+    "{\"command\":\"initialize\",\"request_seq\":1,\"seq\":1,\"success\":true,\"type\":\"response\"}";
+
+/// The record of that request.
+const RECORD: &[u8] =
+    b">Content-Length: 82\r\n\r\n{\"arguments\":{\"adapterID\":\"mock\"},\"command\":\"initialize\",\"seq\":1,\"type\":\"request\"}\n";
 
 /// A frame of the adapter and one of the client.
 const RECORDED: &[u8] = b"<Content-Length: 4\r\n\r\nnull\n>Content-Length: 2\r\n\r\n{}\n";
@@ -78,12 +83,12 @@ fn read(reader: &mut RecordReader, bytes: &[u8]) -> Made {
 }
 
 fn is_initialize(record: &Record) -> bool {
-    record.side == Side::Client && record.content.as_slice() == INITIALIZE.1.as_bytes()
+    record.side == Side::Client && record.content.as_slice() == INITIALIZE.as_bytes()
 }
 
 /// Asks that a reader takes all of a recording with this growth refused. Whether it was.
 fn reads_all(rt: &impl Abort, alloc: Global, bytes: &[u8], turn: u16) -> bool {
-    let mut reader = RecordReader::new(alloc, LIMITS.frame);
+    let mut reader = RecordReader::new(alloc, LIMITS);
     let mut rest = bytes;
     let mut is_wanted = false;
     refuse_growth(alloc, turn);
@@ -105,9 +110,8 @@ fn reads_all(rt: &impl Abort, alloc: Global, bytes: &[u8], turn: u16) -> bool {
 
 #[test]
 fn a_reader_of_records_is_refused_in_turn(rt: HostRuntime) {
-    let bytes = recording(&rt, rt.alloc(), &[INITIALIZE]);
     for turn in 1..100u16 {
-        if !reads_all(&rt, rt.alloc(), bytes.as_slice(), turn) {
+        if !reads_all(&rt, rt.alloc(), RECORD, turn) {
             break;
         }
     }
@@ -150,7 +154,7 @@ const PIECES: [(Side, &[u8]); 4] = [
 
 /// Asks for the recording of the pieces with this growth refused. Whether it was.
 fn records_pieces(rt: &impl Abort, alloc: Global, turn: u16) -> bool {
-    let mut recorder = Recorder::new(alloc, LIMITS.frame);
+    let mut recorder = Recorder::new(alloc, LIMITS);
     let mut is_wanted = false;
     refuse_growth(alloc, turn);
     for (side, piece) in &PIECES {
@@ -178,13 +182,13 @@ fn a_recorder_is_refused_in_turn(rt: HostRuntime) {
 fn writes_record(rt: &impl Abort, alloc: Global, turn: u16) -> bool {
     let mut out = Vec::from_slice(alloc, b"before").expect(rt, "no memory");
     refuse_growth(alloc, turn);
-    let answer = write_record(&mut out, Side::Adapter, b"{}", LIMITS.frame);
+    let answer = write_record(&mut out, Side::Adapter, b"{}", LIMITS);
     let is_refused = was_refused(alloc);
     if answer.is_err() {
         was_wanted(rt, is_refused, turn);
         assert!(rt; answer == Err(FrameFault::Memory));
         assert!(rt; out.as_slice() == b"before".as_slice());
-        assert!(rt; write_record(&mut out, Side::Adapter, b"{}", LIMITS.frame).is_ok());
+        assert!(rt; write_record(&mut out, Side::Adapter, b"{}", LIMITS).is_ok());
     }
     assert!(rt; out.as_slice() == b"before<Content-Length: 2\r\n\r\n{}\n".as_slice());
     is_refused
@@ -239,8 +243,8 @@ fn accepts_all(rt: &impl Abort, alloc: Global, messages: &[Message], turn: u16) 
 fn a_session_is_refused_in_turn(rt: HostRuntime) {
     let alloc = rt.alloc();
     let messages = [
-        message(&rt, alloc, Side::Client, INITIALIZE.1),
-        message(&rt, alloc, Side::Adapter, INITIALIZE_RESPONSE.1),
+        message(&rt, alloc, Side::Client, INITIALIZE),
+        message(&rt, alloc, Side::Adapter, INITIALIZE_RESPONSE),
         message(&rt, alloc, Side::Client, SCOPES_REQUEST),
         message(&rt, alloc, Side::Client, OTHER_REQUEST),
     ];

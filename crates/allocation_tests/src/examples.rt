@@ -1,0 +1,32 @@
+//! What the tests start with, and the check that they share.
+ghost use Rattle.std.specs.Prelude.{◌<◌, ◌^◌};
+ghost use Rattle.dap_rename.specs.IndexNames.{index_numbers};
+ghost use Rattle.dap_rename.specs.Names.{AreEmpty};
+
+use dap_frame::FrameLimits;
+use dap_rename::{IndexNames, Tables};
+use std::alloc::Global;
+use std::hash::{BuildHasherDefault, FoldHasher};
+use std::process::Abort;
+
+/// The program's limits of a frame.
+pub const LIMITS: FrameLimits = FrameLimits {
+    header: 4096,
+    content: 16_777_216,
+};
+
+/// A name table over an index with its default hasher.
+pub type IndexTable = IndexNames<BuildHasherDefault<FoldHasher>>;
+
+/// Returns empty name tables, each for at most this many ids of its kind.
+pub fn index_tables(alloc: Global, ids: usize) -> Tables<IndexTable>
+    requires { ids < 2 ^ 31 }
+    ensures { AreEmpty index_numbers result }
+{
+    Tables::indexed(alloc, ids, BuildHasherDefault::new())
+}
+
+/// Asserts that an allocation failed in this turn.
+pub fn was_wanted(rt: &impl Abort, is_refused: bool, turn: u16) {
+    assert!(rt; is_refused, "memory was there at turn {turn}");
+}
