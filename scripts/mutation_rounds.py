@@ -180,12 +180,18 @@ def judged(edit: Edit, output: Output) -> Optional[Verdict]:
     return None
 
 
+def refused_alone(rt, crate, edit: Edit, *kept: str) -> Tuple[bool, str]:
+    """Tries one edit as `rt must-fail` does. A kit's rt returns whether the edit is refused, or a word for the outcome."""
+    outcome, said = rt.must_fail(crate, edit.file, ["--jobs", "1"], *kept)
+    return outcome is True or outcome in ("refused", "limit"), said
+
+
 def tried_alone(rt, crate, edit: Edit, kept: str) -> Verdict:
     """Tries one edit as `rt must-fail` does, over kept work; what is not refused so is tried again from nothing."""
     label = f"must-fail {crate.name}/{os.path.basename(edit.file)}: "
-    is_refused, said = rt.must_fail(crate, edit.file, ["--jobs", "1"], kept)
+    is_refused, said = refused_alone(rt, crate, edit, kept)
     if not is_refused and "NOT REFUSED" in said:
-        is_refused, said = rt.must_fail(crate, edit.file, ["--jobs", "1"])
+        is_refused, said = refused_alone(rt, crate, edit)
     said = said.removeprefix(label).removeprefix("refused, as it must be").removeprefix(": ").strip()
     said = " ".join(said.split())
     return Verdict(edit, is_refused, f"refused, tried alone: {said[:LONGEST]}" if is_refused else f"FAILED: {said[:400]}")
