@@ -1,0 +1,4 @@
+pub mod Calls
+pub mod Crash
+pub mod Memory
+pub mod Replacing

@@ -1,0 +1,114 @@
+//! Calls on the file system of the operating system.
+ghost use Rattle.std.specs.Prelude.{◌<◌, ◌≤◌, length, IfOk, IfSome};
+
+use crate::place::Place;
+use std::alloc::Global;
+use std::fs::{OpenFile, OpenOptions, Permissions};
+use std::io::{Error, ErrorKind, Read, Write};
+use std::os::unix::fs::{OpenOptionsExt, PermissionsExt};
+use std::rt::Files;
+use std::{fs, io};
+
+/// The mode of a temporary file until it gets that of the file: only the user has access.
+const OWN_MODE: u32 = 0o600;
+
+/// Makes the temporary file. Until it has the permissions of the file, only the user has access.
+pub(crate) fn open_new<R: Files>(rt: &R, place: &Place) -> io::Result<R::File> {
+    let mut options = OpenOptions::new();
+    options.write(true).create_new(true);
+    if place.mode.is_some() {
+        options.mode(OWN_MODE);
+    }
+    options.open(rt, place.temporary.as_str())
+}
+
+/// Writes a prefix of the bytes. A write that a signal interrupted is made again.
+pub(crate) fn write_some<W: Write>(writer: &mut W, bytes: &[u8]) -> io::Result<usize>
+    ensures within { IfOk result (λ count. count ≤ length bytes.now) }
+    ensures some { IfOk result (λ count. 0 < length bytes.now → 0 < count) }
+{
+    for _ in 0..u64::MAX {
+        match writer.write(bytes) {
+            Ok(0) if !bytes.is_empty() => return Err(ErrorKind::WriteZero.into()),
+            Err(error) if error.kind() == ErrorKind::Interrupted => {}
+            outcome => return outcome,
+        }
+    }
+    Err(ErrorKind::Interrupted.into())
+}
+
+/// Gives the temporary file the permissions of the file and syncs both.
+pub(crate) fn sync_file<F: OpenFile>(file: &F, mode: Option<u32>) -> io::Result<()> {
+    if let Some(mode) = mode {
+        file.set_permissions(Permissions::from_mode(mode))?;
+    }
+    file.sync_all()
+}
+
+/// Returns whether a file system has no syncing of folders.
+fn is_unsupported(error: &Error) -> bool {
+    matches!(
+        error.kind(),
+        ErrorKind::InvalidInput | ErrorKind::Unsupported
+    )
+}
+
+/// Syncs a folder, on a file system that can.
+pub(crate) fn sync_folder_at<R: Files>(rt: &R, folder: &str) -> io::Result<()> {
+    let opened = match fs::open(rt, folder) {
+        Ok(opened) => opened.sync_all(),
+        Err(error) => Err(error),
+    };
+    match opened {
+        Err(error) if is_unsupported(&error) => Ok(()),
+        outcome => outcome,
+    }
+}
+
+/// Removes a file, which may be gone already.
+pub(crate) fn remove_at<R: Files>(rt: &R, path: &str) -> io::Result<()> {
+    match fs::remove_file(rt, path) {
+        Err(error) if error.kind() == ErrorKind::NotFound => Ok(()),
+        outcome => outcome,
+    }
+}
+
+/// Why a file of the operating system was not read.
+#[derive(Clone, Copy, Debug)]
+pub(crate) enum Unread {
+    System(Error),
+    TooLong,
+    Memory,
+}
+
+impl From<Error> for Unread {
+    /// An allocation that failed in std has no number of the operating system.
+    fn from(error: Error) -> Unread {
+        if error.kind() == ErrorKind::OutOfMemory && error.raw_os_error().is_none() {
+            Unread::Memory
+        } else {
+            Unread::System(error)
+        }
+    }
+}
+
+/// Reads a file, and at most one byte past the limit.
+pub(crate) fn read_at<R: Files>(
+    alloc: Global,
+    rt: &R,
+    path: &str,
+    limit: u64,
+) -> Result<Option<Vec<u8>>, Unread>
+    ensures { IfOk result (λ found. IfSome found (λ bytes. length bytes.items ≤ limit)) }
+{
+    let file = match fs::open(rt, path) {
+        Err(error) if error.kind() == ErrorKind::NotFound => return Ok(None),
+        opened => opened?,
+    };
+    let mut bytes = Vec::new(alloc);
+    file.take(limit.saturating_add(1)).read_to_end(&mut bytes)?;
+    if bytes.len() as u64 > limit {
+        return Err(Unread::TooLong);
+    }
+    Ok(Some(bytes))
+}
