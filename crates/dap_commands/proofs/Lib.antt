@@ -1,0 +1,7 @@
+pub mod DefinitionLemmas
+pub mod EnteredSubcommand
+pub mod Found
+pub mod NoFault
+pub mod RequiredValues
+pub mod TakenCommands
+pub mod WorkedLines

@@ -1,0 +1,169 @@
+-- Arguments that a parse takes name a command.
+use Rattle.std.proofs.Common.{◌≡◌, ◌∙◌, ◌||◌, is_some, Bool, true, false, codes}
+use Rattle.std.proofs.Common.{List, [], Option, Some, None, refl, sym, ap, true≢false}
+use Rattle.std.proofs.lemmas.Slice.Eq.{bytes_eq-Decides}
+use Rattle.std.specs.Prelude.{option_map}
+use Rattle.std.specs.List.{AllByRecursion, find, list_all}
+use Rattle.std.specs.Option.{option_map_or}
+use Rattle.std.specs.Str.{bytes_eq}
+use Rattle.clap.specs.Faults.{fault_of}
+use Rattle.clap.specs.Simple.{App, Shape, argument_words, built, entered, is_simple, label_of}
+use Rattle.clap.specs.Simple.{names_of}
+use Rattle.clap.specs.Simple.{built_leaf, inherited, marked_built, rows_at, subcommand_of}
+use Rattle.clap.specs.Simple.{with_leaf_noted}
+use Rattle.clap.specs.Takes.{built_takes, default_passes, entered_passes, level_passes}
+use Rattle.clap.specs.Takes.{settle_passes, takes, walk_passes}
+use Rattle.clap.specs.Walk.{Row, Text, answers_to, first_of, nothing_held, rows_after}
+use Rattle.clap.specs.Walk.{stop_after, walk, walk_from}
+use Rattle.clap.proofs.WalkLemmas.{both}
+use Rattle.dap_command_line.specs.CommandLine.{Told as ToldJob, asks_per_stop, over_files}
+use Rattle.dap_command_line.specs.CommandLine.{two_files}
+use Rattle.dap_command_line.specs.CommandLine as line
+use Rattle.dap_commands.specs.Commands.{command_named, command_of, golden_keeper, masker}
+use Rattle.dap_commands.specs.Commands.{of_two_files, program, with_files}
+use Rattle.dap_commands.proofs.EnteredSubcommand.{IsNotHelp, walk_meets}
+use Rattle.dap_commands.proofs.Found.{found_in}
+use Rattle.dap_commands.proofs.NoFault.{no_fault-takes}
+use Rattle.dap_commands.proofs.RequiredValues.{level_has_required}
+
+-- ---- each subcommand
+
+-- a function of a value that exists
+mapped : {X Y : Type 0} (f : X → Y) (o : Option X) → is_some o ≡ true
+    → is_some (option_map f o) ≡ true
+mapped f None some = some
+mapped f (Some x) some = refl
+
+-- a job over two files that are both given
+both_files : (job : Text → Text → Bool → ToldJob) (given : List Row) (a b : Option Text)
+    → is_some a ≡ true → is_some b ≡ true
+    → is_some (option_map (λ files. job files.0 files.1 (asks_per_stop given)) (two_files a b))
+    ≡ true
+both_files job given None b some other = absurd (true≢false (sym some))
+both_files job given (Some a) None some other = absurd (true≢false (sym other))
+both_files job given (Some a) (Some b) some other = refl
+
+-- The subcommand, met by a word that is not `help`, names a command if its level passes.
+abbrev NamesCommand : Shape → Type 0
+NamesCommand s = (word : Text) (words : List Text) → answers_to word (label_of s) ≡ true
+    → bytes_eq word (codes "help") ≡ false → level_passes s [] nothing_held words false ≡ true
+    → is_some (command_of s.name (rows_after s.rules [] words)) ≡ true
+
+-- the subcommand `help`, which clap adds
+help_names : (word : Text) → (bytes_eq (codes "help") word || false) ≡ true
+    → bytes_eq word (codes "help") ≡ false → ⊥
+help_names word answers not_help =
+    let same =
+    (bytes_eq-Decides (codes "help") word).0 (first (bytes_eq (codes "help") word) answers) in
+    true≢false (ap (λ w. bytes_eq w (codes "help")) same ∙ not_help)
+  where
+    first : (b : Bool) → (b || false) ≡ true → b ≡ true
+    first true one = refl
+    first false one = one
+
+-- the program as clap builds it
+abbrev app : App
+app = built program
+
+-- the shape of a subcommand as it is built
+abbrev as_built : Shape → Shape
+as_built s = built_leaf (inherited (with_leaf_noted (marked_built program.top)) s)
+
+golden_names : NamesCommand (as_built golden_keeper)
+golden_names word words met not_help passes =
+    let rows = rows_after (as_built golden_keeper).rules [] words in
+    let need = level_has_required (as_built golden_keeper) words refl passes in
+    mapped _ (first_of (codes "GOLDEN") rows)
+    (both (is_some (first_of (codes "GOLDEN") rows)) _ need).0
+
+mask_names : NamesCommand (as_built masker)
+mask_names word words met not_help passes =
+    let rows = rows_after (as_built masker).rules [] words in
+    let need = level_has_required (as_built masker) words refl passes in
+    mapped (with_files rows) _ (mapped line.mask (first_of (codes "RULES") rows)
+    (both (is_some (first_of (codes "RULES") rows)) _ need).0)
+
+both_given : (job : Text → Text → Bool → ToldJob) (name : Text) (words : List Text)
+    → level_passes (as_built (of_two_files name)) [] nothing_held words false ≡ true
+    → let rows = rows_after (as_built (of_two_files name)).rules [] words in
+    is_some (option_map (with_files rows) (over_files job rows)) ≡ true
+both_given job name words passes =
+    let rows = rows_after (as_built (of_two_files name)).rules [] words in
+    let need = level_has_required (as_built (of_two_files name)) words refl passes in
+    let a = first_of (codes "A") rows in
+    let b = first_of (codes "B") rows in
+    let two = both (is_some a) _ need in
+    mapped (with_files rows) _ (both_files job rows a b two.0 (both (is_some b) _ two.1).0)
+
+each_names : AllByRecursion NamesCommand app.subs
+each_names = (
+  golden_names,
+  (
+    λ word words met not_help passes. refl,
+    (
+      λ word words met not_help passes. refl,
+      (
+        λ word words met not_help passes. refl,
+        (
+          λ word words met not_help passes. both_given line.compare (codes "compare") words passes,
+          (
+            λ word words met not_help passes. both_given line.diff (codes "diff") words passes,
+            (
+              λ word words met not_help passes. refl,
+              (
+                mask_names,
+                (
+                  λ word words met not_help passes. refl,
+                  (
+                    λ word words met not_help passes. refl,
+                    (λ word words met not_help passes. absurd (help_names word met not_help), tt),
+                  ),
+                ),
+              ),
+            ),
+          ),
+        ),
+      ),
+    ),
+  ),
+)
+
+-- ---- the subcommand that a parse enters
+
+by_found : (p : Text × List Text) (found : Option Shape)
+    → find (λ s. answers_to p.0 (label_of s)) app.subs ≡ found
+    → bytes_eq p.0 (codes "help") ≡ false
+    → option_map_or (λ s. level_passes s [] nothing_held p.1 false) found true ≡ true
+    → is_some (option_map (λ s. rows_at s p.1) found) ≡ true
+    → is_some (command_named (option_map (λ s. rows_at s p.1) found)) ≡ true
+by_found p None found not_help passes some = absurd (true≢false (sym some))
+by_found p (Some s) found not_help passes some =
+    let is = found_in NamesCommand (λ t. answers_to p.0 (label_of t)) app.subs s each_names found in
+    is.0 p.0 p.1 is.1 not_help passes
+
+by_stop : (stop : Option (Text × List Text)) → IsNotHelp stop → entered_passes app stop ≡ true
+    → is_some (entered app stop) ≡ true → is_some (command_named (entered app stop)) ≡ true
+by_stop None not_help passes some = absurd (true≢false (sym some))
+by_stop (Some p) not_help passes some =
+    by_found p (find (λ s. answers_to p.0 (label_of s)) app.subs) refl not_help passes some
+
+-- Arguments that a parse takes name a command.
+pub takes_command : (words : List Text) → takes program words ≡ true
+    → is_some (command_named (subcommand_of program words)) ≡ true
+takes_command words taken =
+    let given = argument_words program words in
+    let stop = stop_after app.top.rules (names_of app) given in
+    let end = (walk app.top.rules (names_of app) nothing_held given).held in
+    let parse = (both (is_simple program) (built_takes app nothing_held given) taken).1 in
+    let levels = both (entered_passes app stop) _ parse in
+    let walks = both (walk_passes app.top (names_of app) (walk_from nothing_held) given) _
+    levels.1 in
+    let settles = both (settle_passes app.top.rules app.top.args_override_self end) _ walks.1 in
+    let valid = (both (list_all default_passes app.top.rules) _ settles.1).1 in
+    by_stop stop (walk_meets app.top (names_of app) refl given (walk_from nothing_held) walks.0 tt)
+    levels.0 (both (is_some (entered app stop)) _ (both true _ valid).1).0
+
+-- Arguments in which a parse finds no fault name a command.
+pub accepted_command : (words : List Text) → fault_of program words ≡ []
+    → is_some (command_named (subcommand_of program words)) ≡ true
+accepted_command words none = takes_command words (no_fault-takes program words refl refl none)

@@ -1,0 +1,8 @@
+use Rattle.dap_commands.proofs.DefinitionLemmas.{added, added_last}
+use Rattle.dap_commands.proofs.definition.check_command.Goals as goal
+
+pub returns : goal.returns
+returns c =
+    let complete = added c.in_ok-arg.ensures c.flag.ensures c.subcommand.ensures in
+    let per_stop = added c.in_ok-arg-2.ensures c.per_stop_flag.ensures complete in
+    added_last c.arg-3.result c.arg-3.ensures c.input_file.ensures per_stop

@@ -1,0 +1,30 @@
+use Rattle.std.proofs.Common.{ap, codes, ◌∙◌}
+use Rattle.clap.specs.Words.{with_subcommand}
+use Rattle.dap_commands.specs.Commands.{checker, golden_keeper, masker, normaliser, of_two_files}
+use Rattle.dap_commands.specs.Commands.{row_printer, stream}
+use Rattle.dap_commands.proofs.DefinitionLemmas.{with_last}
+use Rattle.dap_commands.proofs.definition.program.Goals as goal
+
+pub returns : goal.returns
+returns c =
+    let golden = c.in_ok-golden.ensures golden_keeper c.golden_command.ensures
+    ∙ ap (λ a. with_subcommand a golden_keeper) c.bare_command.ensures in
+    let record_trace = c.in_ok-record.ensures (stream (codes "record")) c.record_command.ensures
+    ∙ ap (λ a. with_subcommand a (stream (codes "record"))) golden in
+    let check = c.in_ok-check.ensures checker c.check_command.ensures
+    ∙ ap (λ a. with_subcommand a checker) record_trace in
+    let normalise = c.in_ok-normalise.ensures normaliser c.normalise_command.ensures
+    ∙ ap (λ a. with_subcommand a normaliser) check in
+    let compare =
+    c.in_ok-compare.ensures (of_two_files (codes "compare")) c.compare_command.ensures
+    ∙ ap (λ a. with_subcommand a (of_two_files (codes "compare"))) normalise in
+    let diff = c.in_ok-diff.ensures (of_two_files (codes "diff")) c.diff_command.ensures
+    ∙ ap (λ a. with_subcommand a (of_two_files (codes "diff"))) compare in
+    let show = c.in_ok-show.ensures (stream (codes "show")) c.show_command.ensures
+    ∙ ap (λ a. with_subcommand a (stream (codes "show"))) diff in
+    let mask = c.in_ok-mask.ensures masker c.mask_command.ensures
+    ∙ ap (λ a. with_subcommand a masker) show in
+    let compact = c.in_ok-compact.ensures (stream (codes "compact")) c.compact_command.ensures
+    ∙ ap (λ a. with_subcommand a (stream (codes "compact"))) mask in
+    with_last c.with_subcommand-10.result row_printer
+    (c.with_subcommand-10.ensures row_printer c.rows_command.ensures) compact

@@ -1,0 +1,8 @@
+use Rattle.dap_commands.proofs.DefinitionLemmas.{added, added_last}
+use Rattle.dap_commands.proofs.definition.two_files_command.Goals as goal
+
+pub returns : goal.returns
+returns c =
+    let a = added c.in_ok-arg.ensures c.file.ensures c.subcommand.ensures in
+    let b = added c.in_ok-arg-2.ensures c.file-2.ensures a in
+    added_last c.arg-3.result c.arg-3.ensures c.per_stop_flag.ensures b

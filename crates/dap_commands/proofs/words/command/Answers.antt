@@ -1,0 +1,63 @@
+use Rattle.std.proofs.Common.{ap, is_some, option_map, inl, inr, refl, subst, sym, true≢false, ◌≡◌}
+use Rattle.std.proofs.Common.{◌∙◌}
+use Rattle.clap.specs.Simple.{is_simple}
+use Rattle.clap.specs.Values.{kind_of}
+use Rattle.clap.specs.Walk.{texts}
+use Rattle.clap.specs.Words.{HasKind, Kinds, fault_of as faults_of, is_simple_and_free}
+use Rattle.clap.specs.Words.{subcommand_of, takes}
+use Rattle.clap.specs.declared.error.Error.{Error}
+use Rattle.clap.specs.declared.error.kind.ErrorKind.TheVariants as kind
+use Rattle.dap_command_line.specs.CommandLine.{IsToldOf}
+use Rattle.dap_command_line.specs.declared.jobs.UsageFault.{UsageFault}
+use Rattle.dap_command_line.specs.declared.jobs.UsageFault.TheVariants as usage
+use Rattle.dap_commands.specs.Commands.{IsFaultFor, command_named, program, told}
+use Rattle.dap_commands.proofs.TakenCommands.{accepted_command}
+use Rattle.dap_commands.proofs.words.command.Goals as goal
+
+-- what is returned for an error is returned for the kinds that a parse finds
+fault_for : (kinds : Kinds) (error : Error) (fault : UsageFault) → HasKind kinds error
+    → (kind_of error ≡ kind.OutOfMemory → fault ≡ usage.Memory) → IsToldOf (kind_of error) fault
+    → IsFaultFor kinds fault
+fault_for kinds error (usage.Help text) (inl memory) is one = absurd (let wrong = is memory in cc)
+fault_for kinds error (usage.Help text) (inr among) is one = (kind_of error, among, one)
+fault_for kinds error (usage.Usage text) (inl memory) is one = absurd (let wrong = is memory in cc)
+fault_for kinds error (usage.Usage text) (inr among) is one = (kind_of error, among, one)
+fault_for kinds error usage.Memory has is one = tt
+
+pub returns-in-Err-clause-err : goal.returns-in-Err-clause-err
+returns-in-Err-clause-err c = λ taken.
+    c.fault_of.ensures.memory (c.in-Err.ensures.passes
+    (ap (λ a. takes a (texts c.args.words.now)) c.in-Ok.ensures ∙ taken))
+
+pub returns-in-Err-clause-told : goal.returns-in-Err-clause-told
+returns-in-Err-clause-told c =
+    let words = texts c.args.words.now in
+    let kinds = c.in-Err.ensures.kinds (ap is_simple_and_free c.in-Ok.ensures ∙ refl) in
+    fault_for (faults_of program words) c.in-Err.error c.fault_of.result
+    (subst (λ a. HasKind (faults_of a words) c.in-Err.error) c.in-Ok.ensures kinds)
+    c.fault_of.ensures.memory c.fault_of.ensures.told
+
+pub returns-in-Some-clause-ok : goal.returns-in-Some-clause-ok
+returns-in-Some-clause-ok c =
+    let simple = ap is_simple c.in-Ok.ensures ∙ refl in
+    let rows = (c.in-Ok-try_get_matches_from.ensures.matches simple).1
+    ∙ ap (λ a. subcommand_of a (texts c.args.words.now)) c.in-Ok.ensures in
+    ap command_named (sym rows) ∙ sym c.named_by.ensures ∙ ap (option_map told) c.in-Some.is
+
+pub returns-in-Some-clause-taken : goal.returns-in-Some-clause-taken
+returns-in-Some-clause-taken c =
+    ap (λ a. faults_of a (texts c.args.words.now)) (sym c.in-Ok.ensures)
+    ∙ c.in-Ok-try_get_matches_from.ensures.kinds (ap is_simple_and_free c.in-Ok.ensures ∙ refl)
+
+-- arguments in which a parse finds no fault name a command
+pub unreachable-requires : goal.unreachable-requires
+unreachable-requires c =
+    let words = texts c.args.words.now in
+    let simple = ap is_simple c.in-Ok.ensures ∙ refl in
+    let rows = (c.in-Ok-try_get_matches_from.ensures.matches simple).1
+    ∙ ap (λ a. subcommand_of a words) c.in-Ok.ensures in
+    let none = ap command_named (sym rows) ∙ sym c.named_by.ensures
+    ∙ ap (option_map told) c.in-None.is in
+    let no_fault = ap (λ a. faults_of a words) (sym c.in-Ok.ensures)
+    ∙ c.in-Ok-try_get_matches_from.ensures.kinds (ap is_simple_and_free c.in-Ok.ensures ∙ refl) in
+    true≢false (sym (accepted_command words no_fault) ∙ ap is_some none)

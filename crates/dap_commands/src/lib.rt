@@ -1,0 +1,10 @@
+//! The command line: its definition, and the command that its arguments name: a job or a golden
+//! file, and the files that it reads and writes.
+#![tactic(auto)]
+
+mod commands;
+mod definition;
+mod words;
+
+pub use commands::{Action, Command, Golden};
+pub use words::command;

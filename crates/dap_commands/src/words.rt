@@ -1,0 +1,247 @@
+//! Reads the arguments of a command line with `clap`.
+ghost use Rattle.std.specs.Prelude.{[], ◌≡◌, codes, IfOk, IfErr, None, Some, true};
+ghost use Rattle.std.specs.Prelude.{if◌then◌else◌, option_map};
+ghost use Rattle.clap.specs.Walk.{texts};
+ghost use Rattle.clap.specs.Words.{fault_of as faults_of, first_of, kind_of, subcommand_of};
+ghost use Rattle.clap.specs.Words.{subcommand_rows_of, takes};
+ghost use Rattle.dap_command_line.specs.CommandLine.{IsToldOf, compare, diff, is_asked};
+ghost use Rattle.dap_command_line.specs.CommandLine.{is_set, job_of, mask, over_files, text_in};
+ghost use Rattle.dap_command_line.specs.CommandLine.{texts_in, two_files};
+ghost use Rattle.dap_command_line.specs.CommandLine.{told as told_job};
+ghost use Rattle.dap_command_line.specs.declared.jobs.UsageFault.TheVariants.{Memory};
+ghost use Rattle.dap_commands.specs.Commands.{IsFaultFor, command_named, command_of, given};
+ghost use Rattle.dap_commands.specs.Commands.{golden_of, program, reads_input, told, with_files};
+ghost use Rattle.dap_commands.specs.Commands.{writes_output};
+
+use crate::commands::{Action, Command, Golden};
+use crate::definition;
+use clap::error::ErrorKind;
+use clap::{ArgMatches, Error};
+use dap_command_line::{Job, UsageFault};
+use std::alloc::Global;
+
+/// The value of an argument, if it has one.
+fn value_of<'a>(rows: &ArgMatches<'a>, id: &str) -> Option<&'a str>
+    ensures { text_in result ≡ first_of id.now (given rows.now) }
+{
+    rows.get_str(id)
+}
+
+/// Whether a flag's value is that of a flag that was given.
+fn is_set(value: Option<&str>) -> bool
+    ensures { result ≡ is_set (text_in value.entry) }
+{
+    match value {
+        Some(text) => text == "true",
+        None => false,
+    }
+}
+
+/// Whether a flag was given.
+fn has_flag(rows: &ArgMatches<'_>, id: &str) -> bool
+    ensures { result ≡ is_set (first_of id.now (given rows.now)) }
+{
+    is_set(value_of(rows, id))
+}
+
+/// Both of two texts, if both exist.
+fn both<'a>(first: Option<&'a str>, second: Option<&'a str>) -> Option<(&'a str, &'a str)>
+    ensures { texts_in result ≡ two_files (text_in first.entry) (text_in second.entry) }
+{
+    match (first, second) {
+        (Some(a), Some(b)) => Some((a, b)),
+        _ => None,
+    }
+}
+
+/// The two files of a subcommand, if both are given.
+fn two_files<'a>(rows: &ArgMatches<'a>) -> Option<(&'a str, &'a str)>
+    ensures { texts_in result ≡ two_files (first_of (codes "A") (given rows.now))
+        (first_of (codes "B") (given rows.now)) }
+{
+    both(value_of(rows, "A"), value_of(rows, "B"))
+}
+
+/// The job of `mask`.
+fn mask_job<'a>(rows: &ArgMatches<'a>) -> Option<Job<'a>>
+    ensures { option_map told_job result
+        ≡ option_map mask (first_of (codes "RULES") (given rows.now)) }
+{
+    let rules = value_of(rows, "RULES")?;
+    Some(Job::Mask { rules })
+}
+
+/// The job of `compare`.
+fn compare_job<'a>(rows: &ArgMatches<'a>) -> Option<Job<'a>>
+    ensures { option_map told_job result ≡ over_files compare (given rows.now) }
+{
+    let (a, b) = two_files(rows)?;
+    let per_stop = has_flag(rows, "per-stop");
+    Some(Job::Compare { a, b, per_stop })
+}
+
+/// The job of `diff`.
+fn diff_job<'a>(rows: &ArgMatches<'a>) -> Option<Job<'a>>
+    ensures { option_map told_job result ≡ over_files diff (given rows.now) }
+{
+    let (a, b) = two_files(rows)?;
+    let per_stop = has_flag(rows, "per-stop");
+    Some(Job::Diff { a, b, per_stop })
+}
+
+/// The job of a subcommand with its arguments.
+fn job_by<'a>(name: &str, rows: &ArgMatches<'a>) -> Option<Job<'a>>
+    ensures { option_map told_job result ≡ job_of name.now (given rows.now) }
+{
+    match name {
+        "record" => Some(Job::Record),
+        "check" => {
+            let complete = has_flag(rows, "complete");
+            let per_stop = has_flag(rows, "per-stop");
+            Some(Job::Check { complete, per_stop })
+        }
+        "normalise" => {
+            let per_stop = has_flag(rows, "per-stop");
+            Some(Job::Normalise { per_stop })
+        }
+        "compare" => compare_job(rows),
+        "diff" => diff_job(rows),
+        "show" => Some(Job::Show),
+        "mask" => mask_job(rows),
+        "compact" => Some(Job::Compact),
+        "rows" => Some(Job::Rows {
+            number: value_of(rows, "N"),
+        }),
+        _ => None,
+    }
+}
+
+/// Whether a job reads one input.
+fn reads_input(job: &Job<'_>) -> bool
+    ensures { result ≡ reads_input (told_job job.now) }
+{
+    !matches!(
+        job,
+        Job::Rows { .. } | Job::Compare { .. } | Job::Diff { .. }
+    )
+}
+
+/// Whether a job writes its output to a file, if one is given.
+fn writes_output(job: &Job<'_>) -> bool
+    ensures { result ≡ writes_output (told_job job.now) }
+{
+    !matches!(job, Job::Check { .. }) && reads_input(job)
+}
+
+/// The value of an argument, if the subcommand has it and it was given.
+fn value_if<'a>(is_there: bool, rows: &ArgMatches<'a>, id: &str) -> Option<&'a str>
+    ensures { text_in result ≡ (if is_there then first_of id.now (given rows.now) else None) }
+{
+    if is_there { value_of(rows, id) } else { None }
+}
+
+/// A job with its files.
+fn with_files<'a>(job: Job<'a>, rows: &ArgMatches<'a>) -> Command<'a>
+    ensures { told result ≡ with_files (given rows.now) (told_job job.entry) }
+{
+    Command {
+        action: Action::Job(job),
+        input: value_if(reads_input(&job), rows, "FILE"),
+        output: value_if(writes_output(&job), rows, "output"),
+    }
+}
+
+/// The command of `golden`.
+fn golden_by<'a>(rows: &ArgMatches<'a>) -> Option<Command<'a>>
+    ensures { option_map told result ≡ golden_of (given rows.now) }
+{
+    let golden = Golden {
+        golden: value_of(rows, "GOLDEN")?,
+        rules: value_of(rows, "rules"),
+        per_stop: has_flag(rows, "per-stop"),
+        open: has_flag(rows, "open"),
+        update: has_flag(rows, "update"),
+    };
+    Some(Command {
+        action: Action::Golden(golden),
+        input: value_of(rows, "INPUT"),
+        output: None,
+    })
+}
+
+/// The command of a subcommand with its arguments.
+fn command_by<'a>(name: &str, rows: &ArgMatches<'a>) -> Option<Command<'a>>
+    ensures { option_map told result ≡ command_of name.now (given rows.now) }
+{
+    if name == "golden" {
+        return golden_by(rows);
+    }
+    let job = job_by(name, rows)?;
+    Some(with_files(job, rows))
+}
+
+/// The command that a parse's matches name.
+fn named_by<'a>(matches: &ArgMatches<'a>) -> Option<Command<'a>>
+    ensures { option_map told result ≡ command_named (subcommand_rows_of matches.now) }
+{
+    match matches.subcommand() {
+        Some((name, rows)) => command_by(name, rows),
+        None => None,
+    }
+}
+
+/// Whether help or the version is requested, which is not an error.
+fn is_asked(kind: ErrorKind) -> bool
+    ensures { result ≡ is_asked kind }
+{
+    matches!(kind, ErrorKind::DisplayHelp | ErrorKind::DisplayVersion)
+}
+
+/// The text for the user: help or the version that was requested, or what is wrong.
+fn fault_of(alloc: Global, error: &Error) -> UsageFault
+    ensures memory { kind_of error.now ≡ ErrorKind.OutOfMemory → result ≡ Memory }
+    ensures told { IsToldOf (kind_of error.now) result }
+{
+    if error.kind() == ErrorKind::OutOfMemory {
+        return UsageFault::Memory;
+    }
+    match format!(in alloc; "{error}") {
+        Ok(text) if is_asked(error.kind()) => UsageFault::Help(text),
+        Ok(text) => UsageFault::Usage(text),
+        Err(_) => UsageFault::Memory,
+    }
+}
+
+/// Reads the arguments of a command line, of which the first is the program's name.
+///
+/// # Errors
+///
+/// - `Help`: help or the version is requested. It has the text.
+/// - `Usage`: the arguments are wrong. It has the text that `clap` writes.
+/// - `Memory`: an allocation failed.
+pub fn command<'a>(alloc: Global, words: &'a [&'a str]) -> Result<Command<'a>, UsageFault>
+    // The command is the one that clap's own definition of the program finds in the arguments.
+    ensures ok { IfOk result
+        (λ c. command_named (subcommand_of program (texts words.entry.now)) ≡ Some (told c)) }
+    ensures taken { IfOk result (λ _. faults_of program (texts words.entry.now) ≡ []) }
+
+    // If that definition takes the arguments, only an allocation can have failed.
+    ensures err { IfErr result (λ fault. takes program (texts words.entry.now) ≡ true
+        → fault ≡ Memory) }
+
+    // `Help` is returned if that definition finds that the arguments request help or the version,
+    // and `Usage` if it finds another error.
+    ensures told { IfErr result (IsFaultFor (faults_of program (texts words.entry.now))) }
+{
+    let Ok(program) = definition::program(alloc) else {
+        return Err(UsageFault::Memory);
+    };
+    match program.try_get_matches_from(words) {
+        Ok(matches) => match named_by(&matches) {
+            Some(command) => Ok(command),
+            // Arguments that clap takes name a command (`accepted_command` in proofs/).
+            None => unreachable!(),
+        },
+        Err(error) => Err(fault_of(alloc, &error)),
+    }
+}
