@@ -1,0 +1,6 @@
+pub mod ComparedTexts
+pub mod GoldenTexts
+pub mod MemoryRuns
+pub mod OneGoldenText
+pub mod SessionCounts
+pub mod TraceHeads

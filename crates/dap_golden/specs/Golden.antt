@@ -1,0 +1,124 @@
+-- The text of a golden file: how it is made from an input, and why an input has none. Source: own,
+-- over traces, recordings, masks and normal forms.
+use Rattle.std.specs.Prelude.{◌≡◌, ◌≢◌, ℕ, Bool, false, List, [], length, Option, Some, None}
+use Rattle.std.specs.Borrow.{Bor}
+use Rattle.std.specs.Option.{option_map}
+use Rattle.dap_recording.specs.Recording.{recording_text}
+use Rattle.dap_tree.specs.declared.side.Side.{Side}
+use Rattle.dap_tree.specs.declared.side.Side.TheVariants.{Client, Adapter}
+use Rattle.dap_message.specs.Message.{Sent}
+use Rattle.dap_session.specs.Rules.{open_requests}
+use Rattle.dap_rename.specs.declared.mode.Mode.{Mode}
+use Rattle.dap_mask.specs.KeptRules.{mask_of}
+use Rattle.dap_mask.specs.Mask.{Mask}
+use Rattle.dap_mask.specs.declared.mask_rules.MaskRules.{MaskRules}
+use Rattle.dap_input.specs.declared.limits.Limits.{Limits}
+use Rattle.dap_input.specs.declared.refused.Refused.{Refused}
+use Rattle.dap_input.specs.declared.refused.Refused.TheVariants.{Incomplete}
+use Rattle.dap_input.specs.Refusals.{IsRefused}
+use Rattle.dap_trace.specs.Tracing.{IsRecordedAs, IsTraceRefused}
+use Rattle.dap_mask_input.specs.MaskedRecordings.{IsMaskedTo}
+use Rattle.dap_mask_input.specs.Masking.{masking}
+use Rattle.dap_normal.specs.Accepting.{IsAccepted, accepting}
+use Rattle.dap_normal.specs.Normalising.{IsCanonical}
+use Rattle.dap_golden.specs.declared.fault.GoldenRefused.{GoldenRefused}
+use Rattle.dap_golden.specs.declared.fault.GoldenRefused.TheVariants as because
+use Rattle.dap_golden.specs.declared.golden.GoldenText.{GoldenText}
+use Rattle.dap_golden.specs.TraceHead.{IsTraceHead}
+
+-- ---- the recording of an input, and what the rules leave of it
+
+-- the mask that the rules are, if there are any
+abbrev pub mask_given : Option (Bor MaskRules) → Option Mask
+mask_given rules = option_map (λ r. mask_of r.now) rules
+
+-- The recording of an input (own): that of the trace, if the input starts like one, and otherwise
+-- the input itself.
+pub data IsRecordingOf (limits : Limits) (input recording : List ℕ) : Type 0 where
+  of_trace : IsTraceHead input → (messages : List (Side × List ℕ))
+      → IsRecordedAs limits input messages → recording ≡ recording_text messages
+      → IsRecordingOf limits input recording
+  unchanged : (IsTraceHead input → ⊥) → recording ≡ input → IsRecordingOf limits input recording
+
+-- The recording is masked to this one. Without rules it is unchanged.
+abbrev pub MasksBy : Limits → Option Mask → List ℕ → List ℕ → Type 0
+MasksBy limits None recording masked = masked ≡ recording
+MasksBy limits (Some mask) recording masked = IsMaskedTo limits mask recording masked
+
+-- The input has a recording, and this is the masked one.
+pub record IsMaskedInput (limits : Limits) (mask : Option Mask) (input masked : List ℕ) : Type 0
+  where
+    pub recording : List ℕ
+    pub of_input : IsRecordingOf limits input recording
+    pub masks : MasksBy limits mask recording masked
+
+-- ---- the golden text
+
+-- Each request of both sides has a response.
+abbrev pub AreAnswered : List Sent → Type 0
+AreAnswered messages = (side : Side) → open_requests side messages ≡ 0
+
+-- The text is the normal text of a recording with at least one record. Unless open requests are
+-- allowed, each request in the recording has a response.
+pub record IsGoldenOf (limits : Limits) (mode : Mode) (allow_open : Bool) (recording : List ℕ)
+    (text : GoldenText) : Type 0 where
+  pub canonical : IsCanonical limits mode recording text.bytes.items
+  pub some : canonical.normalises.messages ≢ []
+  pub answered : allow_open ≡ false → AreAnswered canonical.normalises.messages
+  pub count : text.records ≡ length canonical.normalises.messages
+
+-- The text is the golden text of the input: that of its masked recording.
+pub record IsGolden (limits : Limits) (mode : Mode) (mask : Option Mask) (allow_open : Bool)
+    (input : List ℕ) (text : GoldenText) : Type 0 where
+  pub masked : List ℕ
+  pub of_input : IsMaskedInput limits mask input masked
+  pub of_masked : IsGoldenOf limits mode allow_open masked text
+
+-- the messages of the masked recording
+abbrev pub messages_of : {limits : Limits} {mode : Mode} {mask : Option Mask} {allow_open : Bool}
+    {input : List ℕ} {text : GoldenText} → IsGolden limits mode mask allow_open input text
+    → List Sent
+messages_of is = is.of_masked.canonical.normalises.messages
+
+-- ---- refusals
+
+-- The recording is accepted, but so many requests of the client and of the adapter have no
+-- response, and that is not allowed.
+pub record LeavesOpen (limits : Limits) (mode : Mode) (allow_open : Bool) (recording : List ℕ)
+    (client adapter : ℕ) : Type 0 where
+  pub not_allowed : allow_open ≡ false
+  pub messages : List Sent
+  pub accepted : IsAccepted limits mode recording messages
+  pub client_is : client ≡ open_requests Client messages
+  pub adapter_is : adapter ≡ open_requests Adapter messages
+  pub some : client ≡ 0 → adapter ≡ 0 → ⊥
+
+-- The recording is refused for this, or leaves requests open.
+abbrev pub RefusesSession : Limits → Mode → Bool → List ℕ → Refused → Type 0
+RefusesSession limits mode allow_open recording (Incomplete client adapter) =
+    LeavesOpen limits mode allow_open recording client adapter
+RefusesSession limits mode allow_open recording refused =
+    IsRefused (accepting limits mode) recording refused
+
+-- The rules cannot mask the input's recording.
+pub record IsRefusedByMask (limits : Limits) (mask : Option Mask) (input : List ℕ)
+    (refused : Refused) : Type 0 where
+  pub recording : List ℕ
+  pub of_input : IsRecordingOf limits input recording
+  pub rules : Mask
+  pub are_given : mask ≡ Some rules
+  pub is_refused : IsRefused (masking limits rules) recording refused
+
+-- Why an input has no golden text. Each step was reached only if all steps before it succeeded.
+abbrev pub IsRefusedGolden : Limits → Mode → Option Mask → Bool → List ℕ → GoldenRefused → Type 0
+IsRefusedGolden limits mode mask allow_open input (because.Trace refused) =
+    IsTraceHead input
+    × ((messages : List (Side × List ℕ)) × IsTraceRefused limits input refused messages)
+IsRefusedGolden limits mode mask allow_open input (because.Mask refused) =
+    IsRefusedByMask limits mask input refused
+IsRefusedGolden limits mode mask allow_open input (because.Session refused) =
+    (masked : List ℕ) × IsMaskedInput limits mask input masked
+    × RefusesSession limits mode allow_open masked refused
+IsRefusedGolden limits mode mask allow_open input because.NoRecords =
+    (masked : List ℕ) × IsMaskedInput limits mask input masked × IsAccepted limits mode masked []
+IsRefusedGolden limits mode mask allow_open input because.Memory = Unit {0}

@@ -1,0 +1,129 @@
+-- What `golden` does with its input and its golden file, and what it returns. Source: own.
+use Rattle.std.specs.Prelude.{◌≡◌, ◌≢◌, ◌⊎◌, ℕ, ◌+◌, Bool, true, false, List, Option, Some, None}
+use Rattle.std.specs.Prelude.{Result, Ok, Err}
+use Rattle.dap_device.specs.declared.device.Source.{Ghosts as Source}
+use Rattle.dap_device.specs.declared.reading.Stop.{Stop}
+use Rattle.dap_device.specs.declared.reading.Stop.TheVariants.{Failed}
+use Rattle.dap_device.specs.Reading.{HasCome}
+use Rattle.dap_file.specs.Calls.{IsLonger, KeepsTarget}
+use Rattle.dap_file.specs.Crash.{Content}
+use Rattle.dap_file.specs.Replacing.{HasFailedAt, HasReplaced}
+use Rattle.dap_file.specs.declared.file.Replaceable.{Ghosts as Replaceable}
+use Rattle.dap_input.specs.declared.limits.Limits.{Limits}
+use Rattle.dap_mask.specs.Mask.{Mask}
+use Rattle.dap_rename.specs.declared.mode.Mode.{Mode}
+use Rattle.dap_golden.specs.Golden.{IsGolden, IsRefusedGolden}
+use Rattle.dap_golden.specs.GoldenFiles.{IsGoldenVerdict, IsRefusedFile}
+use Rattle.dap_golden.specs.declared.golden.GoldenText.{GoldenText}
+use Rattle.dap_golden.specs.declared.updates.GoldenDone.{GoldenDone}
+use Rattle.dap_golden.specs.declared.updates.GoldenDone.TheVariants as done
+use Rattle.dap_golden.specs.declared.updates.GoldenRequest.{GoldenRequest}
+use Rattle.dap_golden.specs.declared.updates.GoldenStop.{GoldenStop}
+use Rattle.dap_golden.specs.declared.updates.GoldenStop.TheVariants as stop
+
+-- ---- the input
+
+module _ {I : Type 0} (source : Source I) (limits : Limits) (mask : Option Mask)
+    (request : GoldenRequest) (old new : I) where
+  -- These bytes are the whole input, or its first bytes up to one past the limit.
+  pub record HasRead (bytes : List ℕ) : Type 0 where
+    pub reason : Stop
+    pub came : HasCome source old new limits.input bytes reason
+    pub not_failed : reason ≢ Failed
+
+  -- The input has this golden text.
+  pub record HasText (text : GoldenText) : Type 0 where
+    pub bytes : List ℕ
+    pub read : HasRead bytes
+    pub is_golden : IsGolden limits request.mode mask request.allow_open bytes text
+
+  -- The input has no golden text, for this reason.
+  abbrev pub HasNoText : GoldenStop → Type 0
+  HasNoText stop.Unread = (bytes : List ℕ) × HasCome source old new limits.input bytes Failed
+  HasNoText (stop.Input refused) = (bytes : List ℕ) × HasRead bytes
+      × IsRefusedGolden limits request.mode mask request.allow_open bytes refused
+  HasNoText stop.Memory = Unit {0}
+  HasNoText _ = ⊥
+
+  abbrev pub ReadsText : Result GoldenText GoldenStop → Type 0
+  ReadsText (Ok text) = HasText text
+  ReadsText (Err why) = HasNoText why
+
+-- ---- the golden file
+
+module _ {F : Type 0} (file : Replaceable F) (old new : F) where
+  -- The golden file is as before, and a crash leaves nothing that it could not leave before.
+  abbrev pub IsKept : Type 0
+  IsKept = file.is_known old → KeepsTarget file.target file.may_leave old new
+
+  -- The golden file had this content.
+  abbrev pub Had : Content → Type 0
+  Had content = file.is_known old → file.target old ≡ content
+
+  -- A read of the golden file failed.
+  abbrev pub HasFailed : Type 0
+  HasFailed = file.failures new ≡ file.failures old + 1
+
+  -- The golden file is compared with the text.
+  abbrev pub Compares : Limits → Mode → GoldenText → Result GoldenDone GoldenStop → Type 0
+  Compares limits mode text (Ok (done.Compared verdict)) = (golden : List ℕ) × Had (Some golden)
+      × IsGoldenVerdict limits mode golden text.bytes.items verdict × IsKept
+  Compares limits mode text (Err stop.Missing) = Had None × IsKept
+  Compares limits mode text (Err stop.GoldenUnread) = HasFailed × IsKept
+  Compares limits mode text (Err stop.GoldenTooLong) =
+      (file.is_known old → IsLonger limits.input (file.target old)) × IsKept
+  Compares limits mode text (Err (stop.Golden refused)) = (golden : List ℕ) × Had (Some golden)
+      × IsRefusedFile limits mode golden text.bytes.items refused × IsKept
+  Compares limits mode text (Err stop.Memory) = IsKept
+  Compares limits mode text _ = ⊥
+
+  -- Whether the golden file has these bytes.
+  abbrev pub Finds : List ℕ → Result Bool GoldenStop → Type 0
+  Finds bytes (Ok true) = Had (Some bytes) × IsKept
+  Finds bytes (Ok false) = (file.is_known old → file.target old ≢ Some bytes) × IsKept
+  Finds bytes (Err stop.GoldenUnread) = HasFailed × IsKept
+  Finds bytes (Err stop.Memory) = IsKept
+  Finds bytes _ = ⊥
+
+  -- The golden file had other content, and now it has this text and nothing else, also after a
+  -- crash.
+  pub record IsWritten (bytes : List ℕ) : Type 0 where
+    pub other : file.is_known old → file.target old ≢ Some bytes
+    pub replaced : file.is_known old → HasReplaced file new bytes
+
+  -- The golden file is given the text, unless it has it.
+  abbrev pub Updates : GoldenText → Result GoldenDone GoldenStop → Type 0
+  Updates text (Ok done.Unchanged) = Had (Some text.bytes.items) × IsKept
+  Updates text (Ok (done.Written records)) = (records ≡ text.records) × IsWritten text.bytes.items
+  Updates text (Err stop.GoldenUnread) = HasFailed × IsKept
+  Updates text (Err (stop.Unwritten fault)) =
+      file.is_known old → HasFailedAt file fault.step old new text.bytes.items
+  Updates text (Err stop.Memory) = IsKept
+  Updates text _ = ⊥
+
+-- ---- both
+
+module _ {I F : Type 0} (source : Source I) (file : Replaceable F) (limits : Limits)
+    (mask : Option Mask) (request : GoldenRequest) (old_input new_input : I) where
+  -- What is done with the golden text of the input.
+  abbrev pub RunsOn : Bool → GoldenText → F → F → Result GoldenDone GoldenStop → Type 0
+  RunsOn true text old new result = Updates file old new text result
+  RunsOn false text old new result = Compares file old new limits request.mode text result
+
+  -- The input has no golden text, and nothing is done with the golden file; or it has one, and the
+  -- golden file is updated or compared.
+  abbrev pub Answers : F → F → Result GoldenDone GoldenStop → Type 0
+  Answers old new result =
+      ((why : GoldenStop) × (result ≡ Err why)
+      × HasNoText source limits mask request old_input new_input why × (new ≡ old))
+      ⊎ ((text : GoldenText) × HasText source limits mask request old_input new_input text
+      × RunsOn request.update text old new result)
+
+  -- What a crash during the run may leave: what it could leave before, or on an update the text of
+  -- the input, whole.
+  abbrev pub MayBeLeft : F → Content → Type 0
+  MayBeLeft old content =
+      file.may_leave old content
+      ⊎ ((request.update ≡ true) × ((text : GoldenText)
+      × HasText source limits mask request old_input new_input text
+      × (content ≡ Some text.bytes.items)))

@@ -1,0 +1,8 @@
+pub mod Golden
+pub mod GoldenFiles
+pub mod GoldenSteps
+pub mod GoldenUpdates
+pub mod Laws
+pub mod Memory
+pub mod NormalSession
+pub mod TraceHead

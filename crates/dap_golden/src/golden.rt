@@ -1,0 +1,203 @@
+//! Makes the text of a golden file.
+ghost use Rattle.std.specs.Prelude.{◌≡◌, ◌↔◌, IfErr, IfOk, IsTrue, List, ℕ};
+ghost use Rattle.std.specs.Cow.{cow_slice_items};
+ghost use Rattle.dap_input.specs.Limits.{AreSound};
+ghost use Rattle.dap_mask.specs.KeptRules.{mask_of};
+ghost use Rattle.dap_mask_input.specs.MaskedRecordings.{IsMaskedTo};
+ghost use Rattle.dap_golden.specs.Golden.{IsGolden, IsGoldenOf, IsRecordingOf, IsRefusedGolden};
+ghost use Rattle.dap_golden.specs.Golden.{MasksBy, mask_given};
+ghost use Rattle.dap_golden.specs.GoldenFiles.{IsNormalText};
+ghost use Rattle.dap_golden.specs.GoldenSteps.{RefusesMask, RefusesMaskBy, RefusesMasked};
+ghost use Rattle.dap_golden.specs.GoldenSteps.{RefusesTrace};
+ghost use Rattle.dap_golden.specs.NormalSession.{IsNormalSession};
+ghost use Rattle.dap_golden.specs.TraceHead.{IsTraceHead};
+
+use crate::fault::GoldenRefused;
+use crate::normal_session::{NormalSession, normalise_session};
+use crate::text_sink::{TextSink, is_out_of_memory};
+use crate::trace_head::is_trace;
+use dap_device::MemorySource;
+use dap_input::{Limits, Refused};
+use dap_mask::MaskRules;
+use dap_mask_input::mask;
+use dap_normal::Checked;
+use dap_rename::Mode;
+use dap_trace::record;
+use std::alloc::Global;
+use std::borrow::CowSlice;
+
+/// The text of a golden file, and the number of its records.
+#[derive(Debug, Drop)]
+pub struct GoldenText {
+    pub bytes: Vec<u8>,
+    pub records: u64,
+}
+
+/// Records a trace.
+fn record_trace(alloc: Global, trace: &[u8], limits: Limits) -> Result<Vec<u8>, GoldenRefused>
+    requires limits { AreSound limits }
+    requires trace { IsTraceHead trace.now }
+    ensures ok { IfOk result (λ recording. IsRecordingOf limits trace.now recording.items) }
+    ensures err { IfErr result (RefusesTrace limits trace.now) }
+{
+    let mut reader = MemorySource::new(trace);
+    let mut writer = TextSink::new(alloc);
+    match record(alloc, &mut reader, &mut writer, limits) {
+        Ok(()) => Ok(writer.into_bytes()),
+        Err(refused) if is_out_of_memory(refused) => Err(GoldenRefused::Memory),
+        Err(refused) => Err(GoldenRefused::Trace(refused)),
+    }
+}
+
+/// Returns the recording of an input. An input that is not a trace is not copied.
+fn recording_of<'a>(
+    alloc: Global,
+    input: &'a [u8],
+    limits: Limits,
+) -> Result<CowSlice<'a, u8>, GoldenRefused>
+    requires { AreSound limits }
+    ensures ok { IfOk result
+        (λ recording. IsRecordingOf limits input.entry.now (cow_slice_items recording)) }
+    ensures err { IfErr result (RefusesTrace limits input.entry.now) }
+{
+    if !is_trace(input) {
+        return Ok(CowSlice::Borrowed(input));
+    }
+    let recording = record_trace(alloc, input, limits)?;
+    Ok(CowSlice::Owned(recording))
+}
+
+/// Masks a recording.
+fn mask_recording(
+    alloc: Global,
+    recording: &[u8],
+    rules: &MaskRules,
+    limits: Limits,
+) -> Result<Vec<u8>, GoldenRefused>
+    requires { AreSound limits }
+    ensures ok { IfOk result
+        (λ masked. IsMaskedTo limits (mask_of rules.now) recording.now masked.items) }
+    ensures err { IfErr result (RefusesMask limits (mask_of rules.now) recording.now) }
+{
+    let mut reader = MemorySource::new(recording);
+    let mut writer = TextSink::new(alloc);
+    match mask(alloc, rules, &mut reader, &mut writer, limits) {
+        Ok(()) => Ok(writer.into_bytes()),
+        Err(refused) if is_out_of_memory(refused) => Err(GoldenRefused::Memory),
+        Err(refused) => Err(GoldenRefused::Mask(refused)),
+    }
+}
+
+/// Masks a recording if there are rules, and frees it then. Otherwise the recording is unchanged.
+fn apply_rules<'a>(
+    alloc: Global,
+    recording: CowSlice<'a, u8>,
+    rules: Option<&MaskRules>,
+    limits: Limits,
+) -> Result<CowSlice<'a, u8>, GoldenRefused>
+    requires { AreSound limits }
+    ensures ok { IfOk result
+        (λ masked. MasksBy limits (mask_given rules.entry) (cow_slice_items recording.entry)
+        (cow_slice_items masked)) }
+    ensures err { IfErr result
+        (RefusesMaskBy limits (mask_given rules.entry) (cow_slice_items recording.entry)) }
+{
+    let Some(rules) = rules else {
+        return Ok(recording);
+    };
+    let masked = mask_recording(alloc, recording.as_slice(), rules, limits)?;
+    Ok(CowSlice::Owned(masked))
+}
+
+/// Returns whether each request has a response.
+fn are_answered(counts: Checked) -> bool
+    ensures { IsTrue result ↔ ((counts.client_open ≡ 0) × (counts.adapter_open ≡ 0)) }
+{
+    counts.client_open == 0 && counts.adapter_open == 0
+}
+
+/// Returns the golden text of a session. It must have records, and each request a response unless
+/// open requests are allowed.
+fn golden_of(session: NormalSession, allow_open: bool) -> Result<GoldenText, GoldenRefused>
+    ensures ok { IfOk result (λ text. (limits : Limits) (mode : Mode) (recording : List ℕ)
+        → IsNormalSession limits mode recording session
+        → IsGoldenOf limits mode allow_open recording text) }
+    ensures err { IfErr result (λ refused. (limits : Limits) (mode : Mode) (recording : List ℕ)
+        → IsNormalSession limits mode recording session
+        → RefusesMasked limits mode allow_open recording refused) }
+{
+    let NormalSession { bytes, counts } = session;
+    if counts.records == 0 {
+        return Err(GoldenRefused::NoRecords);
+    }
+    if !allow_open && !are_answered(counts) {
+        let open = Refused::Incomplete(counts.client_open, counts.adapter_open);
+        return Err(GoldenRefused::Session(open));
+    }
+    Ok(GoldenText {
+        bytes,
+        records: counts.records,
+    })
+}
+
+/// Returns the golden text of a recording.
+fn golden_of_recording(
+    alloc: Global,
+    recording: &[u8],
+    allow_open: bool,
+    limits: Limits,
+    mode: Mode,
+) -> Result<GoldenText, GoldenRefused>
+    requires { AreSound limits }
+    ensures ok { IfOk result (IsGoldenOf limits mode allow_open recording.now) }
+    ensures err { IfErr result (RefusesMasked limits mode allow_open recording.now) }
+{
+    match normalise_session(alloc, recording, limits, mode) {
+        Ok(session) => golden_of(session, allow_open),
+        Err(refused) if is_out_of_memory(refused) => Err(GoldenRefused::Memory),
+        Err(refused) => Err(GoldenRefused::Session(refused)),
+    }
+}
+
+/// Makes the text of a golden file from a trace or a recording in memory.
+///
+/// An input that starts with a marker, decimal digits and LF is a trace, and is recorded. Any other
+/// input is a recording. If there are rules, the recording is masked. The masked recording is
+/// checked as [`check`](dap_normal::check) does and normalised. It must have at least one record,
+/// and each request a response, unless `allow_open` is set.
+///
+/// The input is not copied. Each intermediate text is freed after its last use.
+///
+/// # Errors
+///
+/// The first step that fails, with its first error:
+///
+/// - `Trace`: the trace was rejected, or ends inside a piece or a frame.
+/// - `Mask`: the rules cannot mask a record of the recording.
+/// - `Session`: the masked recording was rejected, or `allow_open` is not set and a request has no
+///   response (`Incomplete`).
+/// - `NoRecords`: the masked recording has no records.
+/// - `Memory`: an allocation failed.
+pub fn golden_text(
+    alloc: Global,
+    input: &[u8],
+    rules: Option<&MaskRules>,
+    allow_open: bool,
+    limits: Limits,
+    mode: Mode,
+) -> Result<GoldenText, GoldenRefused>
+    requires limits { AreSound limits }
+
+    // The text is that of the input, its rules and the mode, and an error names the first step
+    // that fails.
+    ensures ok { IfOk result (IsGolden limits mode (mask_given rules.entry) allow_open input.now) }
+    ensures err { IfErr result
+        (IsRefusedGolden limits mode (mask_given rules.entry) allow_open input.now) }
+
+    // So `compare_golden` takes the text.
+    ensures normal { IfOk result (λ text. IsNormalText limits mode text.bytes.items) }
+{
+    let recording = recording_of(alloc, input, limits)?;
+    let masked = apply_rules(alloc, recording, rules, limits)?;
+    golden_of_recording(alloc, masked.as_slice(), allow_open, limits, mode)
+}

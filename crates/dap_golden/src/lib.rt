@@ -1,0 +1,20 @@
+//! The text of a golden file, made from a trace or a recording, and its comparison with a golden
+//! file.
+#![tactic(auto)]
+
+mod comparing;
+mod fault;
+mod golden;
+pub mod laws;
+mod normal_session;
+#[cfg(test)]
+mod tests;
+mod text_sink;
+mod trace_head;
+mod updates;
+
+pub use comparing::{GoldenVerdict, compare_golden};
+pub use fault::{GoldenFault, GoldenRefused};
+pub use golden::{GoldenText, golden_text};
+pub use text_sink::TextSink;
+pub use updates::{GoldenDone, GoldenRequest, GoldenStop, golden_file};

@@ -1,0 +1,233 @@
+//! Compares a session with its golden file, or makes or renews the golden file.
+ghost use Rattle.std.specs.Prelude.{◌≡◌, ◌↔◌, ◌+◌, ◌<◌, ◌≤◌, ◌^◌, None, IfOk, length};
+ghost use Rattle.dap_file.specs.Crash.{LeavesOnly};
+ghost use Rattle.dap_file.specs.Replacing.{IsOldOrNew};
+ghost use Rattle.dap_input.specs.Limits.{AreSound};
+ghost use Rattle.dap_golden.specs.Golden.{mask_given};
+ghost use Rattle.dap_golden.specs.GoldenFiles.{IsNormalText};
+ghost use Rattle.dap_golden.specs.GoldenUpdates.{Answers, Compares, Finds, MayBeLeft, ReadsText};
+ghost use Rattle.dap_golden.specs.GoldenUpdates.{Updates};
+
+use crate::comparing::{GoldenVerdict, compare_golden};
+use crate::fault::{GoldenFault, GoldenRefused};
+use crate::golden::{GoldenText, golden_text};
+use dap_device::{Source, Stop, read_all};
+use dap_file::{ReadFault, ReplaceFault, Replaceable, replace};
+use dap_input::{Limits, Refused};
+use dap_mask::MaskRules;
+use dap_rename::Mode;
+use std::alloc::Global;
+
+/// What `golden` is to do.
+#[derive(Clone, Copy, Debug, PartialEq, Eq)]
+pub struct GoldenRequest {
+    /// Write the golden file if it differs or does not exist. Otherwise the session is compared
+    /// with it.
+    pub update: bool,
+    /// Accept a session in which some request has no response.
+    pub allow_open: bool,
+    /// How the ids of the session are numbered.
+    pub mode: Mode,
+}
+
+/// What `golden` did.
+#[derive(Debug, Drop)]
+pub enum GoldenDone {
+    /// The session is compared with the golden file.
+    Compared(GoldenVerdict),
+    /// The golden file had the text of the session already.
+    Unchanged,
+    /// The golden file was made or replaced. The text of the session has so many records.
+    Written { records: u64 },
+}
+
+/// Why `golden` stopped.
+#[derive(Clone, Copy, Debug, PartialEq, Eq)]
+pub enum GoldenStop {
+    /// The input could not be read.
+    Unread,
+    /// The input has no golden text.
+    Input(GoldenRefused),
+    /// The golden file does not exist.
+    Missing,
+    /// The golden file could not be read.
+    GoldenUnread,
+    /// The golden file is longer than an input may be.
+    GoldenTooLong,
+    /// The golden file is not an accepted recording.
+    Golden(Refused),
+    /// The golden file could not be written.
+    Unwritten(ReplaceFault),
+    /// An allocation failed.
+    Memory,
+}
+
+/// Reads an input and makes its golden text.
+fn read_text<I: Source>(
+    alloc: Global,
+    input: &mut I,
+    rules: Option<&MaskRules>,
+    request: GoldenRequest,
+    limits: Limits,
+) -> Result<GoldenText, GoldenStop>
+    requires limits { AreSound limits }
+    requires given { I.given input.old < 2 ^ 62 }
+    requires failures { I.failures input.old < 2 ^ 62 }
+    ensures text { ReadsText I.Source limits (mask_given rules.entry) request input.old input.new
+        result }
+    ensures normal { IfOk result (λ text. IsNormalText limits request.mode text.bytes.items) }
+    ensures short { IfOk result (λ text. length text.bytes.items ≤ limits.input) }
+    ensures taken { I.given input.new ≤ I.given input.old + limits.input + 1 }
+{
+    let Ok(read) = read_all(alloc, input, limits.input) else {
+        return Err(GoldenStop::Memory);
+    };
+    if let Stop::Failed = read.stop {
+        return Err(GoldenStop::Unread);
+    }
+    let bytes = read.bytes.as_slice();
+    match golden_text(
+        alloc,
+        bytes,
+        rules,
+        request.allow_open,
+        limits,
+        request.mode,
+    ) {
+        Ok(text) => Ok(text),
+        Err(GoldenRefused::Memory) => Err(GoldenStop::Memory),
+        Err(refused) => Err(GoldenStop::Input(refused)),
+    }
+}
+
+/// Compares the golden file with the text of the session.
+fn compare_file<F: Replaceable>(
+    alloc: Global,
+    file: &mut F,
+    text: &GoldenText,
+    limits: Limits,
+    mode: Mode,
+) -> Result<GoldenDone, GoldenStop>
+    requires limits { AreSound limits }
+    requires text { IsNormalText limits mode text.now.bytes.items }
+    requires few { F.failures file.old < 2 ^ 62 }
+    ensures compares { Compares F.Replaceable file.old file.new limits mode text.now result }
+    ensures any_moment { F.is_known file.old
+        → LeavesOnly F.moment F.left_since (F.may_leave file.old) file.old file.new }
+{
+    let golden = match file.read(alloc, limits.input) {
+        Ok(Some(golden)) => golden,
+        Ok(None) => return Err(GoldenStop::Missing),
+        Err(ReadFault::Failed) => return Err(GoldenStop::GoldenUnread),
+        Err(ReadFault::TooLong) => return Err(GoldenStop::GoldenTooLong),
+        Err(ReadFault::Memory) => return Err(GoldenStop::Memory),
+    };
+    match compare_golden(alloc, golden.as_slice(), text, limits, mode) {
+        Ok(verdict) => Ok(GoldenDone::Compared(verdict)),
+        Err(GoldenFault::Golden(refused)) => Err(GoldenStop::Golden(refused)),
+        Err(GoldenFault::Memory) => Err(GoldenStop::Memory),
+    }
+}
+
+/// Returns whether the golden file has these bytes.
+fn has_bytes<F: Replaceable>(
+    alloc: Global,
+    file: &mut F,
+    bytes: &[u8],
+    limits: Limits,
+) -> Result<bool, GoldenStop>
+    requires short { length bytes.now ≤ limits.input }
+    requires few { F.failures file.old < 2 ^ 62 }
+    ensures finds { Finds F.Replaceable file.old file.new bytes.now result }
+    ensures few { F.failures file.new ≤ F.failures file.old + 1 }
+    ensures known { F.is_known file.new ↔ F.is_known file.old }
+    ensures temporary { F.is_known file.old → F.temporary file.new ≡ F.temporary file.old }
+    ensures any_moment { F.is_known file.old
+        → LeavesOnly F.moment F.left_since (F.may_leave file.old) file.old file.new }
+{
+    match file.read(alloc, limits.input) {
+        Ok(Some(found)) => Ok(found.as_slice() == bytes),
+        Ok(None) | Err(ReadFault::TooLong) => Ok(false),
+        Err(ReadFault::Failed) => Err(GoldenStop::GoldenUnread),
+        Err(ReadFault::Memory) => Err(GoldenStop::Memory),
+    }
+}
+
+/// Writes the text of the session to the golden file, unless the file has it.
+fn update_file<F: Replaceable>(
+    alloc: Global,
+    file: &mut F,
+    text: &GoldenText,
+    limits: Limits,
+) -> Result<GoldenDone, GoldenStop>
+    requires short { length text.now.bytes.items ≤ limits.input }
+    requires few { F.failures file.old < 2 ^ 61 }
+    requires none { F.is_known file.old → F.temporary file.old ≡ None }
+    ensures updates { Updates F.Replaceable file.old file.new text.now result }
+    ensures any_moment { F.is_known file.old
+        → LeavesOnly F.moment F.left_since
+        (IsOldOrNew F.Replaceable file.old text.now.bytes.items) file.old file.new }
+{
+    let bytes = text.bytes.as_slice();
+    if has_bytes(alloc, file, bytes, limits)? {
+        return Ok(GoldenDone::Unchanged);
+    }
+    match replace(file, bytes) {
+        Ok(()) => Ok(GoldenDone::Written {
+            records: text.records,
+        }),
+        Err(fault) => Err(GoldenStop::Unwritten(fault)),
+    }
+}
+
+/// Compares a session with its golden file, or makes or renews the golden file.
+///
+/// The input is a trace or a recording, as [`golden_text`] describes. It is read to its end before
+/// the golden file is opened. With `update` the golden file is replaced as a whole, as
+/// [`replace`] describes, unless it has the text already.
+///
+/// # Errors
+///
+/// - `Unread`: a read of the input failed.
+/// - `Input`: the input has no golden text. The golden file is not opened.
+/// - `Missing`: there is no golden file, and `update` is not set.
+/// - `GoldenUnread`: a read of the golden file failed.
+/// - `GoldenTooLong`: the golden file has more than `limits.input` bytes, and `update` is not set.
+/// - `Golden`: the golden file was rejected, and `update` is not set.
+/// - `Unwritten`: the golden file could not be replaced.
+/// - `Memory`: an allocation failed.
+pub fn golden_file<I: Source, F: Replaceable>(
+    alloc: Global,
+    input: &mut I,
+    rules: Option<&MaskRules>,
+    file: &mut F,
+    request: GoldenRequest,
+    limits: Limits,
+) -> Result<GoldenDone, GoldenStop>
+    requires limits { AreSound limits }
+    requires given { I.given input.old < 2 ^ 62 }
+    requires failures { I.failures input.old < 2 ^ 62 }
+    requires few { F.failures file.old < 2 ^ 61 }
+    requires none { F.is_known file.old → F.temporary file.old ≡ None }
+
+    // What the text of the input and the golden file say is returned, and the golden file is
+    // written only on an update, after the input is judged.
+    ensures answer { Answers I.Source F.Replaceable limits (mask_given rules.entry) request
+        input.old input.new file.old file.new result }
+
+    // A crash, the end of the process or a loss of power at any moment leaves what it could have
+    // left before the call, or, on an update, the whole text of the session.
+    ensures any_moment { F.is_known file.old
+        → LeavesOnly F.moment F.left_since (MayBeLeft I.Source F.Replaceable limits
+        (mask_given rules.entry) request input.old input.new file.old) file.old file.new }
+
+    // It reads at most one byte past the limit.
+    ensures taken { I.given input.new ≤ I.given input.old + limits.input + 1 }
+{
+    let text = read_text(alloc, input, rules, request, limits)?;
+    if request.update {
+        update_file(alloc, file, &text, limits)
+    } else {
+        compare_file(alloc, file, &text, limits, request.mode)
+    }
+}
