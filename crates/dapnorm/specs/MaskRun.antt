@@ -78,6 +78,18 @@ rules_line fault =
 abbrev pub rules_unread : List ℕ
 rules_unread = codes "dapnorm: rules: read fault\n"
 
+-- the line that reports why there are no rules
+abbrev pub rules_refused_line : RulesRefused → List ℕ
+rules_refused_line refused.Unread = rules_unread
+rules_refused_line (refused.Line fault) = rules_line fault
+rules_refused_line refused.Memory = fault_line (refused_text Memory)
+
+-- the status then: the file could not be read, it is rejected, or an allocation failed
+abbrev pub rules_refused_status : RulesRefused → ℕ
+rules_refused_status refused.Unread = 4
+rules_refused_status (refused.Line fault) = 2
+rules_refused_status refused.Memory = 5
+
 module _ {R W E : Type 0} (source : Source R) (sink : Sink W) (errors : Sink E) (limits : Limits)
     (old new : R) (before after : W) (silent spoken : E) (status : ℕ) where
   -- Nothing is read of the recording and nothing written; this line is told, with this status.

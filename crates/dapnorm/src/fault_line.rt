@@ -158,6 +158,15 @@ fn push_refused(line: &mut ArrayString<LINE>, refused: Refused)
     }
 }
 
+/// The text of a refusal alone.
+pub(crate) fn refused_text(refused: Refused) -> ArrayString<LINE>
+    ensures { result.bytes ≡ refused_text refused }
+{
+    let mut text = ArrayString::new();
+    push_refused(&mut text, refused);
+    text
+}
+
 /// The line of a refusal, with its LF.
 fn fault_line(refused: Refused) -> ArrayString<LINE>
     ensures { result.bytes ≡ fault_line (refused_text refused) }

@@ -4,18 +4,27 @@
 mod compare_run;
 mod diff_run;
 mod fault_line;
+mod golden_run;
 pub mod laws;
 mod mask_run;
+mod parts;
 mod rows_run;
 mod run_job;
+mod saving;
 mod status;
 
 pub use compare_run::{run_compare, run_compare_with};
 pub use dap_command_line::{Job, UsageFault, job};
+pub use dap_commands::{Action, Command, Golden, command};
 pub use dap_compact::compact;
 pub use dap_compare::{CompareRefused, Verdict, Which, compare, compare_with};
 pub use dap_device::{DeviceFault, MemorySink, MemorySource, Sink, Source, StdSink, StdSource};
 pub use dap_diff::{Diff, diff, diff_with};
+pub use dap_file::{FileAt, MemoryFile, ReadFault, ReplaceFault, Replaceable, Step, replace};
+pub use dap_golden::{
+    GoldenDone, GoldenFault, GoldenRefused, GoldenRequest, GoldenStop, GoldenText, GoldenVerdict,
+    TextSink, compare_golden, golden_file, golden_text,
+};
 pub use dap_input::{Limits, Refused};
 pub use dap_mask::{MaskRules, RulesCause, RulesFault};
 pub use dap_mask_input::mask;
@@ -29,5 +38,7 @@ pub use dap_session::Rule;
 pub use dap_show::show;
 pub use dap_trace::record;
 pub use diff_run::{run_diff, run_diff_with};
-pub use mask_run::run_mask;
+pub use golden_run::{GoldenRun, run_golden};
+pub use mask_run::{RulesRefused, read_rules, report_rules, run_mask};
 pub use run_job::{run_stream, run_stream_with, run_usage};
+pub use saving::save;

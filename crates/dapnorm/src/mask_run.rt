@@ -2,7 +2,7 @@
 ghost use Rattle.std.specs.Prelude.{◌≡◌, ◌+◌, ◌<◌, ◌≤◌, ◌^◌, length};
 ghost use Rattle.dap_input.specs.Limits.{AreSound};
 ghost use Rattle.dapnorm.specs.MaskRun.{MaskIsTold, ReadsRules, cause_word, outcome_of};
-ghost use Rattle.dapnorm.specs.MaskRun.{rules_line};
+ghost use Rattle.dapnorm.specs.MaskRun.{rules_line, rules_refused_line, rules_refused_status};
 ghost use Rattle.dapnorm.specs.Run.{HasSent};
 
 use crate::fault_line::{LINE, send, send_line, tell};
@@ -22,22 +22,34 @@ const RULES: u64 = 65_536;
 /// What is told where the file of rules could not be read.
 const UNREAD: &str = "dapnorm: rules: read fault\n";
 
-/// Why there are no rules.
-#[derive(Clone, Copy, Drop)]
-enum RulesRefused {
+/// Why a file of rules was not read.
+#[derive(Clone, Copy, Debug, PartialEq, Eq)]
+pub enum RulesRefused {
     /// The file could not be read.
     Unread,
-    /// A line of it is refused.
+    /// This line of the file is rejected.
     Line(RulesFault),
-    /// Memory was refused.
+    /// An allocation failed.
     Memory,
 }
 
-/// Reads a file of rules.
-fn read_rules<F: Source>(alloc: Global, file: &mut F) -> Result<MaskRules, RulesRefused>
+/// Reads a file of rules, of at most 65,536 bytes.
+///
+/// # Errors
+///
+/// - `Unread`: the file could not be read. The bytes read before the failure are not checked.
+/// - `Line`: a line of the file is rejected.
+/// - `Memory`: an allocation failed.
+pub fn read_rules<F: Source>(alloc: Global, file: &mut F) -> Result<MaskRules, RulesRefused>
     requires given { F.given file.old < 2 ^ 62 }
     requires failures { F.failures file.old < 2 ^ 62 }
-    ensures { ReadsRules F.Source file.old file.new (outcome_of result) }
+
+    // The result is what the bytes of the file specify: the rules, or the rejected line. `Unread` is
+    // returned only if a read failed.
+    ensures rules { ReadsRules F.Source file.old file.new (outcome_of result) }
+
+    // It reads at most one byte past the limit.
+    ensures taken { F.given file.new ≤ F.given file.old + 65537 }
 {
     let Ok(input) = read_all(alloc, file, RULES) else {
         return Err(RulesRefused::Memory);
@@ -93,6 +105,32 @@ fn tell_line<E: Sink>(errors: &mut E, fault: RulesFault)
     send_line(errors, &rules_line(fault));
 }
 
+/// Reports in one line why there are no rules, and returns the status of the program. A failure to
+/// write the line is not reported.
+///
+/// The status is 2 if a line of the file is rejected, 4 if the file could not be read, and 5 if an
+/// allocation failed.
+pub fn report_rules<E: Sink>(errors: &mut E, refused: RulesRefused) -> u8
+    requires { E.failures errors.old < 2 ^ 63 }
+    ensures line { HasSent E.Sink errors.old errors.new (rules_refused_line refused) }
+    ensures status { result ≡ rules_refused_status refused }
+{
+    match refused {
+        RulesRefused::Unread => {
+            send(errors, UNREAD);
+            FAULT
+        }
+        RulesRefused::Line(fault) => {
+            tell_line(errors, fault);
+            REFUSED
+        }
+        RulesRefused::Memory => {
+            tell(errors, Refused::Memory);
+            MEMORY
+        }
+    }
+}
+
 /// Masks the recording of `reader` by the rules of a file, writes it to `writer`, and answers the
 /// program's status. What is wrong is told on `errors`, in one line.
 ///
@@ -130,17 +168,6 @@ pub fn run_mask<F: Source, R: Source, W: Sink, E: Sink>(
             let answer = mask(alloc, &rules, reader, writer, limits);
             tell_answer(errors, answer)
         }
-        Err(RulesRefused::Unread) => {
-            send(errors, UNREAD);
-            FAULT
-        }
-        Err(RulesRefused::Line(fault)) => {
-            tell_line(errors, fault);
-            REFUSED
-        }
-        Err(RulesRefused::Memory) => {
-            tell(errors, Refused::Memory);
-            MEMORY
-        }
+        Err(refused) => report_rules(errors, refused),
     }
 }

@@ -1,0 +1,15 @@
+use Rattle.std.proofs.Common.{subst}
+use Rattle.dapnorm.specs.GoldenRun.{golden_line, stop_reason, stop_subject, stop_words}
+use Rattle.dapnorm.specs.Run.{HasSent}
+use Rattle.dapnorm.proofs.golden_run.report_stop.Goals as goal
+
+pub returns : goal.returns
+returns g c =
+    let Sent = HasSent g.E.Sink c.args.errors.now c.report_line.new.errors in
+    let subject = stop_subject c.args.name.now c.args.stop in
+    let words = stop_words c.args.has_rules c.args.stop in
+    subst (λ reason. Sent (golden_line subject words reason)) c.stop_reason.ensures
+    (subst (λ said. Sent (golden_line subject said c.stop_reason.result.bytes))
+    c.stop_words-words.ensures
+    (subst (λ named. Sent (golden_line named c.stop_words-words.result.now c.stop_reason.result.bytes))
+    c.stop_subject-subject.ensures c.report_line.ensures))

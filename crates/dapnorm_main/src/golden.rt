@@ -1,0 +1,122 @@
+//! Compares a session with its golden file, or makes or renews the golden file.
+use crate::files::{
+    find_file, is_standard, open_input, report_reason, report_unopened, report_unwritten,
+    shows_closed_input,
+};
+use crate::{FAULT, LIMITS, USAGE, report_unread};
+use dapnorm::{
+    FileAt, Golden, GoldenRequest, GoldenRun, GoldenStop, MaskRules, StdSink, StdSource,
+    read_rules, report_rules, run_golden,
+};
+use std::fs;
+use std::hash::RandomState;
+use std::io::Error;
+use std::os::unix::fs::MetadataExt;
+
+/// Reads the rules of a file, and reports why it has none.
+fn rules_of(rt: &HostRuntime, name: &str, is_input_standard: bool) -> Result<MaskRules, u8> {
+    let file = match fs::open(rt, name) {
+        Ok(file) => file,
+        Err(error) => return Err(report_unopened(rt, "rules: ", Some(name), &error)),
+    };
+    if is_input_standard && shows_closed_input(&file) {
+        return Err(report_unread(rt));
+    }
+    match read_rules(rt.alloc(), &mut StdSource::new(file)) {
+        Ok(rules) => Ok(rules),
+        Err(refused) => Err(report_rules(&mut StdSink::new(rt.stderr()), refused)),
+    }
+}
+
+/// Returns whether two names are of one file.
+fn are_same(rt: &HostRuntime, one: &str, other: &str) -> bool {
+    match (fs::metadata(rt, one), fs::metadata(rt, other)) {
+        (Ok(a), Ok(b)) => a.dev() == b.dev() && a.ino() == b.ino(),
+        _ => false,
+    }
+}
+
+/// Reports that the golden file cannot be read or written because of what is under its name.
+fn report_unusable(rt: &HostRuntime, golden: &Golden<'_>, error: &Error) -> u8 {
+    let name = golden.golden;
+    if golden.update {
+        return report_unwritten(rt, "golden: ", name, error);
+    }
+    let _ = eprintln!(rt; "dapnorm: golden: {name}: read fault");
+    report_reason(rt, name, error);
+    FAULT
+}
+
+/// Reports the reason of a stop, if the operating system gave it.
+fn explain(rt: &HostRuntime, run: &GoldenRun, file: &FileAt<'_, HostRuntime>, name: &str) {
+    let is_of_file = matches!(
+        run.stop,
+        Some(GoldenStop::GoldenUnread | GoldenStop::Unwritten(_))
+    );
+    if is_of_file && let Some(reason) = file.reason() {
+        report_reason(rt, name, &reason);
+    }
+}
+
+/// Compares the session of an input with its golden file, or makes or renews the golden file.
+fn run_over(
+    rt: &HostRuntime,
+    golden: &Golden<'_>,
+    rules: Option<&MaskRules>,
+    input: Option<&str>,
+    hasher: RandomState,
+) -> u8 {
+    let reader = match open_input(rt, input) {
+        Ok(reader) => reader,
+        Err(error) => return report_unopened(rt, "golden: ", input, &error),
+    };
+    let mut file = match find_file(rt, golden.golden, hasher) {
+        Ok(file) => file,
+        Err(error) => return report_unusable(rt, golden, &error),
+    };
+    let request = GoldenRequest {
+        update: golden.update,
+        allow_open: golden.open,
+        mode: golden.mode(),
+    };
+    let run = run_golden(
+        rt.alloc(),
+        &mut StdSource::new(reader),
+        rules,
+        &mut file,
+        golden.golden,
+        request,
+        &mut StdSink::new(rt.stdout()),
+        &mut StdSink::new(rt.stderr()),
+        LIMITS,
+    );
+    explain(rt, &run, &file, golden.golden);
+    run.status
+}
+
+/// Does what `golden` requests.
+pub fn keep_golden(
+    rt: &HostRuntime,
+    golden: &Golden<'_>,
+    input: Option<&str>,
+    hasher: RandomState,
+) -> u8 {
+    let is_input_standard = input.is_none_or(is_standard);
+    if golden.update
+        && let Some(name) = input
+        && are_same(rt, golden.golden, name)
+    {
+        let _ = eprintln!(rt;
+            "dapnorm: golden: the golden file and the input are the same file: {name}"
+        );
+        return USAGE;
+    }
+    let rules = match golden.rules {
+        None => None,
+        Some(name) => match rules_of(rt, name, is_input_standard) {
+            Ok(rules) => Some(rules),
+            Err(status) => return status,
+        },
+    };
+    run_over(rt, golden, rules.as_ref(), input, hasher)
+}
