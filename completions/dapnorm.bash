@@ -1,26 +1,25 @@
 # Completion of dapnorm for bash.
 
 _dapnorm() {
-    local word=${COMP_WORDS[COMP_CWORD]} command=${COMP_WORDS[1]} words=
+    local word=${COMP_WORDS[COMP_CWORD]} before=${COMP_WORDS[COMP_CWORD - 1]} command=${COMP_WORDS[1]} words=
+    local commands='golden record check normalise compare diff show mask compact rows help'
     COMPREPLY=()
     if ((COMP_CWORD == 1)); then
-        words='record check normalise compare diff show compact mask rows help -h --help -V --version'
-    else
+        words="$commands -h --help -V --version"
+    elif [[ $command == help ]]; then
+        ((COMP_CWORD == 2)) && words=$commands
+    elif [[ $word == -* && $before != -o && $before != --output && $before != --rules ]]; then
+        words='-h --help'
         case $command in
-            check) words='--complete --per-stop -h --help' ;;
-            normalise) words='--per-stop -h --help' ;;
-            record | show | compact | rows) words='-h --help' ;;
-            help) ((COMP_CWORD == 2)) && words='record check normalise compare diff show compact mask rows help' ;;
-            compare | diff | mask)
-                if [[ $word == -* ]]; then
-                    words='-h --help'
-                    [[ $command == mask ]] || words+=' --per-stop'
-                else
-                    mapfile -t COMPREPLY < <(compgen -f -- "$word")
-                    return
-                fi
-                ;;
+            golden) words+=' --rules --per-stop --open --update' ;;
+            check) words+=' --complete --per-stop' ;;
+            normalise) words+=' --per-stop -o --output' ;;
+            compare | diff) words+=' --per-stop' ;;
+            record | show | mask | compact) words+=' -o --output' ;;
         esac
+    elif [[ $command != rows ]]; then
+        mapfile -t COMPREPLY < <(compgen -f -- "$word")
+        return
     fi
     mapfile -t COMPREPLY < <(compgen -W "$words" -- "$word")
 }

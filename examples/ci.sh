@@ -1,21 +1,38 @@
 #!/bin/sh
-# What a CI job runs: ci.sh FOLDER. Each golden file below the folder is accepted, has a response to each request, and is its own normal form.
-# Then the tests that hold sessions to them, where pytest is installed: each file golden_test.py below the folder.
+# What a CI job runs: ci.sh FOLDER [OPTION..]. It checks each golden file below the folder: dapnorm golden, with these options, accepts it
+# and would not change it. Then it runs each golden test there: golden_test.py, *_golden_test.py, test_*golden*.py.
+# It fails if there is no golden file, no golden test, no pytest for the tests, or no test that passes.
 set -eu
-folder=${1:?"usage: ci.sh FOLDER"}
+unset UPDATE_GOLDEN
+folder=${1:?"usage: ci.sh FOLDER [OPTION..]"}
+shift
+
+fail() {
+    echo "ci.sh: $1" >&2
+    exit 1
+}
+
+command -v dapnorm > /dev/null || fail "dapnorm is not on PATH"
 scratch=$(mktemp -d)
 trap 'rm -rf "$scratch"' EXIT
 find "$folder" -name '*.golden' > "$scratch/files"
-status=0
+find "$folder" \( -name '*golden_test.py' -o -name 'test_*golden*.py' \) > "$scratch/tests"
+files=$(wc -l < "$scratch/files") tests=$(wc -l < "$scratch/tests")
+[ "$files" -gt 0 ] || fail "no golden file below $folder"
+[ "$tests" -gt 0 ] || fail "no golden test below $folder, so no session is compared with the $files golden files"
+python3 -c 'import pytest' || fail "python3 has no pytest, which runs the $tests files of golden tests"
+
+bad=0
 while IFS= read -r golden; do
-    if ! dapnorm check --complete < "$golden" > /dev/null; then
-        echo "$golden: refused" && status=1
-    elif ! dapnorm normalise < "$golden" > "$scratch/normal" || ! cmp -s "$golden" "$scratch/normal"; then
-        echo "$golden: not in normal form; make it anew" && status=1
-    fi
+    dapnorm golden "$@" "$golden" "$golden" > "$scratch/said" 2>&1 && continue || status=$?
+    bad=$((bad + 1))
+    [ "$status" -eq 1 ] && echo "$golden: not in normal form; make it again" || { echo "$golden: refused"; cat "$scratch/said"; }
 done < "$scratch/files"
-[ "$status" -eq 0 ] || exit "$status"
-echo "$(wc -l < "$scratch/files") golden files are in order"
-if python3 -c 'import pytest' 2> /dev/null && [ -n "$(find "$folder" -name golden_test.py)" ]; then
-    find "$folder" -name golden_test.py -exec python3 -m pytest -q --import-mode=importlib {} +
-fi
+[ "$bad" -eq 0 ] || fail "$bad of $files golden files are not in order"
+echo "$files golden files are in order"
+
+{ find "$folder" \( -name '*golden_test.py' -o -name 'test_*golden*.py' \) -exec python3 -m pytest -q --import-mode=importlib {} + ||
+    touch "$scratch/failed"; } 2>&1 | tee "$scratch/said"
+[ ! -e "$scratch/failed" ] || fail "a golden test fails"
+grep -q '[0-9] passed' "$scratch/said" || fail "no golden test passed, so no session was compared"
+echo "$tests files of golden tests pass"

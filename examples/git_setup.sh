@@ -1,10 +1,13 @@
 #!/bin/sh
-# Makes `git diff` of golden files readable, in the repository of the present folder: each is shown as the lines of `dapnorm show`.
+# Makes `git diff` of golden files readable, in the repository of the present folder: each is shown as `dapnorm show --full` prints it.
 # The attributes are committed with the repository; the configuration is each clone's own, so every clone runs this once.
 set -eu
 cd "$(git rev-parse --show-toplevel)"
 # -text: git changes no line end, since a header ends in CR LF and counts bytes.
 line='*.golden -text diff=dapnorm'
 grep -qxF -- "$line" .gitattributes 2> /dev/null || printf '%s\n' "$line" >> .gitattributes
-# A file that is refused is shown as it is.
-git config diff.dapnorm.textconv 'shown() { dapnorm show < "$1" 2> /dev/null || cat "$1"; }; shown'
+# A program without --full leaves out some members: the checksum then shows that something changed. A file that is refused is shown as
+# bytes.
+git config diff.dapnorm.textconv 'shown() {
+    dapnorm show --full "$1" 2> /dev/null || { dapnorm show < "$1" 2> /dev/null && echo "checksum $(cksum < "$1")"; } || cat "$1"
+}; shown'

@@ -1,23 +1,31 @@
-"""Stands between a client and a debug adapter that speak TCP, and writes a trace of what they send to each other.
+"""Passes on what a client and a debug adapter send to each other over TCP, and writes a trace of it.
 
     python3 trace_proxy.py session.trace LISTEN CONNECT
 
-LISTEN and CONNECT are HOST:PORT. It takes one connection on LISTEN, connects to the adapter on CONNECT, passes on what both send,
-and ends with the session. With port 0 the system picks the port to listen on; standard error says which.
-Each piece is what one read gave: `>` (of the client) or `<` (of the adapter), its length, LF, and its bytes. A piece is written down
-before it is passed on, so that no answer comes before its question.
+LISTEN and CONNECT are HOST:PORT, or only PORT, a port of 127.0.0.1. So another machine can connect only if LISTEN allows it, such as
+0.0.0.0:4711. An IPv6 address is in brackets: [::1]:4711. With port 0 the system picks the port to listen on; standard error says
+which.
+
+It takes one connection on LISTEN, connects to the adapter on CONNECT, and ends with the session. Each piece is what one read returned:
+`>` (of the client) or `<` (of the adapter), its length, LF, and its bytes. A piece is written before it is passed on, so no response
+precedes its request.
 """
+import re
 import socket
 import sys
 import threading
 import time
 
 PATIENCE = 10
+ADDRESS = re.compile(r"(?:(?P<host>\[[^\[\]]+\]|[^:\[\]]*):)?(?P<port>\d{1,5})")
 
 
 def address(text):
-    host, _, port = text.rpartition(":")
-    return host.strip("[]"), int(port)
+    """The host and the port of HOST:PORT, :PORT or PORT."""
+    found = ADDRESS.fullmatch(text)
+    if found is None or int(found["port"]) > 65535:
+        sys.exit(f"{text}: neither a port nor HOST:PORT; an IPv6 address is in brackets: [::1]:4711")
+    return (found["host"] or "127.0.0.1").strip("[]"), int(found["port"])
 
 
 def connected(target):
@@ -33,7 +41,7 @@ def connected(target):
 
 
 def pass_on(marker, source, target, trace, lock):
-    """Until the source ends: then its sending to the target ends too, and the target may still answer. A side that breaks off ends the session."""
+    """Passes on pieces up to the end of the source. The target may still respond after it. A side that breaks off ends the session."""
     try:
         while piece := source.recv(65536):
             with lock:
@@ -56,11 +64,17 @@ def session(client, adapter, trace):
 def main():
     if len(sys.argv) != 4:
         sys.exit(__doc__)
-    with socket.create_server(address(sys.argv[2])) as server:
-        print("listening on {}:{}".format(*server.getsockname()[:2]), file=sys.stderr, flush=True)
-        client, _ = server.accept()
-    with open(sys.argv[1], "wb") as trace, client, connected(address(sys.argv[3])) as adapter:
-        session(client, adapter, trace)
+    listen, connect = address(sys.argv[2]), address(sys.argv[3])
+    try:
+        is_ipv6 = ":" in listen[0]
+        with socket.create_server(listen, family=socket.AF_INET6 if is_ipv6 else socket.AF_INET) as server:
+            host, port = server.getsockname()[:2]
+            print(f"listening on {f'[{host}]' if is_ipv6 else host}:{port}", file=sys.stderr, flush=True)
+            client, _ = server.accept()
+        with client, connected(connect) as adapter, open(sys.argv[1], "wb") as trace:
+            session(client, adapter, trace)
+    except OSError as error:
+        sys.exit(f"trace_proxy.py {' '.join(sys.argv[1:])}: {error}")
 
 
 if __name__ == "__main__":

@@ -68,6 +68,8 @@ def main():
             ("recordings of fresh runs masked", "masks.py"),
             ("recordings shown", "showing.py"),
             ("the words of command lines", "command_lines.py"),
+            ("golden files", "golden.py"),
+            ("inputs and outputs in files", "files.py"),
             ("the lines of refusals", "refusals.py"),
             ("calls of the driver", "driver.py"),
             ("the engine check", "engine_check.py"),

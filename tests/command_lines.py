@@ -10,8 +10,11 @@ from worked_runs import (
     RULES, STOP_PAIRS, THREADS, TRACE, Run, frame, masked, recording,
 )
 
-FILES = {"a.rec": COMPARED["a stale frame"][0], "b.rec": COMPARED["a stale frame"][1], "lldb.mask": RULES}
 OPEN = recording([*BEGUN, THREADS])
+FILES = {
+    "a.rec": COMPARED["a stale frame"][0], "b.rec": COMPARED["a stale frame"][1], "lldb.mask": RULES, "open.rec": OPEN, "loose": frame(LOOSE),
+    "session.trace": TRACE, "configured.rec": recording(CONFIGURED), "normal": recording([*NORMAL_STOPS, FRAME % (2, 3, 5)]),
+}
 ACCEPTED, INCOMPLETE = (0, b"accepted records=3 open=1,0\n", b""), (2, b"", b"dapnorm: incomplete: 1 client, 0 adapter\n")
 ROW = b"62 response stackTrace body.stackFrames[].id needed frame\n"
 
@@ -33,12 +36,25 @@ JOBS = [
     (["compare", "a.rec", "b.rec", "--per-stop"], b"", (0, STOP_PAIRS, b"")),
     (["diff", "a.rec", "b.rec"], b"", (1, DIFFERENCES["a stale frame"], b"")),
     (["diff", "--per-stop", "a.rec", "b.rec"], b"", (0, b"same\n", b"")),
+    (["check", "-"], OPEN, ACCEPTED),
+    (["check", "open.rec"], b"", ACCEPTED),
+    (["check", "open.rec", "--complete"], b"", INCOMPLETE),
+    (["compact", "loose"], b"", (0, frame(CANONICAL), b"")),
+    (["record", "session.trace"], b"", (0, RECORDED, b"")),
+    (["normalise", "--per-stop", "b.rec"], b"", (0, recording(NORMAL_PER_STOP), b"")),
+    (["show", "-", "-o", "-"], recording([INITIALIZED]), (0, b'1 < event "initialized" seq=2\n', b"")),
+    (["mask", "lldb.mask", "configured.rec"], b"", (0, recording(masked(CONFIGURED)), b"")),
+    (["compare", "-", "b.rec"], COMPARED["a stale frame"][0], (1, b"differ 8\n", b"")),
+    (["diff", "a.rec", "-"], COMPARED["a stale frame"][1], (1, DIFFERENCES["a stale frame"], b"")),
+    (["golden", "normal", "b.rec"], b"", (0, b"same\n", b"")),
 ]
 
 # No subcommand, wrong ones, and words that a subcommand does not take.
 NO_JOBS = [
-    [], ["compacted"], ["compact", "file"], ["check", "--complete", "--complete"], ["compact", "--complete"], ["check", "file"],
-    ["compare", "a.rec"], ["mask"], ["--per-stop"], ["show", "--per-stop"], ["normalise", "--per-stop", "--per-stop"],
+    [], ["compacted"], ["compact", "a", "b"], ["check", "--complete", "--complete"], ["compact", "--complete"], ["check", "a", "b"],
+    ["compare", "a.rec"], ["mask"], ["--per-stop"], ["show", "--per-stop"], ["normalise", "--per-stop", "--per-stop"], ["check", "-o", "a"],
+    ["golden"], ["golden", "a", "b", "c"], ["golden", "a", "-o", "b"], ["golden", "--rules"], ["normalise", "-o"], ["rows", "-o", "a"],
+    ["mask", "--rules", "lldb.mask"], ["compare", "-", "-"],
 ]
 
 # Words that request help or the version, and a part of the text that is printed.

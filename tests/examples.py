@@ -1,7 +1,9 @@
-"""Runs the scripts of examples/ against a fake adapter, a scratch repository of git, and the program that the gate built; and holds the picture
-of the README to what the program prints."""
+"""Runs the scripts of examples/ against a fake adapter and the program that the gate built, and compares the picture of the README with
+what the program prints. golden_sessions.py has the tests of golden_test.py, and recipes.py those of the shell scripts."""
+import io
 import os
 import re
+import runpy
 import shutil
 import socket
 import subprocess
@@ -10,6 +12,8 @@ import tempfile
 import threading
 
 import fake_adapter
+import golden_sessions
+import recipes
 from report import PROGRAM, TOP, Report, run
 from tracing import REQUESTS
 
@@ -24,7 +28,8 @@ LOG_ANSWERS = {
     "lldb-dap-22": ("from_lldb_log.py", b"accepted records=12 open=1,0\n", True),
 }
 BROKEN = ("lldb-vscode-14", "lldb-dap-22", "debugpy-1.6.3")
-FRACTION = b'{"seq":1,"type":"event","event":"output","body":{"share":0.5}}'
+# The variables that would change the examples.
+OURS = ("UPDATE_GOLDEN", "ADAPTER", "ADAPTER_TIMEOUT")
 
 
 def read(path):
@@ -41,8 +46,9 @@ def with_program(folder):
     """An environment in which the program is found as dapnorm, without what would change the examples."""
     os.makedirs(os.path.join(folder, "bin"))
     os.symlink(PROGRAM, os.path.join(folder, "bin", "dapnorm"))
-    kept = {name: value for name, value in os.environ.items() if name not in ("UPDATE_GOLDEN", "GOLDEN", "ADAPTER", "MASK") and not name.startswith("GIT_")}
-    return {**kept, "PATH": os.path.join(folder, "bin") + os.pathsep + os.environ["PATH"], "HOME": folder, "PYTHONDONTWRITEBYTECODE": "1"}
+    kept = {name: value for name, value in os.environ.items() if name not in OURS and not name.startswith("GIT_")}
+    path = os.path.join(folder, "bin") + os.pathsep + os.environ["PATH"]
+    return {**kept, "PATH": path, "HOME": folder, "PYTHONDONTWRITEBYTECODE": "1"}
 
 
 def picture(report):
@@ -71,17 +77,10 @@ def first_look(report, folder):
         report.check(f"the first look says {line!r}", good, ran.stdout + ran.stderr)
 
 
-def serve_once(server, first):
-    """The fake adapter on TCP, for one session."""
-    connection, _ = server.accept()
+def ask(address, first_seq):
+    """A client's session over TCP. Returns the messages that came."""
+    came, connection = [], socket.create_connection(address, timeout=60)
     with connection, connection.makefile("rb") as source, connection.makefile("wb") as target:
-        fake_adapter.serve(source, target, first)
-
-
-def ask(port, first_seq):
-    """A client's session over TCP; it gives the messages that came."""
-    came = []
-    with socket.create_connection(("127.0.0.1", port), timeout=60) as connection, connection.makefile("rb") as source, connection.makefile("wb") as target:
         for seq, request in enumerate(REQUESTS, first_seq):
             fake_adapter.send(target, {"seq": seq, "type": "request", **request})
             while not came or came[-1].get("request_seq") != seq:
@@ -94,160 +93,103 @@ def ask(port, first_seq):
     return came
 
 
-def proxied(report, path, first_seq, first_frame):
-    with socket.create_server(("127.0.0.1", 0)) as server:
-        adapter = threading.Thread(target=serve_once, args=(server, first_frame), daemon=True)
+def proxied(report, path, first_seq, first_frame, host="127.0.0.1"):
+    """A session through the proxy, which listens on a port of this host. LISTEN is only the port if the host is 127.0.0.1."""
+    family, name = (socket.AF_INET6, f"[{host}]") if ":" in host else (socket.AF_INET, host)
+    with socket.create_server((host, 0), family=family) as server:
+        adapter = threading.Thread(target=fake_adapter.serve_connection, args=(server, first_frame), daemon=True)
         adapter.start()
-        words = [sys.executable, os.path.join(EXAMPLES, "trace_proxy.py"), path, "127.0.0.1:0", "127.0.0.1:{}".format(server.getsockname()[1])]
+        connect = "{}:{}".format(name, server.getsockname()[1])
+        words = [sys.executable, os.path.join(EXAMPLES, "trace_proxy.py"), path, "0" if host == "127.0.0.1" else f"{name}:0", connect]
         with subprocess.Popen(words, stderr=subprocess.PIPE, text=True) as process:
-            port = int(process.stderr.readline().rsplit(":", 1)[1])
-            came = ask(port, first_seq)
+            listening = process.stderr.readline()
+            report.check("the proxy says where it listens", listening.startswith(f"listening on {name}:"), listening)
+            came = ask((host, int(listening.rsplit(":", 1)[1])), first_seq)
             errors = process.stderr.read()
             status = process.wait(timeout=60)
         adapter.join(60)
     report.check("the proxy ends with the session", (status, errors) == (0, ""), repr((status, errors)))
-    report.check("the client behind the proxy has all answers", len(came) == 5, repr(came))
+    report.check("the client of the proxy has all responses", len(came) == 5, repr(came))
+
+
+def has_ipv6():
+    try:
+        socket.create_server(("::1", 0), family=socket.AF_INET6).close()
+    except OSError:
+        return False
+    return True
 
 
 def proxy(report, folder):
     normal = []
-    for name, first_seq, first_frame in (("one", 1, 1000), ("other", 501, 7)):
+    for name, first_seq, first_frame, host in (("one", 1, 1000, "127.0.0.1"), ("other", 501, 7, "::1" if has_ipv6() else "127.0.0.1")):
         path = os.path.join(folder, name)
-        proxied(report, path, first_seq, first_frame)
+        proxied(report, path, first_seq, first_frame, host)
         status, recording, errors = run(["record"], read(path))
         report.check("a trace of the proxy is recorded", (status, errors) == (0, b""), repr(errors))
         answer = run(["check", "--complete"], recording)
         report.check("its recording is accepted", answer == (0, b"accepted records=9 open=0,0\n", b""), repr(answer))
         normal.append(run(["normalise"], recording)[1])
-    report.check("two sessions behind the proxy have one normal form", normal[0] == normal[1] != b"")
+    report.check("two sessions through the proxy have one normal form", normal[0] == normal[1] != b"")
+
+
+# LISTEN or CONNECT, and the address that it means, or None if it is refused.
+ADDRESSES = (
+    ("4711", ("127.0.0.1", 4711)), (":4711", ("127.0.0.1", 4711)), ("0.0.0.0:4711", ("0.0.0.0", 4711)), ("localhost:1", ("localhost", 1)),
+    ("[::1]:4711", ("::1", 4711)), ("[::]:0", ("::", 0)),
+    ("::1:4711", None), ("127.0.0.1", None), ("4711x", None), ("65536", None), ("", None),
+)
+
+
+def addresses(report, _folder):
+    proxy_address = runpy.run_path(os.path.join(EXAMPLES, "trace_proxy.py"))["address"]
+    for text, wanted in ADDRESSES:
+        try:
+            found = proxy_address(text)
+        except SystemExit as refused:
+            found = None if str(refused).startswith(f"{text}: ") else refused
+        report.check(f"the proxy reads the address {text!r}", found == wanted, repr(found))
 
 
 def proxy_alone(report, folder):
-    """No adapter listens: the proxy says so, and leaves no process."""
+    """No adapter listens: the proxy says so, leaves no process, and leaves an earlier trace unchanged."""
     with socket.create_server(("127.0.0.1", 0)) as unused:
         port = unused.getsockname()[1]
-    script = os.path.join(EXAMPLES, "trace_proxy.py")
-    code = f"import runpy, sys; sys.argv = {['p', os.path.join(folder, 'none'), '127.0.0.1:0', f'127.0.0.1:{port}']!r}; proxy = runpy.run_path({script!r}); proxy['connected'].__globals__['PATIENCE'] = 0; proxy['main']()"
+    script, trace = os.path.join(EXAMPLES, "trace_proxy.py"), os.path.join(folder, "trace")
+    write(trace, b"as it was")
+    code = "\n".join((
+        "import runpy, sys",
+        f"sys.argv = ['trace_proxy.py', {trace!r}, '0', '{port}']",
+        f"proxy = runpy.run_path({script!r})",
+        "proxy['connected'].__globals__['PATIENCE'] = 0",
+        "proxy['main']()",
+    ))
     with subprocess.Popen([sys.executable, "-c", code], stderr=subprocess.PIPE, text=True) as process:
         listening = int(process.stderr.readline().rsplit(":", 1)[1])
         socket.create_connection(("127.0.0.1", listening), timeout=60).close()
         errors = process.stderr.read()
         status = process.wait(timeout=60)
-    report.check("a proxy without an adapter fails and says why", status != 0 and "ConnectionRefusedError" in errors, repr((status, errors)))
+    good = status == 1 and errors.startswith("trace_proxy.py ") and "Connection refused" in errors and errors.count("\n") == 1
+    report.check("a proxy without an adapter fails and says why", good, repr((status, errors)))
+    report.check("and leaves the trace unchanged", read(trace) == b"as it was")
 
 
-def pytest_command(path):
-    """By pytest, where it is installed; else the file by itself."""
-    found = subprocess.run([sys.executable, "-c", "import pytest"], capture_output=True).returncode == 0
-    return [sys.executable, "-m", "pytest", "-q", "-p", "no:cacheprovider", path] if found else [sys.executable, path]
-
-
-# What an author changes in the golden test: the session, here for the adapter of tests/fake_adapter.py.
-FAKE_SESSION = """SESSION = [
-    {"command": "initialize", "arguments": {"adapterID": "golden"}, "until": ["initialize", "initialized"]},
-    {"command": "configurationDone"},
-    {"command": "stackTrace", "arguments": {"threadId": 1}},
-    {"command": "disconnect"},
-]
-"""
-
-
-def golden(report, folder, environment):
-    """The golden test as an author keeps it, and what it says of a session that differs and of one that is refused."""
-    for name in ("golden_test.py", "trace_tee.py"):
-        shutil.copy(os.path.join(EXAMPLES, name), folder)
-    path, script = os.path.join(folder, "session.golden"), os.path.join(folder, "golden_test.py")
-    text, found = re.subn(r"^SESSION = \[\n.*?^\]\n", FAKE_SESSION, read(script).decode(), flags=re.MULTILINE | re.DOTALL)
-    report.check("the golden test has a session to change", found == 1)
-    write(script, text.encode())
-    test = pytest_command(script)
-
-    def tried(first, **more):
-        adapter = f"{sys.executable} {os.path.join(TOP, 'tests', 'fake_adapter.py')} {first}"
-        ran = subprocess.run(test, cwd=folder, env={**environment, "ADAPTER": adapter, **more}, capture_output=True, text=True, timeout=120)
-        return ran.returncode, ran.stdout + ran.stderr
-
-    status, told = tried(1000)
-    report.check("without a golden file the test fails and says what to do", status != 0 and "UPDATE_GOLDEN=1" in told, told)
-    report.check("UPDATE_GOLDEN makes the golden file", tried(1000, UPDATE_GOLDEN="1")[0] == 0 and os.path.exists(path))
-    report.check("the golden file is its own normal form", run(["normalise"], read(path)) == (0, read(path), b""))
-    status, told = tried(7)
-    report.check("a session with other numbers is held to it", status == 0, told)
-    write(path, read(path).replace(b'"line":3', b'"line":4'))
-    status, told = tried(1000)
-    shows = all(part in told for part in ("differ 7", '.line 4', '.line 3'))
-    report.check("the difference is shown", status != 0 and shows, told)
-    before = read(path)
-    status, told = tried("0.5", UPDATE_GOLDEN="1")
-    report.check("a refused session fails with the reason", status != 0 and "dapnorm: record 7: Fraction" in told, told)
-    report.check("and leaves the golden file as it was, and nothing beside it", read(path) == before and not os.path.exists(path + ".new"))
-    report.check("after it the golden file is made anew", tried(1000, UPDATE_GOLDEN="1")[0] == 0 and b'"line":3' in read(path))
-    mask = os.path.join(folder, "session.mask")
-    write(mask, b"digits event output body.output\n")
-    numbered = "1000 says_its_number"
-    report.check("a golden file of what changes from run to run", tried(numbered, UPDATE_GOLDEN="1")[0] == 0)
-    status, told = tried(numbered)
-    report.check("does not hold in the next run", status != 0 and "differ 2" in told, told)
-    report.check("a golden file under a mask", tried(numbered, MASK=mask, UPDATE_GOLDEN="1")[0] == 0 and b'"output":"process 0"' in read(path))
-    status, told = tried(numbered, MASK=mask)
-    report.check("holds in the next run", status == 0, told)
-
-
-def recipe(report, folder, environment):
-    """The recipe of the README, word by word: of a refused recording no golden file is left, and one that was there stays."""
-    with open(os.path.join(TOP, "README.md"), encoding="utf-8") as file:
-        line = re.search(r"^ {4}(dapnorm normalise < session\.masked .*)$", file.read(), re.MULTILINE)[1]
-    good = read(os.path.join(EXAMPLES, "captures", "dlv-l-stopentry.5.rec"))
-    refused = good + b"<Content-Length: %d\r\n\r\n%s\n" % (len(FRACTION), FRACTION)
-    target = os.path.join(folder, "session.golden")
-    for recording, left in ((refused, None), (good, "dlv-stopentry.golden"), (refused, "dlv-stopentry.golden")):
-        write(os.path.join(folder, "session.masked"), recording)
-        subprocess.run(["sh", "-c", line], cwd=folder, env=environment, capture_output=True, timeout=60)
-        there = read(target) if os.path.exists(target) else None
-        wanted = left and read(os.path.join(EXAMPLES, left))
-        report.check(f"the recipe leaves {left or 'no golden file'}", there == wanted)
-
-
-def git(folder, environment, *words):
-    identity = ["-c", "user.name=somebody", "-c", "user.email=somebody@example.org", "-c", "init.defaultBranch=main"]
-    return subprocess.run(["git", *identity, *words], cwd=folder, env=environment, capture_output=True, text=True, timeout=60)
-
-
-def git_recipe(report, folder, environment):
-    """In a scratch repository that would change line ends, golden files stay as they are and their differences read well."""
-    git(folder, environment, "init", "-q")
-    git(folder, environment, "config", "core.autocrlf", "input")
-    for turn in (1, 2):
-        ran = subprocess.run(["sh", os.path.join(EXAMPLES, "git_setup.sh")], cwd=folder, env=environment, capture_output=True, text=True)
-        report.check(f"the git recipe runs, turn {turn}", ran.returncode == 0, ran.stderr)
-    attributes = read(os.path.join(folder, ".gitattributes"))
-    report.check("it writes one line of attributes", attributes == b"*.golden -text diff=dapnorm\n", repr(attributes))
-    path = os.path.join(folder, "session.golden")
-    text = read(os.path.join(EXAMPLES, "dlv-stopentry.golden"))
-    write(path, text)
-    git(folder, environment, "add", "-A")
-    ran = git(folder, environment, "commit", "-qm", "golden")
-    report.check("a golden file is committed", ran.returncode == 0, ran.stderr)
-    os.remove(path)
-    git(folder, environment, "checkout", "--", "session.golden")
-    report.check("git keeps its bytes", read(path) == text)
-    write(path, text.replace(b'"command":"stepIn"', b'"command":"stepUp"'))
-    lines = git(folder, environment, "diff").stdout.splitlines()
-    report.check("the difference is in lines of show", '-30 > request "stepIn" seq=12' in lines and '+30 > request "stepUp" seq=12' in lines, repr(lines))
-    report.check("no line of it is JSON", not any("Content-Length" in line or "{" in line for line in lines), repr(lines))
-    write(path, b"no recording\n")
-    ran = git(folder, environment, "diff")
-    report.check("a file that is refused is shown as it is", ran.returncode == 0 and "+no recording" in ran.stdout.splitlines(), ran.stderr)
-
-
-def ci(report, folder, environment):
-    text = read(os.path.join(EXAMPLES, "dlv-stopentry.golden"))
-    raw = read(os.path.join(EXAMPLES, "captures", "dlv-l-stopentry.5.rec"))
-    path = os.path.join(folder, "a session.golden")
-    for given, status, word in ((text, 0, "1 golden files are in order"), (raw, 1, "not in normal form"), (text[:-1], 1, "refused"), (b"<", 1, "refused")):
-        write(path, given)
-        ran = subprocess.run(["sh", os.path.join(EXAMPLES, "ci.sh"), folder], env=environment, capture_output=True, text=True, timeout=60)
-        report.check(f"the CI recipe says {word!r}", ran.returncode == status and word in ran.stdout, repr((ran.returncode, ran.stdout, ran.stderr)))
+def tee(report, folder):
+    """The tee ends with the status of the adapter."""
+    trace, fake = os.path.join(folder, "trace"), [sys.executable, os.path.join(TOP, "tests", "fake_adapter.py"), "1"]
+    requests = io.BytesIO()
+    for seq, command in ((1, "initialize"), (2, "disconnect")):
+        fake_adapter.send(requests, {"seq": seq, "type": "request", "command": command})
+    for adapter, wanted in ((fake, 0), ([*fake, "status=3"], 3), ([*fake, "crashes"], 128 + 11), ([*fake, "ends=initialize"], 0)):
+        words = [sys.executable, os.path.join(EXAMPLES, "trace_tee.py"), trace, *adapter]
+        ran = subprocess.run(words, input=requests.getvalue(), capture_output=True, timeout=60)
+        report.check(f"the tee has the status {wanted}", (ran.returncode, ran.stderr) == (wanted, b""), repr((ran.returncode, ran.stderr)))
+        report.check("and has noted what the client sent", read(trace).startswith(b">"))
+    write(trace, b"as it was")
+    words = [sys.executable, os.path.join(EXAMPLES, "trace_tee.py"), trace, "no_such_adapter"]
+    ran = subprocess.run(words, capture_output=True, timeout=60)
+    good = ran.returncode == 1 and b"the adapter does not start" in ran.stderr and read(trace) == b"as it was"
+    report.check("a tee without an adapter fails and leaves the trace unchanged", good, repr(ran.stderr))
 
 
 def from_log(script, log, trace, *more):
@@ -340,8 +282,8 @@ def main():
     picture(report)
     with tempfile.TemporaryDirectory() as top:
         environment = with_program(top)
-        alone = (first_look, proxy, proxy_alone, logs, broken_logs, clients)
-        with_tools = (golden, recipe, git_recipe, ci)
+        alone = (first_look, proxy, addresses, proxy_alone, tee, logs, broken_logs, clients, golden_sessions.rules)
+        with_tools = (*golden_sessions.PARTS, recipes.golden_script, recipes.git_recipe, recipes.ci)
         parts = [(it, ()) for it in alone] + [(it, (environment,)) for it in with_tools]
         for part, arguments in parts:
             folder = os.path.join(top, part.__name__)

@@ -11,15 +11,19 @@
    READ_FAILS     behind so many bytes a read of the file descriptor READ_OF (0) fails
    WRITE_FAILS    behind so many bytes a write to the standard output fails
    TAKES_NOTHING  1: there it takes nothing in place of failing
-   NO_WORDS       1: there are no random words */
+   NO_WORDS       1: there are no random words
+   KILLED_AT      the process is killed before its n-th call on files is made
+   FAILS_AT       its n-th call on files fails */
 typedef unsigned long size_t;
 typedef long ssize_t;
 extern void *__libc_malloc(size_t), *__libc_realloc(void *, size_t);
 extern char *getenv(const char *);
 extern long syscall(long, ...);
 extern int *__errno_location(void);
-enum { ASK = 0x5eed0000, TELL = 0x5eedffff, SYS_READ = 0, SYS_WRITE = 1, SYS_GETRANDOM = 318, INTERRUPT = 4, FAULT = 5 };
-static long left, came, begun, interrupted_reads, interrupted_writes, given, taken;
+enum { ASK = 0x5eed0000, TELL = 0x5eedffff, SYS_GETRANDOM = 318, INTERRUPT = 4, FAULT = 5, SIGNAL_KILL = 9 };
+enum { SYS_READ = 0, SYS_WRITE = 1, SYS_OPEN = 2, SYS_GETPID = 39, SYS_KILL = 62, SYS_FSYNC = 74, SYS_RENAME = 82, SYS_UNLINK = 87 };
+enum { SYS_READLINK = 89, SYS_FCHMOD = 91, SYS_STATX = 332 };
+static long left, came, begun, interrupted_reads, interrupted_writes, given, taken, calls;
 
 /* The number that the environment has behind this name, or -1. */
 static long asked(const char *name) {
@@ -54,6 +58,23 @@ void *realloc(void *block, size_t size) { return fails(size) ? 0 : __libc_reallo
 
 static ssize_t refused(int error) { *__errno_location() = error; return -1; }
 
+/* Counts a call on files. Kills the process if it is to end here, and returns whether the call fails. */
+static int stops(void) {
+  calls++;
+  if (asked("FAULT_INJECTION_KILLED_AT") == calls) syscall(SYS_KILL, syscall(SYS_GETPID), SIGNAL_KILL);
+  return asked("FAULT_INJECTION_FAILS_AT") == calls;
+}
+
+int open(const char *path, int flags, unsigned mode) { return stops() ? (int)refused(FAULT) : (int)syscall(SYS_OPEN, path, flags, mode); }
+int fsync(int file) { return stops() ? (int)refused(FAULT) : (int)syscall(SYS_FSYNC, file); }
+int rename(const char *from, const char *to) { return stops() ? (int)refused(FAULT) : (int)syscall(SYS_RENAME, from, to); }
+int unlink(const char *path) { return stops() ? (int)refused(FAULT) : (int)syscall(SYS_UNLINK, path); }
+int fchmod(int file, unsigned mode) { return stops() ? (int)refused(FAULT) : (int)syscall(SYS_FCHMOD, file, mode); }
+ssize_t readlink(const char *path, char *bytes, size_t size) { return stops() ? refused(FAULT) : syscall(SYS_READLINK, path, bytes, size); }
+int statx(int folder, const char *path, int flags, unsigned mask, void *found) {
+  return stops() ? (int)refused(FAULT) : (int)syscall(SYS_STATX, folder, path, flags, mask, found);
+}
+
 /* Whether this call is interrupted: every other one. */
 static int interrupts(long *calls) { return asked("FAULT_INJECTION_INTERRUPTED") == 1 && (*calls)++ % 2 == 0; }
 
@@ -63,6 +84,7 @@ ssize_t read(int file, void *bytes, size_t size) {
   long fails_at = asked("FAULT_INJECTION_READ_FAILS"), fails_of = asked("FAULT_INJECTION_READ_OF");
   ssize_t count;
   begin(1);
+  if (stops()) return refused(FAULT);
   if (interrupts(&interrupted_reads)) return refused(INTERRUPT);
   if (file != (fails_of < 0 ? 0 : fails_of)) fails_at = -1;
   if (fails_at >= 0 && given >= fails_at) return refused(FAULT);
@@ -76,6 +98,7 @@ ssize_t read(int file, void *bytes, size_t size) {
 ssize_t write(int file, const void *bytes, size_t size) {
   long fails_at = file == 1 ? asked("FAULT_INJECTION_WRITE_FAILS") : -1;
   ssize_t count;
+  if (stops()) return refused(FAULT);
   if (interrupts(&interrupted_writes)) return refused(INTERRUPT);
   if (fails_at >= 0 && taken >= fails_at) return asked("FAULT_INJECTION_TAKES_NOTHING") == 1 ? 0 : refused(FAULT);
   size = least(size, asked("FAULT_INJECTION_WRITE"));
