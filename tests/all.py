@@ -70,6 +70,7 @@ def main():
             ("the words of command lines", "command_lines.py"),
             ("golden files", "golden.py"),
             ("inputs and outputs in files", "files.py"),
+            ("explanations of refusals", "explaining.py"),
             ("the lines of refusals", "refusals.py"),
             ("calls of the driver", "driver.py"),
             ("the engine check", "engine_check.py"),

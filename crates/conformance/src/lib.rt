@@ -1,5 +1,5 @@
-//! Tests that cross crates: masks whose rules are used again after a failed allocation, comparisons,
-//! and the callers of the library.
+//! Tests that cross crates: masks whose rules are used again after a failed allocation,
+//! comparisons, and the callers of the library.
 #![tactic(auto)]
 
 #[cfg(test)]

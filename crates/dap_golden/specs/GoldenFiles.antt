@@ -48,7 +48,7 @@ module _ (limits : Limits) (mode : Mode) (golden text : List ℕ) where
   IsGoldenVerdict (verdict.Differs number lines) = DiffersAt number lines.items
   IsGoldenVerdict verdict.NotNormal = IsNotNormal
 
-  -- The golden file is refused for this at a record, and the records before it are the same in both.
+  -- The golden file is refused for this at a record. The records before it are the same in both.
   pub record IsRefusedFile (refused : Refused) : Type 0 where
     pub is_refused : IsRefused (accepting limits mode) golden refused
     pub number : ℕ

@@ -1,5 +1,5 @@
--- What contracts see of a sink that writes into memory, and when an engine over it is out of memory.
--- Source: own.
+-- What contracts see of a sink that writes into memory, and when an engine over it is out of
+-- memory. Source: own.
 use Rattle.std.specs.Prelude.{ℕ, Bool, List}
 use Rattle.dap_input.specs.declared.refused.Refused.{Refused}
 use Rattle.dap_input.specs.declared.refused.Refused.TheVariants.{Memory, WriteFault}

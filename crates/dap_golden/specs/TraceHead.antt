@@ -1,6 +1,6 @@
 -- How an input starts that is a trace. Source: own. A trace starts with a marker and the line of a
--- count, a recording with a marker and the name of a header field, so that no trace and no recording
--- start alike.
+-- count, a recording with a marker and the name of a header field, so that no trace and no
+-- recording start alike.
 use Rattle.std.specs.Prelude.{◌≡◌, ◌<◌, ◌⊎◌, ℕ, true, List, [], ◌∷◌, ◌++◌, length}
 use Rattle.std.specs.Char.{is_ascii_digit}
 use Rattle.std.specs.List.{list_all}

@@ -49,8 +49,14 @@ fn record_trace(alloc: Global, trace: &[u8], limits: Limits) -> Result<Vec<u8>, 
     }
 }
 
-/// Returns the recording of an input. An input that is not a trace is not copied.
-fn recording_of<'a>(
+/// Returns the recording of an input. An input that is not a trace is its own recording, and is not
+/// copied.
+///
+/// # Errors
+///
+/// - `Trace`: the trace was rejected, or ends inside a piece or a frame.
+/// - `Memory`: an allocation failed.
+pub fn recording_of<'a>(
     alloc: Global,
     input: &'a [u8],
     limits: Limits,
@@ -89,7 +95,12 @@ fn mask_recording(
 }
 
 /// Masks a recording if there are rules, and frees it then. Otherwise the recording is unchanged.
-fn apply_rules<'a>(
+///
+/// # Errors
+///
+/// - `Mask`: the rules cannot mask a record of the recording.
+/// - `Memory`: an allocation failed.
+pub fn apply_rules<'a>(
     alloc: Global,
     recording: CowSlice<'a, u8>,
     rules: Option<&MaskRules>,

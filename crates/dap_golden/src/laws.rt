@@ -1,5 +1,5 @@
-//! Theorems on golden texts. Each function does nothing: a call of it makes its clauses available to
-//! a proof.
+//! Theorems on golden texts. Each function does nothing: a call of it makes its clauses available
+//! to a proof.
 ghost use Rattle.dap_golden.specs.Laws.{EqualGoldenTexts, GoldenIsNotRefused, OneGoldenText};
 
 /// The golden texts of two inputs are equal if and only if a renaming of ids maps the messages of

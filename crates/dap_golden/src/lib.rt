@@ -15,6 +15,6 @@ mod updates;
 
 pub use comparing::{GoldenVerdict, compare_golden};
 pub use fault::{GoldenFault, GoldenRefused};
-pub use golden::{GoldenText, golden_text};
+pub use golden::{GoldenText, apply_rules, golden_text, recording_of};
 pub use text_sink::TextSink;
 pub use updates::{GoldenDone, GoldenRequest, GoldenStop, golden_file};

@@ -120,13 +120,14 @@ module _ {W E : Type 0} (sink : Sink W) (errors : Sink E) (has_rules : Bool) (na
       ⊎ (FrontWritten sink before after (done_text name one)
       × HasSent errors silent spoken (fault_line (refused_text WriteFault))
       × (run ≡ record { status = 4; stop = None }))
-  Reports (Err why) run = (after ≡ before) × HasSent errors silent spoken (stop_line has_rules name why)
+  Reports (Err why) run = (after ≡ before)
+      × HasSent errors silent spoken (stop_line has_rules name why)
       × (run ≡ record { status = stop_status why; stop = Some why })
 
 -- What `golden` does with the input and the golden file is reported.
 pub record GoldenIsReported {I F W E : Type 0} (source : Source I) (file : Replaceable F)
-    (sink : Sink W) (errors : Sink E) (limits : Limits) (mask : Option Mask) (request : GoldenRequest)
-    (name : List ℕ) (old_input new_input : I) (old new : F) (before after : W)
+    (sink : Sink W) (errors : Sink E) (limits : Limits) (mask : Option Mask)
+    (request : GoldenRequest) (name : List ℕ) (old_input new_input : I) (old new : F) (before after : W)
     (silent spoken : E) (run : GoldenRun) : Type 0 where
   pub answer : Result GoldenDone GoldenStop
   pub answers : Answers source file limits mask request old_input new_input old new answer

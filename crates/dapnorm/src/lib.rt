@@ -18,12 +18,14 @@ pub use dap_command_line::{Job, UsageFault, job};
 pub use dap_commands::{Action, Command, Golden, command};
 pub use dap_compact::compact;
 pub use dap_compare::{CompareRefused, Verdict, Which, compare, compare_with};
-pub use dap_device::{DeviceFault, MemorySink, MemorySource, Sink, Source, StdSink, StdSource};
+pub use dap_device::{
+    DeviceFault, Input, MemorySink, MemorySource, Sink, Source, StdSink, StdSource, Stop, read_all,
+};
 pub use dap_diff::{Diff, diff, diff_with};
 pub use dap_file::{FileAt, MemoryFile, ReadFault, ReplaceFault, Replaceable, Step, replace};
 pub use dap_golden::{
     GoldenDone, GoldenFault, GoldenRefused, GoldenRequest, GoldenStop, GoldenText, GoldenVerdict,
-    TextSink, compare_golden, golden_file, golden_text,
+    TextSink, apply_rules, compare_golden, golden_file, golden_text, recording_of,
 };
 pub use dap_input::{Limits, Refused};
 pub use dap_mask::{MaskRules, RulesCause, RulesFault};

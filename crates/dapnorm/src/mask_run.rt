@@ -44,8 +44,8 @@ pub fn read_rules<F: Source>(alloc: Global, file: &mut F) -> Result<MaskRules, R
     requires given { F.given file.old < 2 ^ 62 }
     requires failures { F.failures file.old < 2 ^ 62 }
 
-    // The result is what the bytes of the file specify: the rules, or the rejected line. `Unread` is
-    // returned only if a read failed.
+    // The result is what the bytes of the file specify: the rules, or the rejected line. `Unread`
+    // is returned only if a read failed.
     ensures rules { ReadsRules F.Source file.old file.new (outcome_of result) }
 
     // It reads at most one byte past the limit.

@@ -75,8 +75,8 @@ fn is_device(rt: &HostRuntime, name: &str) -> bool {
     }
 }
 
-/// Opens an output. Without a name, or with `-`, it is standard output. A file that is replaced only
-/// has to be one that can be.
+/// Opens an output. Without a name, or with `-`, it is standard output. A file that is to be
+/// replaced is not opened yet: it only has to be one that can be replaced.
 pub fn open_output<'a>(
     rt: &HostRuntime,
     name: Option<&'a str>,

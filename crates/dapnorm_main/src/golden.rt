@@ -1,12 +1,13 @@
 //! Compares a session with its golden file, or makes or renews the golden file.
+use crate::explaining::{explain_file, explain_input, explain_rules_of};
 use crate::files::{
     find_file, is_standard, open_input, report_reason, report_unopened, report_unwritten,
     shows_closed_input,
 };
-use crate::{FAULT, LIMITS, USAGE, report_unread};
+use crate::{FAULT, LIMITS, USAGE, report_unread, report_usage};
 use dapnorm::{
-    FileAt, Golden, GoldenRequest, GoldenRun, GoldenStop, MaskRules, StdSink, StdSource,
-    read_rules, report_rules, run_golden,
+    FileAt, Golden, GoldenRequest, GoldenStop, MaskRules, MemorySource, RulesRefused, StdSink,
+    StdSource, Stop, UsageFault, read_all, read_rules, report_rules, run_golden,
 };
 use std::fs;
 use std::hash::RandomState;
@@ -24,7 +25,13 @@ fn rules_of(rt: &HostRuntime, name: &str, is_input_standard: bool) -> Result<Mas
     }
     match read_rules(rt.alloc(), &mut StdSource::new(file)) {
         Ok(rules) => Ok(rules),
-        Err(refused) => Err(report_rules(&mut StdSink::new(rt.stderr()), refused)),
+        Err(refused) => {
+            let status = report_rules(&mut StdSink::new(rt.stderr()), refused);
+            if let RulesRefused::Line(fault) = refused {
+                explain_rules_of(rt, name, fault);
+            }
+            Err(status)
+        }
     }
 }
 
@@ -47,30 +54,38 @@ fn report_unusable(rt: &HostRuntime, golden: &Golden<'_>, error: &Error) -> u8 {
     FAULT
 }
 
-/// Reports the reason of a stop, if the operating system gave it.
-fn explain(rt: &HostRuntime, run: &GoldenRun, file: &FileAt<'_, HostRuntime>, name: &str) {
-    let is_of_file = matches!(
-        run.stop,
-        Some(GoldenStop::GoldenUnread | GoldenStop::Unwritten(_))
-    );
-    if is_of_file && let Some(reason) = file.reason() {
-        report_reason(rt, name, &reason);
+/// Explains a stop in lines for people.
+fn explain_stop(
+    rt: &HostRuntime,
+    stop: GoldenStop,
+    input: &[u8],
+    rules: Option<&MaskRules>,
+    file: &FileAt<'_, HostRuntime>,
+    name: &str,
+    hasher: RandomState,
+) {
+    match stop {
+        GoldenStop::Input(refused) => explain_input(rt, input, rules, refused),
+        GoldenStop::Golden(refused) => explain_file(rt, name, refused, hasher),
+        GoldenStop::GoldenUnread | GoldenStop::Unwritten(_) => {
+            if let Some(reason) = file.reason() {
+                report_reason(rt, name, &reason);
+            }
+        }
+        _ => {}
     }
 }
 
-/// Compares the session of an input with its golden file, or makes or renews the golden file.
+/// Compares a session with its golden file, or makes or renews the golden file.
 fn run_over(
     rt: &HostRuntime,
     golden: &Golden<'_>,
     rules: Option<&MaskRules>,
-    input: Option<&str>,
+    input: &[u8],
     hasher: RandomState,
 ) -> u8 {
-    let reader = match open_input(rt, input) {
-        Ok(reader) => reader,
-        Err(error) => return report_unopened(rt, "golden: ", input, &error),
-    };
-    let mut file = match find_file(rt, golden.golden, hasher) {
+    let name = golden.golden;
+    let mut file = match find_file(rt, name, hasher) {
         Ok(file) => file,
         Err(error) => return report_unusable(rt, golden, &error),
     };
@@ -81,17 +96,41 @@ fn run_over(
     };
     let run = run_golden(
         rt.alloc(),
-        &mut StdSource::new(reader),
+        &mut MemorySource::new(input),
         rules,
         &mut file,
-        golden.golden,
+        name,
         request,
         &mut StdSink::new(rt.stdout()),
         &mut StdSink::new(rt.stderr()),
         LIMITS,
     );
-    explain(rt, &run, &file, golden.golden);
+    if let Some(stop) = run.stop {
+        explain_stop(rt, stop, input, rules, &file, name, hasher);
+    }
     run.status
+}
+
+/// Reads the whole input, so that a refusal can be explained, and goes on with it.
+fn run_on_input(
+    rt: &HostRuntime,
+    golden: &Golden<'_>,
+    rules: Option<&MaskRules>,
+    input: Option<&str>,
+    hasher: RandomState,
+) -> u8 {
+    let reader = match open_input(rt, input) {
+        Ok(reader) => reader,
+        Err(error) => return report_unopened(rt, "golden: ", input, &error),
+    };
+    let Ok(read) = read_all(rt.alloc(), &mut StdSource::new(reader), LIMITS.input) else {
+        return report_usage(rt, &UsageFault::Memory);
+    };
+    if let Stop::Failed = read.stop {
+        let _ = eprintln!(rt; "dapnorm: golden: read fault");
+        return FAULT;
+    }
+    run_over(rt, golden, rules, read.bytes.as_slice(), hasher)
 }
 
 /// Does what `golden` requests.
@@ -118,5 +157,5 @@ pub fn keep_golden(
             Err(status) => return status,
         },
     };
-    run_over(rt, golden, rules.as_ref(), input, hasher)
+    run_on_input(rt, golden, rules.as_ref(), input, hasher)
 }

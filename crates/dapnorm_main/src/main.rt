@@ -6,6 +6,7 @@ ghost use Rattle.dap_rename.specs.IndexNames.{index_limit, index_numbers};
 ghost use Rattle.dapnorm.specs.Limits.{AreSound};
 ghost use Rattle.dapnorm.specs.NameTables.{AreReady};
 
+mod explaining;
 mod files;
 mod golden;
 mod jobs;

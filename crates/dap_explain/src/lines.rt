@@ -1,0 +1,137 @@
+//! The lines of an explanation: indented, and without control characters.
+ghost use Rattle.std.specs.Prelude.{◌≡◌, ◌≢◌, ◌<◌, ◌≤◌, true, List, ℕ, All, IfOk, OnOk};
+ghost use Rattle.std.specs.Prelude.{string_bytes};
+ghost use Rattle.dap_explain.specs.Lines.{AreLines, IsPrinted, line_of};
+
+use std::alloc::{AllocError, Global};
+
+/// How many characters of a line are written.
+const LONGEST: usize = 1_000;
+
+/// The lines of an explanation.
+#[derive(Drop)]
+pub(crate) struct Lines {
+    alloc: Global,
+    text: String,
+    ghost are_lines: { ∥ AreLines (string_bytes text) ∥₁ },
+}
+
+impl Lines {
+    /// No line. Does not allocate.
+    pub(crate) fn new(alloc: Global) -> Lines {
+        Lines {
+            alloc,
+            text: String::new(alloc),
+        }
+    }
+
+    /// Appends a line, cut after 1,000 characters. A character that a terminal does not print is
+    /// written as JSON escapes it.
+    pub(crate) fn add(&mut self, line: &str) -> Result<(), AllocError> {
+        let line = indented(self.alloc, line)?;
+        self.text.push_str(line.as_str())
+    }
+
+    /// The text of the lines.
+    pub(crate) fn into_text(self) -> String
+        ensures { ∥ AreLines (string_bytes result) ∥₁ }
+    {
+        self.text
+    }
+}
+
+/// Returns the line that these words make.
+fn indented(alloc: Global, words: &str) -> Result<String, AllocError>
+    ensures { IfOk result (λ line. (words : List ℕ) × All IsPrinted words
+        × (string_bytes line ≡ line_of words)) }
+{
+    let words = printed(alloc, words)?;
+    let mut line = String::from_str(alloc, "  ")?;
+    line.push_str(words.as_str())?;
+    line.push_str("\n")?;
+    Ok(line)
+}
+
+/// Returns the first characters of a text, each of them escaped that a terminal does not print.
+fn printed(alloc: Global, text: &str) -> Result<String, AllocError>
+    ensures { IfOk result (λ words. All IsPrinted (string_bytes words)) }
+{
+    let mut words = String::new(alloc);
+    let mut characters = text.chars();
+    for character in characters.by_ref().take(LONGEST) {
+        push_printed(&mut words, character)?;
+    }
+    push_ellipsis(&mut words, characters.next().is_some())?;
+    Ok(words)
+}
+
+/// Appends `...` to a text that was cut.
+fn push_ellipsis(words: &mut String, is_cut: bool) -> Result<(), AllocError>
+    requires { All IsPrinted (string_bytes words.old) }
+    ensures { OnOk result (All IsPrinted (string_bytes words.new)) }
+{
+    if is_cut {
+        words.push_str("...")
+    } else {
+        Ok(())
+    }
+}
+
+/// Appends a character, or its escape.
+fn push_printed(words: &mut String, character: char) -> Result<(), AllocError>
+    requires { All IsPrinted (string_bytes words.old) }
+    ensures { OnOk result (All IsPrinted (string_bytes words.new)) }
+{
+    if is_printed(character) {
+        words.push(character)
+    } else {
+        push_escape(words, u32::from(character))
+    }
+}
+
+/// Whether a terminal prints a character: it is no control character of Unicode, no line separator,
+/// and does not turn the direction of a text.
+fn is_printed(character: char) -> bool
+    ensures { result ≡ true → (32 ≤ character) × (character ≢ 127) }
+{
+    !matches!(
+        character,
+        '\0'..='\u{1f}'
+            | '\u{7f}'..='\u{9f}'
+            | '\u{200e}'..='\u{200f}'
+            | '\u{2028}'..='\u{202e}'
+            | '\u{2066}'..='\u{2069}'
+    )
+}
+
+/// Appends a number below 65,536 as JSON escapes it: `\u` and four hexadecimal digits.
+fn push_escape(words: &mut String, number: u32) -> Result<(), AllocError>
+    requires { All IsPrinted (string_bytes words.old) }
+    ensures { OnOk result (All IsPrinted (string_bytes words.new)) }
+{
+    words.push_str("\\u")?;
+    push_digit(words, number >> 12)?;
+    push_digit(words, number >> 8)?;
+    push_digit(words, number >> 4)?;
+    push_digit(words, number)
+}
+
+/// Appends the hexadecimal digit that the low four bits of a number are.
+fn push_digit(words: &mut String, number: u32) -> Result<(), AllocError>
+    requires { All IsPrinted (string_bytes words.old) }
+    ensures { OnOk result (All IsPrinted (string_bytes words.new)) }
+{
+    words.push(hex_digit(number % 16))
+}
+
+/// Returns a hexadecimal digit.
+fn hex_digit(digit: u32) -> char
+    requires { digit < 16 }
+    ensures { (48 ≤ result) × (result < 127) }
+{
+    if digit < 10 {
+        char::from(b'0' + digit as u8)
+    } else {
+        char::from(b'a' + (digit - 10) as u8)
+    }
+}

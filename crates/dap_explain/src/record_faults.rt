@@ -1,0 +1,227 @@
+//! Bytes that are not a record.
+ghost use Rattle.dap_frame.specs.Limits.{IsSound};
+
+use crate::frame_faults::{BadFrame, explain_frame};
+use crate::head::read_value;
+use crate::header::header_len;
+use crate::likeness::{Expected, add_likeness, first_line, likeness_of};
+use crate::lines::Lines;
+use crate::records::{Form, bytes_from};
+use crate::shown::Bytes;
+use dap_frame::{FrameFault, FrameLimits, Framer};
+use dap_recording::{RecordCause, RecordReader};
+use std::alloc::{AllocError, Global};
+
+/// Whether the first record of some bytes is refused for this cause.
+fn is_refused(
+    alloc: Global,
+    form: Form,
+    bytes: &[u8],
+    cause: RecordCause,
+    limits: FrameLimits,
+) -> Result<bool, AllocError>
+    requires { IsSound limits }
+{
+    let found = match form {
+        Form::Recording => record_cause(alloc, bytes, limits),
+        Form::Frames => frame_cause(alloc, bytes, limits),
+    };
+    match found {
+        Some(RecordCause::Memory) => Err(AllocError),
+        Some(found) => Ok(found == cause),
+        None => Ok(false),
+    }
+}
+
+/// Why the first record of some bytes is refused.
+fn record_cause(alloc: Global, bytes: &[u8], limits: FrameLimits) -> Option<RecordCause>
+    requires { IsSound limits }
+{
+    let mut reader = RecordReader::new(alloc, limits);
+    match reader.feed(bytes) {
+        Err(fault) => Some(fault.cause),
+        Ok(fed) if fed.whole.is_some() => None,
+        Ok(_) => match reader.finish() {
+            Ok(()) => None,
+            Err(fault) => Some(fault.cause),
+        },
+    }
+}
+
+/// Why the first frame of some bytes is refused.
+fn frame_cause(alloc: Global, bytes: &[u8], limits: FrameLimits) -> Option<RecordCause>
+    requires { IsSound limits }
+{
+    let mut framer = Framer::new(alloc, limits);
+    match framer.feed(bytes) {
+        Err(FrameFault::Memory) => Some(RecordCause::Memory),
+        Err(fault) => Some(RecordCause::Frame(fault)),
+        Ok(fed) if fed.content.is_some() => None,
+        Ok(_) => match framer.finish() {
+            Ok(()) => None,
+            Err(_) => Some(RecordCause::Cut),
+        },
+    }
+}
+
+/// Adds the lines on a record that does not begin with a marker.
+fn add_bad_marker(
+    alloc: Global,
+    lines: &mut Lines,
+    number: u64,
+    bytes: &[u8],
+) -> Result<(), AllocError> {
+    let shown = Bytes(bytes);
+    lines.add(&format!(in alloc; "record {number} begins {shown}")?)?;
+    lines.add("a record begins with > (client) or < (adapter), and nothing is between two records")
+}
+
+/// Adds the lines on a record whose frame is not followed by LF.
+fn add_no_line_end(
+    alloc: Global,
+    lines: &mut Lines,
+    number: u64,
+    frame: &[u8],
+    limits: FrameLimits,
+) -> Result<(), AllocError>
+    requires { IsSound limits }
+{
+    let Some(used) = Framer::new(alloc, limits).frame_in(frame) else {
+        return Ok(());
+    };
+    let Some((whole, after)) = frame.split_at_checked(used) else {
+        return Ok(());
+    };
+    let shown = Bytes(after);
+    lines.add(&format!(in alloc;
+        "after the frame of record {number} comes {shown} instead of LF"
+    )?)?;
+    if after.starts_with(b"\r\n") {
+        lines.add("line ends were converted to CR LF: git needs -text in .gitattributes")
+    } else {
+        add_length(alloc, lines, frame, whole, after)
+    }
+}
+
+/// Adds a line if the content of a frame is JSON only with the bytes after it, to the end of the
+/// line.
+fn add_length(
+    alloc: Global,
+    lines: &mut Lines,
+    frame: &[u8],
+    whole: &[u8],
+    after: &[u8],
+) -> Result<(), AllocError> {
+    let Some(start) = header_len(whole) else {
+        return Ok(());
+    };
+    let end = whole.len().saturating_add(first_line(after).len());
+    let (Some(content), Some(text)) = (whole.get(start..), frame.get(start..end)) else {
+        return Ok(());
+    };
+    if read_value(alloc, content)?.is_some() || read_value(alloc, text)?.is_none() {
+        return Ok(());
+    }
+    let (len, text_len) = (content.len(), text.len());
+    lines.add(&format!(in alloc;
+        "Content-Length is {len}, and the JSON text there has {text_len} bytes"
+    )?)?;
+    lines.add("the sender may count characters: the length is that in bytes of UTF-8")
+}
+
+/// Adds the lines on a record that has not ended.
+fn add_cut(
+    alloc: Global,
+    lines: &mut Lines,
+    frame: BadFrame<'_>,
+    limits: FrameLimits,
+) -> Result<(), AllocError>
+    requires { IsSound limits }
+{
+    match Framer::new(alloc, limits).frame_in(frame.front) {
+        Some(_) => {
+            let name = frame.name;
+            lines.add(&format!(in alloc; "only the LF at the end of {name} is missing")?)?;
+            lines.add("an editor may have removed it")
+        }
+        None => explain_frame(alloc, lines, frame, FrameFault::Cut, limits),
+    }
+}
+
+/// Explains the fault of the first record of some bytes.
+fn explain_bytes(
+    alloc: Global,
+    lines: &mut Lines,
+    number: u64,
+    bytes: &[u8],
+    form: Form,
+    cause: RecordCause,
+    limits: FrameLimits,
+) -> Result<(), AllocError>
+    requires { IsSound limits }
+{
+    let frame = match (form, bytes) {
+        (Form::Recording, [_, frame @ ..]) => frame,
+        _ => bytes,
+    };
+    let name = format!(in alloc; "record {number}")?;
+    let bad = BadFrame {
+        name: name.as_str(),
+        front: frame,
+        len: frame.len(),
+    };
+    match cause {
+        RecordCause::BadMarker => add_bad_marker(alloc, lines, number, bytes),
+        RecordCause::Frame(fault) => explain_frame(alloc, lines, bad, fault, limits),
+        RecordCause::NoLineEnd => add_no_line_end(alloc, lines, number, frame, limits),
+        RecordCause::Cut => add_cut(alloc, lines, bad, limits),
+        RecordCause::Memory => Ok(()),
+    }
+}
+
+/// Explains that the bytes of a record are not a record, if they are so when the input is read in
+/// this form. Returns whether they are.
+fn explain_in_form(
+    alloc: Global,
+    lines: &mut Lines,
+    input: &[u8],
+    number: u64,
+    form: Form,
+    cause: RecordCause,
+    limits: FrameLimits,
+) -> Result<bool, AllocError>
+    requires { IsSound limits }
+{
+    let Some(bytes) = bytes_from(alloc, form, input, number, limits) else {
+        return Ok(false);
+    };
+    if !is_refused(alloc, form, bytes, cause, limits)? {
+        return Ok(false);
+    }
+    let expected = match form {
+        Form::Recording => Expected::Recording,
+        Form::Frames => Expected::Frames,
+    };
+    match likeness_of(input, expected) {
+        Some(likeness) if number == 1 => add_likeness(alloc, lines, input, likeness)?,
+        _ => explain_bytes(alloc, lines, number, bytes, form, cause, limits)?,
+    }
+    Ok(true)
+}
+
+/// Explains that the bytes of a record are not a record.
+pub(crate) fn explain_record(
+    alloc: Global,
+    lines: &mut Lines,
+    input: &[u8],
+    number: u64,
+    cause: RecordCause,
+    limits: FrameLimits,
+) -> Result<(), AllocError>
+    requires { IsSound limits }
+{
+    if !explain_in_form(alloc, lines, input, number, Form::Recording, cause, limits)? {
+        explain_in_form(alloc, lines, input, number, Form::Frames, cause, limits)?;
+    }
+    Ok(())
+}

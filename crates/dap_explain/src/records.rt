@@ -1,0 +1,161 @@
+//! The records of an input that is at hand as a whole, as parts of it.
+ghost use Rattle.std.specs.Prelude.{◌≤◌, length, IfSome};
+ghost use Rattle.dap_frame.specs.Limits.{IsSound};
+
+use crate::header::header_len;
+use dap_frame::{FrameLimits, Framer};
+use dap_tree::Side;
+use std::alloc::Global;
+
+/// What an input consists of.
+#[derive(Clone, Copy, PartialEq)]
+pub(crate) enum Form {
+    /// Records: a marker, a frame and LF each.
+    Recording,
+    /// Frames of one direction only, as `compact` reads them.
+    Frames,
+}
+
+impl Form {
+    /// The form that the first byte of an input shows.
+    pub(crate) fn of(input: &[u8]) -> Form {
+        match input {
+            [] | [b'>' | b'<', ..] => Form::Recording,
+            _ => Form::Frames,
+        }
+    }
+
+    /// Splits what is before the frame of a record from the bytes after it.
+    fn split_start(self, bytes: &[u8]) -> Option<(Option<Side>, &[u8])>
+        ensures { IfSome result (λ start. length start.1.now ≤ length bytes.now) }
+    {
+        match (self, bytes) {
+            (Form::Recording, [b'>', rest @ ..]) => Some((Some(Side::Client), rest)),
+            (Form::Recording, [b'<', rest @ ..]) => Some((Some(Side::Adapter), rest)),
+            (Form::Recording, _) => None,
+            (Form::Frames, _) => Some((None, bytes)),
+        }
+    }
+
+    /// The bytes after the end of a record whose frame is before these.
+    fn after_end(self, bytes: &[u8]) -> Option<&[u8]>
+        ensures { IfSome result (λ rest. length rest.now ≤ length bytes.now) }
+    {
+        match (self, bytes) {
+            (Form::Recording, [b'\n', rest @ ..]) => Some(rest),
+            (Form::Recording, _) => None,
+            (Form::Frames, _) => Some(bytes),
+        }
+    }
+}
+
+/// A record of an input.
+#[derive(Clone, Copy)]
+pub(crate) struct RecordPart<'a> {
+    /// Counted from 1.
+    pub(crate) number: u64,
+    /// `None` in frames of one direction.
+    pub(crate) side: Option<Side>,
+    pub(crate) content: &'a [u8],
+    /// The bytes after the record.
+    pub(crate) rest: &'a [u8],
+}
+
+/// The records of an input one by one, up to the first bytes that are not a record.
+#[derive(Drop)]
+pub(crate) struct RecordParts<'a> {
+    framer: Framer,
+    form: Form,
+    rest: &'a [u8],
+    number: u64,
+}
+
+impl<'a> RecordParts<'a> {
+    /// The records of an input. Does not allocate.
+    pub(crate) fn new(
+        alloc: Global,
+        form: Form,
+        input: &'a [u8],
+        limits: FrameLimits,
+    ) -> RecordParts<'a>
+        requires { IsSound limits }
+    {
+        RecordParts {
+            framer: Framer::new(alloc, limits),
+            form,
+            rest: input,
+            number: 1,
+        }
+    }
+}
+
+impl<'a> Iterator for RecordParts<'a> {
+    ghost use Rattle.std.specs.Iterator.{at_most};
+
+    type Item = RecordPart<'a>;
+
+    ghost remaining = { λ s. at_most (length s.rest.now) };
+
+    fn next(&mut self) -> Option<RecordPart<'a>> {
+        let (side, frame) = self.form.split_start(self.rest)?;
+        let used = self.framer.frame_in(frame)?;
+        if used == 0 {
+            return None;
+        }
+        let (frame, rest) = frame.split_at(used);
+        self.rest = self.form.after_end(rest)?;
+        let number = self.number;
+        self.number = number.saturating_add(1);
+        Some(RecordPart {
+            number,
+            side,
+            content: content_of(frame),
+            rest: self.rest,
+        })
+    }
+}
+
+/// The content of a whole frame.
+fn content_of(frame: &[u8]) -> &[u8] {
+    header_len(frame)
+        .and_then(|len| frame.get(len..))
+        .unwrap_or(&[])
+}
+
+/// Returns the record with this number, if the input has it.
+pub(crate) fn record_numbered<'a>(
+    alloc: Global,
+    input: &'a [u8],
+    number: u64,
+    limits: FrameLimits,
+) -> Option<RecordPart<'a>>
+    requires { IsSound limits }
+{
+    for record in RecordParts::new(alloc, Form::of(input), input, limits) {
+        if record.number == number {
+            return Some(record);
+        }
+    }
+    None
+}
+
+/// Returns the bytes from the record with this number on, if the records before it are there.
+pub(crate) fn bytes_from<'a>(
+    alloc: Global,
+    form: Form,
+    input: &'a [u8],
+    number: u64,
+    limits: FrameLimits,
+) -> Option<&'a [u8]>
+    requires { IsSound limits }
+{
+    if number == 1 {
+        return Some(input);
+    }
+    for record in RecordParts::new(alloc, form, input, limits) {
+        if record.number.saturating_add(1) == number {
+            return Some(record.rest);
+        }
+    }
+    None
+}

@@ -1,0 +1,163 @@
+//! Refused files of rules, explained.
+ghost use Rattle.std.specs.Prelude.{IfOk, string_bytes};
+ghost use Rattle.dap_explain.specs.Lines.{AreLines};
+
+use crate::lines::Lines;
+use crate::rules_line::{is_end, place_of};
+use crate::shown::{Bytes, Cut};
+use dap_mask::{MaskRules, RulesCause, RulesFault};
+use std::alloc::{AllocError, Global};
+use std::str;
+
+/// The line with this number of a file, counted from 1, without its LF.
+fn line_of(rules: &[u8], number: usize) -> &[u8] {
+    rules
+        .split(|byte| *byte == b'\n')
+        .nth(number.saturating_sub(1))
+        .unwrap_or(&[])
+}
+
+/// Adds a line as it is in the file.
+fn add_line(
+    alloc: Global,
+    lines: &mut Lines,
+    number: usize,
+    line: &[u8],
+) -> Result<(), AllocError> {
+    match str::from_utf8(line) {
+        Ok(text) => {
+            let text = Cut(text.trim());
+            lines.add(&format!(in alloc; "line {number} is: {text}")?)
+        }
+        Err(error) => {
+            let valid = error.valid_up_to();
+            let rest = Bytes(line.get(valid..).unwrap_or(&[]));
+            lines.add(&format!(in alloc; "line {number} is not UTF-8 after {valid} bytes: {rest}")?)
+        }
+    }
+}
+
+/// Adds the line on a line that is not a rule.
+fn add_bad_rule(alloc: Global, lines: &mut Lines, line: &[u8]) -> Result<(), AllocError> {
+    match place_of(line) {
+        Err(fault) => lines.add(&format!(in alloc; "{fault}")?),
+        Ok(_) => lines.add("a rule is VERB KIND NAME PLACE, or drop event NAME"),
+    }
+}
+
+/// Adds the lines on a rule with a place that no rule changes.
+fn add_bad_place(lines: &mut Lines, line: &[u8]) -> Result<(), AllocError> {
+    lines.add(match place_of(line) {
+        Ok(b"type" | b"command" | b"event" | b"success") => {
+            "no rule changes the member by which dapnorm recognises messages: leave the rule out"
+        }
+        Ok(place) if !place.contains(&b'"') => {
+            "normalise renames the id that is there, so no rule changes it: leave the rule out"
+        }
+        _ => "an id is there, or a member by which dapnorm recognises messages: leave the rule out",
+    })
+}
+
+/// Returns the number of the first line before this one after which it is refused for this cause.
+fn earlier_line(
+    alloc: Global,
+    rules: &[u8],
+    number: usize,
+    cause: RulesCause,
+) -> Result<Option<usize>, AllocError> {
+    let line = line_of(rules, number);
+    for (index, earlier) in rules.split(|byte| *byte == b'\n').enumerate() {
+        let earlier_number = index.saturating_add(1);
+        if earlier_number >= number {
+            break;
+        }
+        if !is_end(earlier) && is_refused_after(alloc, earlier, line, cause)? {
+            return Ok(Some(earlier_number));
+        }
+    }
+    Ok(None)
+}
+
+/// Whether a line is refused for this cause after another line.
+fn is_refused_after(
+    alloc: Global,
+    earlier: &[u8],
+    line: &[u8],
+    cause: RulesCause,
+) -> Result<bool, AllocError> {
+    let mut both = Vec::from_slice(alloc, earlier)?;
+    both.push(b'\n')?;
+    both.extend_from_slice(line)?;
+    match MaskRules::read(alloc, both.as_slice()) {
+        Ok(_) => Ok(false),
+        Err(fault) if fault.cause == RulesCause::Memory => Err(AllocError),
+        Err(fault) => Ok(fault.line == 2 && fault.cause == cause),
+    }
+}
+
+/// Adds the line that says which earlier line has the same rule, or the rule that comes too early.
+fn add_earlier(
+    alloc: Global,
+    lines: &mut Lines,
+    rules: &[u8],
+    fault: RulesFault,
+    what: &str,
+) -> Result<(), AllocError> {
+    match earlier_line(alloc, rules, fault.line, fault.cause)? {
+        Some(number) => lines.add(&format!(in alloc; "line {number} has {what}")?),
+        None => Ok(()),
+    }
+}
+
+/// Adds the lines on why a line is refused.
+fn add_cause(
+    alloc: Global,
+    lines: &mut Lines,
+    rules: &[u8],
+    fault: RulesFault,
+) -> Result<(), AllocError> {
+    match fault.cause {
+        RulesCause::BadRule => add_bad_rule(alloc, lines, line_of(rules, fault.line)),
+        RulesCause::TooMany => {
+            lines.add("a file has at most 1000 rules: join some by * in the place of a name")
+        }
+        RulesCause::BadPlace => add_bad_place(lines, line_of(rules, fault.line)),
+        RulesCause::Repeated => {
+            add_earlier(alloc, lines, rules, fault, "the same rule")?;
+            lines.add("leave one of them out")
+        }
+        RulesCause::DigitsBehindHex => {
+            add_earlier(alloc, lines, rules, fault, "a hex rule for the same place")?;
+            lines.add("write the digits rule before the hex rule")
+        }
+        RulesCause::NotUtf8 => lines.add("save the file as UTF-8"),
+        RulesCause::TooLong | RulesCause::Memory => Ok(()),
+    }
+}
+
+/// Explains why a file of rules is refused: the line, what is wrong with it, and what may be there.
+///
+/// `rules` is the file that was refused, and `fault` its refusal. The text is empty after `Memory`.
+///
+/// # Errors
+///
+/// `AllocError`: an allocation failed.
+pub fn explain_rules(alloc: Global, rules: &[u8], fault: RulesFault) -> Result<String, AllocError>
+    ensures { IfOk result (λ text. ∥ AreLines (string_bytes text) ∥₁) }
+{
+    let mut lines = Lines::new(alloc);
+    match fault.cause {
+        RulesCause::Memory => {}
+        RulesCause::TooLong => {
+            let len = rules.len();
+            lines.add(&format!(in alloc;
+                "the file has {len} bytes; a file of rules has at most 65536"
+            )?)?;
+        }
+        _ => {
+            add_line(alloc, &mut lines, fault.line, line_of(rules, fault.line))?;
+            add_cause(alloc, &mut lines, rules, fault)?;
+        }
+    }
+    Ok(lines.into_text())
+}

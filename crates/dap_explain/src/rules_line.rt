@@ -1,0 +1,225 @@
+//! What is wrong with a line of a file of rules that is not a rule.
+use crate::shown::Bytes;
+use std::fmt;
+
+/// What is wrong with a line that is not a rule, with the bytes of it that are wrong.
+#[derive(Clone, Copy)]
+pub(crate) enum LineFault<'l> {
+    Verb(&'l [u8]),
+    NoKind,
+    Kind(&'l [u8]),
+    NoName,
+    Name(&'l [u8]),
+    /// The rule leaves out messages that are not events.
+    Dropped(&'l [u8]),
+    NoPlace,
+    Place(&'l [u8]),
+    /// After the rule comes more.
+    More(&'l [u8]),
+}
+
+impl fmt::Display for LineFault<'_> {
+    fn fmt<W: fmt::Write>(&self, f: &mut fmt::Formatter<W>) -> fmt::Result {
+        let (bytes, words) = match *self {
+            LineFault::Verb(word) => (word, "is not a verb: write blank, digits, hex or drop"),
+            LineFault::NoKind => {
+                return f.write_str("after the verb comes a kind: request, response or event");
+            }
+            LineFault::Kind(word) => (word, "is not a kind: write request, response or event"),
+            LineFault::NoName => {
+                return f.write_str("after the kind comes a command or an event, or * for any");
+            }
+            LineFault::Name(word) => {
+                (
+                    word,
+                    "is not a name: write letters, digits, _, - and $, or a JSON string",
+                )
+            }
+            LineFault::Dropped(word) => (word, "cannot be dropped: write drop event NAME"),
+            LineFault::NoPlace => {
+                return f.write_str("after the name comes a place, such as body.reason");
+            }
+            LineFault::Place(word) => {
+                (
+                    word,
+                    "is not a place: write names with dots between them, and [] for elements",
+                )
+            }
+            LineFault::More(word) => (word, "is after the rule: only a comment may be there"),
+        };
+        let bytes = Bytes(bytes);
+        write!(f, "{bytes} {words}")
+    }
+}
+
+/// A class of bytes.
+#[derive(Clone, Copy)]
+enum ByteClass {
+    /// Spaces, tabs, and the CR of a line end.
+    Blank,
+    /// What a name without quotes has: letters, digits, `_`, `-` and `$`.
+    Plain,
+    /// All bytes that are not blank.
+    Word,
+}
+
+impl ByteClass {
+    fn has(self, byte: u8) -> bool {
+        match self {
+            ByteClass::Blank => matches!(byte, b' ' | b'\t' | b'\r'),
+            ByteClass::Plain => {
+                byte.is_ascii_alphanumeric() || matches!(byte, b'_' | b'-' | b'$')
+            }
+            ByteClass::Word => !matches!(byte, b' ' | b'\t' | b'\r'),
+        }
+    }
+}
+
+/// Splits bytes before the first that is not of a class.
+fn split_run(bytes: &[u8], class: ByteClass) -> (&[u8], &[u8]) {
+    for (index, byte) in bytes.iter().enumerate() {
+        if !class.has(*byte) {
+            return bytes.split_at(index);
+        }
+    }
+    (bytes, &[])
+}
+
+/// The bytes after the blanks that these begin with.
+fn after_blanks(bytes: &[u8]) -> &[u8] {
+    split_run(bytes, ByteClass::Blank).1
+}
+
+/// The bytes up to the first blank.
+fn first_word(bytes: &[u8]) -> &[u8] {
+    split_run(bytes, ByteClass::Word).0
+}
+
+/// Whether nothing comes but blanks and a comment.
+pub(crate) fn is_end(bytes: &[u8]) -> bool {
+    matches!(after_blanks(bytes), [] | [b'#', ..])
+}
+
+/// The bytes after the name of a member; `None` if there is no name.
+fn after_member(bytes: &[u8]) -> Option<&[u8]> {
+    match bytes {
+        [b'"', inside @ ..] => after_quote(inside),
+        _ => match split_run(bytes, ByteClass::Plain) {
+            ([], _) => None,
+            (_, rest) => Some(rest),
+        },
+    }
+}
+
+/// The bytes after the quote that closes a string; `None` if there is none.
+fn after_quote(inside: &[u8]) -> Option<&[u8]> {
+    let mut is_escaped = false;
+    for (index, byte) in inside.iter().enumerate() {
+        if *byte == b'"' && !is_escaped {
+            return Some(&inside[index + 1..]);
+        }
+        is_escaped = *byte == b'\\' && !is_escaped;
+    }
+    None
+}
+
+/// The bytes after the name of a message, which may be `*`; `None` if there is no name.
+fn after_name(bytes: &[u8]) -> Option<&[u8]> {
+    match bytes {
+        [b'*', rest @ ..] => Some(rest),
+        _ => after_member(bytes),
+    }
+}
+
+/// The bytes after a place; `None` if there is no place.
+fn after_place(bytes: &[u8]) -> Option<&[u8]> {
+    let mut rest = after_member(bytes)?;
+    // A place has no more steps than its text has bytes.
+    for _ in 0..bytes.len() {
+        match after_step(rest) {
+            Some(next) => rest = next,
+            None => break,
+        }
+    }
+    Some(rest)
+}
+
+/// The bytes after a further step of a place; `None` if there is no further step.
+fn after_step(bytes: &[u8]) -> Option<&[u8]> {
+    match bytes {
+        [b'.', rest @ ..] => after_member(rest),
+        [b'[', b']', rest @ ..] => Some(rest),
+        _ => None,
+    }
+}
+
+/// Returns the place of a rule, which is empty if it drops messages; or what is wrong with a line
+/// that is not a rule, if it is recognised.
+pub(crate) fn place_of(line: &[u8]) -> Result<&[u8], LineFault<'_>> {
+    let (verb, rest) = split_run(after_blanks(line), ByteClass::Word);
+    let is_drop = verb == b"drop".as_slice();
+    if !is_drop && !is_change(verb) {
+        return Err(LineFault::Verb(verb));
+    }
+    if is_end(rest) {
+        return Err(LineFault::NoKind);
+    }
+    let (kind, rest) = split_run(after_blanks(rest), ByteClass::Word);
+    if !is_kind(kind) {
+        return Err(LineFault::Kind(kind));
+    }
+    if is_drop && kind != b"event".as_slice() {
+        return Err(LineFault::Dropped(kind));
+    }
+    place_after_kind(after_blanks(rest), is_drop)
+}
+
+/// Whether a word is the verb of a rule that changes values.
+fn is_change(word: &[u8]) -> bool {
+    word == b"blank".as_slice() || word == b"digits".as_slice() || word == b"hex".as_slice()
+}
+
+/// Whether a word is a kind of message.
+fn is_kind(word: &[u8]) -> bool {
+    word == b"request".as_slice() || word == b"response".as_slice() || word == b"event".as_slice()
+}
+
+/// Returns the place of a rule after its kind, or what is wrong there.
+fn place_after_kind(text: &[u8], is_drop: bool) -> Result<&[u8], LineFault<'_>> {
+    if is_end(text) {
+        return Err(LineFault::NoName);
+    }
+    let Some(rest) = after_name(text) else {
+        return Err(LineFault::Name(first_word(text)));
+    };
+    if is_end(rest) {
+        return if is_drop {
+            Ok(&[])
+        } else {
+            Err(LineFault::NoPlace)
+        };
+    }
+    let place = after_blanks(rest);
+    if place.len() == rest.len() {
+        return Err(LineFault::Name(first_word(text)));
+    }
+    if is_drop {
+        return Err(LineFault::More(place));
+    }
+    place_at(place)
+}
+
+/// Returns the place of a rule, or what is wrong with it or after it.
+fn place_at(text: &[u8]) -> Result<&[u8], LineFault<'_>> {
+    let Some(rest) = after_place(text) else {
+        return Err(LineFault::Place(first_word(text)));
+    };
+    let more = after_blanks(rest);
+    if is_end(rest) {
+        Ok(&text[..text.len().saturating_sub(rest.len())])
+    } else if more.len() == rest.len() {
+        Err(LineFault::Place(first_word(text)))
+    } else {
+        Err(LineFault::More(more))
+    }
+}

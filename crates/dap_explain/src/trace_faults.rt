@@ -1,0 +1,185 @@
+//! Bytes that are not a piece of a trace, and faulty frames in its pieces.
+ghost use Rattle.std.specs.Prelude.{◌≡◌};
+ghost use Rattle.dap_frame.specs.Limits.{IsSound};
+
+use crate::frame_faults::{BadFrame, explain_frame};
+use crate::likeness::{Expected, add_likeness, count_of, first_line, likeness_of, number_of};
+use crate::lines::Lines;
+use crate::pieces::{PieceParts, bytes_from};
+use crate::shown::Bytes;
+use dap_frame::{FrameFault, FrameLimits, Framer};
+use dap_recording::{RecorderFault, TraceCause, TraceReader};
+use dap_tree::Side;
+use std::alloc::{AllocError, Global};
+
+/// Whether the first piece of some bytes is refused for this cause.
+fn is_refused(bytes: &[u8], cause: TraceCause) -> bool {
+    let mut reader = TraceReader::new();
+    let found = match reader.feed(bytes) {
+        Err(fault) => Some(fault.cause),
+        Ok(_) => reader.finish().err().map(|fault| fault.cause),
+    };
+    found == Some(cause)
+}
+
+/// Adds the lines on a piece that does not begin as a piece does.
+fn add_bad_piece(
+    alloc: Global,
+    lines: &mut Lines,
+    number: u64,
+    bytes: &[u8],
+) -> Result<(), AllocError> {
+    let shown = Bytes(bytes);
+    lines.add(&format!(in alloc; "piece {number} begins {shown}")?)?;
+    lines.add("a piece begins with > or <, its length in decimal digits without leading 0, and LF")
+}
+
+/// Adds the line on a piece that has not ended.
+fn add_cut(alloc: Global, lines: &mut Lines, number: u64, bytes: &[u8]) -> Result<(), AllocError> {
+    let behind = match bytes {
+        [_, behind @ ..] => behind,
+        [] => bytes,
+    };
+    let Some(digits) = count_of(behind) else {
+        let shown = Bytes(bytes);
+        return lines.add(&format!(in alloc;
+            "the trace ends in the count of piece {number}: {shown}"
+        )?);
+    };
+    let count = number_of(digits);
+    let came = behind
+        .len()
+        .saturating_sub(first_line(behind).len())
+        .saturating_sub(1);
+    let missing = count.saturating_sub(came as u64);
+    lines.add(&format!(in alloc;
+        "piece {number} has {count} bytes, and {missing} of them are missing"
+    )?)
+}
+
+/// Explains that the bytes of a piece are not a piece of a trace.
+pub(crate) fn explain_piece(
+    alloc: Global,
+    lines: &mut Lines,
+    trace: &[u8],
+    number: u64,
+    cause: TraceCause,
+) -> Result<(), AllocError> {
+    let bytes = match bytes_from(trace, number) {
+        Some(bytes) if is_refused(bytes, cause) => bytes,
+        _ => return Ok(()),
+    };
+    match likeness_of(trace, Expected::Trace) {
+        Some(likeness) if number == 1 => return add_likeness(alloc, lines, trace, likeness),
+        _ => {}
+    }
+    match cause {
+        TraceCause::BadMarker => {
+            add_bad_piece(alloc, lines, number, bytes)?;
+            if number > 1 {
+                lines.add("the count of the piece before it may be wrong: it counts bytes")?;
+            }
+            Ok(())
+        }
+        TraceCause::BadCount => {
+            add_bad_piece(alloc, lines, number, bytes)?;
+            if first_line(bytes).ends_with(b"\r") {
+                lines.add("line ends may have been converted: git needs -text in .gitattributes")?;
+            }
+            Ok(())
+        }
+        TraceCause::Cut => add_cut(alloc, lines, number, bytes),
+    }
+}
+
+/// The last frame of a side, as its pieces come.
+#[derive(Drop)]
+struct LastFrame {
+    framer: Framer,
+    /// How many of its first bytes are kept.
+    limit: usize,
+    front: Vec<u8>,
+    len: usize,
+}
+
+impl LastFrame {
+    /// Takes bytes of the frame, or of the frames after it.
+    fn take(&mut self, piece: &[u8]) -> Result<(), AllocError> {
+        let mut rest = piece;
+        'frames: while !rest.is_empty() {
+            match self.framer.feed(rest) {
+                Ok(fed) if fed.content.is_some() => {
+                    self.front.clear();
+                    self.len = 0;
+                    rest = &rest[fed.used..];
+                }
+                Err(FrameFault::Memory) => return Err(AllocError),
+                Ok(_) | Err(_) => return self.keep(rest),
+            }
+        }
+        Ok(())
+    }
+
+    /// Keeps bytes of the frame.
+    fn keep(&mut self, bytes: &[u8]) -> Result<(), AllocError> {
+        let room = self.limit.saturating_sub(self.front.len());
+        self.front
+            .extend_from_slice(bytes.get(..room).unwrap_or(bytes))?;
+        self.len = self.len.saturating_add(bytes.len());
+        Ok(())
+    }
+}
+
+/// Returns the frame that a side sends in the piece with this number.
+fn frame_in_piece(
+    alloc: Global,
+    trace: &[u8],
+    number: u64,
+    side: Side,
+    limits: FrameLimits,
+) -> Result<LastFrame, AllocError>
+    requires { IsSound limits }
+{
+    let mut frame = LastFrame {
+        framer: Framer::new(alloc, limits),
+        limit: limits.header,
+        front: Vec::new(alloc),
+        len: 0,
+    };
+    for piece in PieceParts::new(trace) {
+        if piece.part.piece > number {
+            break;
+        }
+        if piece.part.side == side {
+            frame.take(piece.part.bytes)?;
+        }
+    }
+    Ok(frame)
+}
+
+/// Explains that a frame of a side is faulty in the piece with this number, or has not ended.
+pub(crate) fn explain_recorder(
+    alloc: Global,
+    lines: &mut Lines,
+    trace: &[u8],
+    number: u64,
+    fault: RecorderFault,
+    limits: FrameLimits,
+) -> Result<(), AllocError>
+    requires { IsSound limits }
+{
+    let RecorderFault::Frame(side, fault) = fault else {
+        return Ok(());
+    };
+    let frame = frame_in_piece(alloc, trace, number, side, limits)?;
+    let name = format!(in alloc; "the frame of the {side}")?;
+    let bad = BadFrame {
+        name: name.as_str(),
+        front: frame.front.as_slice(),
+        len: frame.len,
+    };
+    match frame.framer.finish() {
+        Err(found) if found == fault => explain_frame(alloc, lines, bad, fault, limits),
+        _ => Ok(()),
+    }
+}
