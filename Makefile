@@ -5,7 +5,7 @@
 # make try        a first look, unproved: two runs of one session normalised
 # make bench      speed and memory; SIZE=small takes seconds, FIGURES=FOLDER also writes the figures there as JSON
 # make dist       the sources of the last commit, their proof pack and a Debian package, in dist/
-# make install    puts program, man page and completions under DESTDIR and PREFIX; make uninstall removes them
+# make install    puts program, man page, completions, guides and examples under DESTDIR and PREFIX; make uninstall removes them
 
 PREFIX ?= /usr/local
 PROGRAM ?= bin/dapnorm
@@ -19,6 +19,13 @@ AS_MANUAL := share/man/man1/dapnorm.1
 AS_BASH := share/bash-completion/completions/dapnorm
 AS_ZSH := share/zsh/site-functions/_dapnorm
 AS_FISH := share/fish/vendor_completions.d/dapnorm.fish
+# The guides and the examples keep their folders below this one, so that their links work there.
+AS_SHARED := share/dapnorm
+GUIDES := $(addprefix docs/,$(addsuffix .md,FAULTS FORMATS GLOSSARY NORMAL-FORM PROFILE TUTORIAL))
+EXAMPLES := examples/README.md examples/program.py examples/session.rules $(sort $(wildcard examples/masks/*.mask))
+RECIPES := $(addprefix examples/,golden_test.py trace_tee.py trace_proxy.py from_debugpy_log.py from_lldb_log.py)
+SHELL_RECIPES := $(addprefix examples/,golden.sh ci.sh git_setup.sh)
+SHARED := $(GUIDES) $(EXAMPLES) $(RECIPES) $(SHELL_RECIPES)
 SHELL := bash
 .SHELLFLAGS := -o pipefail -c
 
@@ -92,16 +99,20 @@ bench: need-python $(PROGRAM) bin/reading_alone
 
 # PROGRAM may name a program that is built already. The folders of completions are those that the shells look into.
 install: $(PROGRAM)
-	@echo "Puts the program, its man page and its completions below $(DESTDIR)$(PREFIX): at once."
+	@echo "Puts the program, its man page, completions, guides and examples below $(DESTDIR)$(PREFIX): at once."
 	install -D -m 755 "$(PROGRAM)" "$(BELOW)/$(AS_PROGRAM)"
 	install -D -m 644 docs/dapnorm.1 "$(BELOW)/$(AS_MANUAL)"
 	install -D -m 644 completions/dapnorm.bash "$(BELOW)/$(AS_BASH)"
 	install -D -m 644 completions/_dapnorm "$(BELOW)/$(AS_ZSH)"
 	install -D -m 644 completions/dapnorm.fish "$(BELOW)/$(AS_FISH)"
+	@for it in $(filter-out $(SHELL_RECIPES),$(SHARED)); do install -D -m 644 "$$it" "$(BELOW)/$(AS_SHARED)/$$it" || exit; done
+	@for it in $(SHELL_RECIPES); do install -D -m 755 "$$it" "$(BELOW)/$(AS_SHARED)/$$it" || exit; done
 
 uninstall:
 	@echo "Removes the files that make install put below $(DESTDIR)$(PREFIX)."
 	rm -f "$(BELOW)/$(AS_PROGRAM)" "$(BELOW)/$(AS_MANUAL)" "$(BELOW)/$(AS_BASH)" "$(BELOW)/$(AS_ZSH)" "$(BELOW)/$(AS_FISH)"
+	@for it in $(SHARED); do rm -f "$(BELOW)/$(AS_SHARED)/$$it" || exit; done
+	@for it in /examples/masks /examples /docs ""; do rmdir "$(BELOW)/$(AS_SHARED)$$it" 2> /dev/null || true; done
 
 # The packages are made of the last commit, so the program has to be built of it too.
 need-commit:

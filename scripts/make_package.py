@@ -26,6 +26,8 @@ TOOLS = ("git", "make", "tar", "strip", "dpkg-deb")
 CRATE, PACKED = "dapnorm_main", "dapnorm.proofs"
 # Where Debian's zsh looks for completions of packages.
 PLACES = ["PREFIX=/usr", "AS_ZSH=share/zsh/vendor-completions/_dapnorm"]
+# Where the package has its README, and where `make install` puts the guides and examples that it leads to.
+DOCUMENTS, SHARED = "usr/share/doc/dapnorm", "usr/share/dapnorm"
 # Debian asks for programs without the names of their functions.
 STRIP = ["strip", "--strip-unneeded", "--remove-section=.comment"]
 COMMENT = """The program has code of the Rattle toolchain in it: of its standard library, of
@@ -136,6 +138,18 @@ def files(stage):
     return sorted(os.path.relpath(path, stage) for path in found)
 
 
+def packed_readme(tree, stage):
+    """The README, whose links lead to the files in the package. A link to a file that is not there leaves its words."""
+    def followed(link):
+        words, target, rest = link.groups()
+        there = os.path.join(SHARED, target)
+        if not os.path.exists(os.path.join(stage, there)):
+            return words
+        return f"[{words}]({os.path.relpath(there, DOCUMENTS)}{rest})"
+
+    return re.sub(r"\[([^\]]*)\]\((?!https?:|#)([^)#]+)([^)]*)\)", followed, read(tree, "README.md"))
+
+
 def package(tree, program, date, stage):
     """Fills the folder to be packed: by `make install`, and with what Debian asks for beside it."""
     words = ["make", "-C", tree, "install", f"PROGRAM={program}", f"DESTDIR={stage}", *PLACES]
@@ -146,8 +160,8 @@ def package(tree, program, date, stage):
     manual = os.path.join(stage, "usr", "share", "man", "man1", "dapnorm.1")
     write(compressed(read(manual)), manual + ".gz")
     os.remove(manual)
-    documents = os.path.join(stage, "usr", "share", "doc", "dapnorm")
-    write(read(tree, "README.md").encode(), documents, "README.md")
+    documents = os.path.join(stage, DOCUMENTS)
+    write(packed_readme(tree, stage).encode(), documents, "README.md")
     write(copyright_file(tree).encode(), documents, "copyright")
     write(compressed(read(tree, "CHANGELOG.md")), documents, "changelog.gz")
     write(compressed(changelog(tree, date)), documents, "changelog.Debian.gz")

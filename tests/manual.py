@@ -1,5 +1,6 @@
 """Checks that the man page and the completions name each command, option and status, that the completions work in the shells that are
 installed, and what `make install` and `make uninstall` do."""
+import glob
 import os
 import pty
 import re
@@ -17,6 +18,11 @@ COMPLETIONS = {shell: os.path.join(TOP, "completions", name) for shell, name in 
 INSTALLED = {
     "bin/dapnorm": 0o755, "share/man/man1/dapnorm.1": 0o644, "share/bash-completion/completions/dapnorm": 0o644,
     "share/zsh/site-functions/_dapnorm": 0o644, "share/fish/vendor_completions.d/dapnorm.fish": 0o644,
+    **{f"share/dapnorm/docs/{it}.md": 0o644 for it in ("FAULTS", "FORMATS", "GLOSSARY", "NORMAL-FORM", "PROFILE", "TUTORIAL")},
+    **{f"share/dapnorm/examples/{it}": 0o644 for it in ("README.md", "program.py", "session.rules", "golden_test.py")},
+    **{f"share/dapnorm/examples/{it}.py": 0o644 for it in ("trace_tee", "trace_proxy", "from_debugpy_log", "from_lldb_log")},
+    **{f"share/dapnorm/examples/{it}.sh": 0o755 for it in ("golden", "ci", "git_setup")},
+    **{f"share/dapnorm/examples/masks/{it}.mask": 0o644 for it in ("debugpy", "delve", "lldb", "rdbg")},
 }
 
 
@@ -133,6 +139,13 @@ def below(folder):
     return {os.path.relpath(os.path.join(at, name), folder): os.stat(os.path.join(at, name)).st_mode & 0o777 for at, _, names in os.walk(folder) for name in names}
 
 
+def links(report, folder):
+    """Each link of an installed document leads to an installed file."""
+    for path in sorted(glob.glob(os.path.join(folder, "**", "*.md"), recursive=True)):
+        for target in re.findall(r"\]\((?!https?:|#)([^)#]+)", read(path)):
+            report.check(f"the installed {os.path.basename(path)} leads to {target}", os.path.exists(os.path.join(os.path.dirname(path), target)))
+
+
 def install(report):
     """Into a folder of its own, with a file in the place of the program, so that nothing is built."""
     with tempfile.TemporaryDirectory() as folder:
@@ -143,12 +156,14 @@ def install(report):
         ran = made(["install", *words])
         prefix = os.path.join(staged, "opt", "dapnorm")
         report.check("make install ends well", ran.returncode == 0, ran.stderr)
-        report.check("it installs program, man page and completions", below(staged) == {f"opt/dapnorm/{it}": mode for it, mode in INSTALLED.items()}, repr(below(staged)))
+        report.check("it installs the program and what belongs to it", below(staged) == {f"opt/dapnorm/{it}": mode for it, mode in INSTALLED.items()}, repr(below(staged)))
+        links(report, os.path.join(prefix, "share", "dapnorm"))
         with open(os.path.join(prefix, "other"), "w", encoding="utf-8"):
             pass
         ran = made(["uninstall", *words])
         report.check("make uninstall ends well", ran.returncode == 0, ran.stderr)
         report.check("it removes these alone", list(below(staged)) == ["opt/dapnorm/other"], repr(below(staged)))
+        report.check("it removes the folder of the guides and examples", not os.path.exists(os.path.join(prefix, "share", "dapnorm")))
         report.check("make uninstall again ends well", made(["uninstall", *words]).returncode == 0)
 
 

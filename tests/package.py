@@ -140,6 +140,12 @@ def contents(report, root, tree, folder):
     for name in there:
         if name.endswith(".gz"):
             there[name] = (gzip.decompress(there[name][0]), there[name][1])
+    readme = packed["usr/share/doc/dapnorm/README.md"][0].decode()
+    targets = re.findall(r"\]\((?!https?:|#)([^)#]+)", readme)
+    for target in targets:
+        led = os.path.normpath(os.path.join("usr/share/doc/dapnorm", target))
+        report.check(f"the README of the package leads to {target}", os.path.exists(os.path.join(root, led)))
+    report.check("it leads to the guide to faults", "../../dapnorm/docs/FAULTS.md" in targets)
     same = there == installed
     report.check("its other files are those of make install", same, repr(sorted(there)))
     log = gzip.decompress(packed["usr/share/doc/dapnorm/changelog.gz"][0])
