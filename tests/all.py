@@ -71,6 +71,7 @@ def main():
             ("golden files", "golden.py"),
             ("inputs and outputs in files", "files.py"),
             ("explanations of refusals", "explaining.py"),
+            ("the commands that documents show", "shown_commands.py"),
             ("the lines of refusals", "refusals.py"),
             ("calls of the driver", "driver.py"),
             ("the engine check", "engine_check.py"),
