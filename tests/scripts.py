@@ -356,7 +356,7 @@ def tables(report):
     scripts = {os.path.basename(path) for path in glob.glob(os.path.join(TOP, "scripts", "*.py"))}
     for path in sorted(glob.glob(os.path.join(TOP, "tests", "*.py"))):
         name = os.path.basename(path)
-        if name not in NOT_TESTS and "__main__" in read(path):
+        if name not in NOT_TESTS and 'if __name__ == "__main__":' in read(path):
             report.check(f"tests/all.py runs tests/{name}", f'"{name}"' in listed)
     for kind, there, table in (("script", scripts, SCRIPTS), ("target", targets(), TARGETS)):
         report.check(f"there are {kind}s", len(there) > 5, repr(there))
