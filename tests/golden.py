@@ -88,7 +88,11 @@ def sessions(report):
                 report.check(f"it is the normal form of {name}, {form}", folder.read("g") == text)
                 report.check(f"{name}, {form}, is held to it", folder.run("golden", *words, "g", "session") == (*SAME, b""))
                 report.check(f"{name}, {form}, from standard input", folder.run("golden", *words, "g", given=content) == (*SAME, b""))
+                before = os.stat(folder.at("g"))
                 report.check(f"{name}, {form}, changes nothing", folder.run("golden", *words, "--update", "g", "-", given=content) == (*UNCHANGED, b""))
+                after = os.stat(folder.at("g"))
+                kept = (after.st_ino, after.st_mtime_ns) == (before.st_ino, before.st_mtime_ns)
+                report.check(f"{name}, {form}, does not write its golden file again", kept)
                 report.check(f"no other file is left by {name}, {form}", folder.names() == ["g", "session"])
         if any(is_open):
             with Folder(session=given, g=b"old") as folder:
