@@ -24,6 +24,44 @@ REFUSED = [
     # One line feed too many.
     (b"\n" * 65_537, "line 65537: TooLong"),
     (b"blank event process body.id x", "line 1: BadRule"),
+    (b"swap", "line 1: BadRule"),
+    (b"swap # response * request *", "line 1: BadRule"),
+    (b"swaps response * request *", "line 1: BadRule"),
+    (b"swap response", "line 1: BadRule"),
+    (b"swap response *", "line 1: BadRule"),
+    (b"swap response * # request *", "line 1: BadRule"),
+    (b"swap response * request", "line 1: BadRule"),
+    (b"drop event output\nswap response * request * event\n", "line 2: BadRule"),
+    (b"swap response * request * body.id", "line 1: BadRule"),
+    (b"swap reply * request *", "line 1: BadRule"),
+    (b"swap response * command *", "line 1: BadRule"),
+    (b"swap response *request *", "line 1: BadRule"),
+    (b'swap event "a"event b', "line 1: BadRule"),
+    (b'swap event a event "b', "line 1: BadRule"),
+    (b"swap event ** event b", "line 1: BadRule"),
+    (b"swap response * request *\nswap response * request *\n", "line 2: Repeated"),
+    (b"swap response * request *\n\nswap request * response *\n", "line 3: Repeated"),
+    (b'swap event exited event a\nswap event "\\u0061" event exited # again\n', "line 2: Repeated"),
+    (b"swap event a event b\nswap event a event c\nswap event a event a\nswap event a event a\n", "line 4: Repeated"),
+]
+
+# Lines of rules for the order, all of one file, which is accepted.
+SWAPS = [
+    b"swap response * request *",
+    b"  swap\tresponse  continue   event stopped \r",
+    b'swap event "a b" response "\\u0063ontinue"# a comment',
+    b"swap event exited event terminated # a comment",
+    b"swap event * event *",
+    # A name in quotes is never any name.
+    b'swap response "*" request *',
+    b'swap response * request "*"',
+    # Each of these differs from an earlier line in one kind or one name.
+    b"swap event exited event exited",
+    b"swap event exited response terminated",
+    b"swap request exited event terminated",
+    b"swap event exited event *",
+    b"swap event terminated event terminated",
+    b"swap event " + b"n" * 30_000 + b" event " + b"m" * 30_000,
 ]
 
 RULES = b"""# lldb-dap
@@ -89,6 +127,19 @@ def masks(report, name, rules, given, written, why=None):
     asks_of_files(report, name, ["mask", "rules"], {"rules": rules}, given, wanted)
 
 
+def with_swaps(rules):
+    """The rules with a rule for the order after each line, and the others of these at the end."""
+    lines = rules.splitlines(keepends=True)
+    swaps = [swap + b"\n" for swap in SWAPS]
+    assert len(lines) <= len(swaps)
+    return b"".join(line + swap for line, swap in zip(lines, swaps)) + b"".join(swaps[len(lines):])
+
+
+def accepted_swaps(report):
+    for number, swap in enumerate(SWAPS, 1):
+        masks(report, f"accepted rules for the order, row {number}", swap, OUTPUT, record('<{"event":"output","type":"event"}'))
+
+
 def refused_rules(report):
     for number, (rules, why) in enumerate(REFUSED, 1):
         masks(report, f"refused rules, row {number}", rules, b"nothing is read of this", b"", f"rules: {why}")
@@ -98,6 +149,13 @@ def a_thousand_rules(report):
     rules = [b"drop event e%d\n" % number for number in range(1001)]
     masks(report, "a thousand rules", b"".join(rules[:1000]), b"", b"")
     masks(report, "one rule more", b"".join(rules), b"", b"", "rules: line 1001: TooMany")
+    swaps = [b"swap event e%d event f%d\n" % (number, number) for number in range(1001)]
+    masks(report, "a thousand rules for the order", b"".join(swaps[:1000]), b"", b"")
+    masks(report, "one rule for the order more", b"".join(swaps), b"", b"", "rules: line 1001: TooMany")
+    both = b"".join(rules[:500] + swaps[:500])
+    masks(report, "a thousand rules of two sorts", both, b"", b"")
+    masks(report, "one rule to drop more", both + rules[500], b"", b"", "rules: line 1001: TooMany")
+    masks(report, "one repeated rule for the order more", both + swaps[0], b"", b"", "rules: line 1001: TooMany")
 
 
 def masked_contents(report):
@@ -109,12 +167,14 @@ def masked_contents(report):
     whole = b"".join(record("<" + content) for content, _ in MASKED)
     written = b"".join(record("<" + text) for _, text in MASKED if text is not None)
     masks(report, "all masked contents, one after the other", RULES, whole, written)
+    masks(report, "the same with rules for the order", with_swaps(RULES), whole, written)
 
 
 def masked_recordings(report):
     for number, (given, written, why) in enumerate(RECORDINGS, 1):
         masks(report, f"masked recordings, row {number}", RULES, given, written, why)
+        masks(report, f"masked recordings with rules for the order, row {number}", with_swaps(RULES), given, written, why)
 
 
 if __name__ == "__main__":
-    sys.exit(judged(refused_rules, a_thousand_rules, masked_contents, masked_recordings))
+    sys.exit(judged(refused_rules, accepted_swaps, a_thousand_rules, masked_contents, masked_recordings))

@@ -1,8 +1,9 @@
 -- The mask that a `MaskRules` is.
 use Rattle.std.specs.Prelude.{List, ℕ, Option}
-use Rattle.dap_mask.specs.ListedRules.{listed_changes, listed_dropped, listed_mask}
+use Rattle.dap_mask.specs.ListedRules.{listed_changes, listed_dropped, listed_swaps, listed_mask}
 use Rattle.dap_mask.specs.Mask.{Mask}
 use Rattle.dap_mask.specs.Rules.{Rule}
+use Rattle.dap_mask.specs.Swaps.{SwapRule}
 use Rattle.dap_mask.specs.declared.mask_rules.MaskRules.{MaskRules}
 
 abbrev pub changes_of : MaskRules → List Rule
@@ -10,6 +11,9 @@ changes_of r = listed_changes r.list
 
 abbrev pub dropped_of : MaskRules → List (Option (List ℕ))
 dropped_of r = listed_dropped r.list
+
+abbrev pub swaps_of_mask : MaskRules → List SwapRule
+swaps_of_mask r = listed_swaps r.list
 
 abbrev pub mask_of : MaskRules → Mask
 mask_of r = listed_mask r.list

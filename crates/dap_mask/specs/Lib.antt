@@ -1,5 +1,6 @@
 pub mod Texts
 pub mod Rules
+pub mod Swaps
 pub mod Mask
 pub mod Masked
 pub mod Ids

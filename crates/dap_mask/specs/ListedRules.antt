@@ -2,6 +2,7 @@
 use Rattle.std.specs.Prelude.{List, map, ℕ, Option, option_map, string_bytes}
 use Rattle.dap_mask.specs.Mask.{Mask}
 use Rattle.dap_mask.specs.Rules.{Rule, rules_of}
+use Rattle.dap_mask.specs.Swaps.{SwapRule, swaps_of}
 use Rattle.dap_mask.specs.declared.rule_list.RuleList.{RuleList}
 
 abbrev pub listed_changes : RuleList → List Rule
@@ -10,5 +11,12 @@ listed_changes r = rules_of r.changes.items
 abbrev pub listed_dropped : RuleList → List (Option (List ℕ))
 listed_dropped r = map (option_map string_bytes) r.dropped.items
 
+abbrev pub listed_swaps : RuleList → List SwapRule
+listed_swaps r = swaps_of r.swaps.items
+
 abbrev pub listed_mask : RuleList → Mask
-listed_mask r = record { changes = listed_changes r; dropped = listed_dropped r }
+listed_mask r = record {
+  changes = listed_changes r;
+  dropped = listed_dropped r;
+  swaps = listed_swaps r;
+}

@@ -8,9 +8,10 @@ use Rattle.serde_json.specs.Read.{read}
 use Rattle.dap_profile.specs.PlaceSteps.{PlaceStep, named, each}
 use Rattle.dap_profile.specs.declared.profile.Kind.{Kind}
 use Rattle.dap_profile.specs.declared.profile.Kind.TheVariants.{Request, Response, Event}
-use Rattle.dap_mask.specs.Mask.{Statement, change, leave_out, Line, nothing, rule, bad}
+use Rattle.dap_mask.specs.Mask.{Statement, change, leave_out, swap, Line, nothing, rule, bad}
 use Rattle.dap_mask.specs.Rules.{same_kind}
 use Rattle.dap_mask.specs.Runs.{is_plain, front, behind, closing, gap, is_end, is_blank}
+use Rattle.dap_mask.specs.Swaps.{Half}
 use Rattle.dap_mask.specs.declared.rules.Verb.{Verb}
 use Rattle.dap_mask.specs.declared.rules.Verb.TheVariants.{Blank, Digits, Hex}
 
@@ -126,10 +127,23 @@ abbrev pub leave_out_at : List ℕ → Option Statement
 leave_out_at s = option_and_then (λ h. cond (same_kind h.0 Event && is_end h.2)
     (Some (leave_out h.1)) None) (head_at s)
 
+-- One half of a rule for the order, which the text begins with, and the rest of the text.
+abbrev pub half_at : List ℕ → Option (Half × List ℕ)
+half_at s = option_map (λ h. (record { kind = h.0; name = h.1 }, h.2)) (head_at s)
+
+-- The rule for the order with this first half, if the line ends after the second half.
+abbrev pub swap_with : Half → Half × List ℕ → Option Statement
+swap_with one h = cond (is_end h.1) (Some (swap (record { one = one; another = h.0 }))) None
+
+-- The rule for the order whose two halves the text begins with, if the line ends after them.
+abbrev pub swap_at : List ℕ → Option Statement
+swap_at s = option_and_then (λ h. option_and_then (swap_with h.0) (half_at h.1)) (half_at s)
+
 abbrev pub statement_at : List ℕ → Option Statement
-statement_at s = cond (bytes_eq (front is_plain s) (codes "drop"))
-    (leave_out_at (behind is_plain s)) (option_and_then (λ v. change_at v (behind is_plain s))
-    (verb_named (front is_plain s)))
+statement_at s =
+    cond (bytes_eq (front is_plain s) (codes "drop")) (leave_out_at (behind is_plain s))
+    (cond (bytes_eq (front is_plain s) (codes "swap")) (swap_at (behind is_plain s))
+    (option_and_then (λ v. change_at v (behind is_plain s)) (verb_named (front is_plain s))))
 
 abbrev pub told : Option Statement → Line
 told None = bad

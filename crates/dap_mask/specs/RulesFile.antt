@@ -4,10 +4,11 @@ use Rattle.std.specs.Prelude.{length, take, Option, Some, None, Result, Ok, Err,
 use Rattle.std.specs.Str.{is_utf8}
 use Rattle.dap_mask.specs.Ids.{takes_profile_id}
 use Rattle.dap_mask.specs.Mask.{Mask, no_rules, rule_count, with_rule, Statement, change, leave_out}
-use Rattle.dap_mask.specs.Mask.{Line, nothing, rule, bad}
+use Rattle.dap_mask.specs.Mask.{swap, Line, nothing, rule, bad}
 use Rattle.dap_mask.specs.RuleText.{line_said}
 use Rattle.dap_mask.specs.Rules.{Rule, is_among, is_clashed_with, is_telling_place, same_name}
 use Rattle.dap_mask.specs.Runs.{lines_of}
+use Rattle.dap_mask.specs.Swaps.{is_swap_among}
 use Rattle.dap_mask.specs.declared.fault.RulesCause.{RulesCause}
 use Rattle.dap_mask.specs.declared.fault.RulesCause.TheVariants.{TooLong, NotUtf8, BadRule, TooMany}
 use Rattle.dap_mask.specs.declared.fault.RulesCause.TheVariants.{BadPlace, Repeated}
@@ -30,6 +31,7 @@ change_cause rs r =
 abbrev pub cause_of : Mask → Statement → Option RulesCause
 cause_of m (change r) = change_cause m.changes r
 cause_of m (leave_out n) = cond (is_name_among n m.dropped) (Some Repeated) None
+cause_of m (swap s) = cond (is_swap_among s m.swaps) (Some Repeated) None
 
 -- Why it may not: none, if it may. A mask has at most a thousand rules.
 abbrev pub cause_against : Mask → Statement → Option RulesCause

@@ -23,7 +23,8 @@ pub enum RulesCause {
     /// message itself, or its `type`, `command`, `event` or `success`.
     #[error("BadPlace")]
     BadPlace,
-    /// The same rule stands before it.
+    /// The same rule stands before it. If the halves of a rule for the order are exchanged, it is
+    /// still the same rule.
     #[error("Repeated")]
     Repeated,
     /// Before this rule for digits stands one for hexadecimal numbers at the same place of messages

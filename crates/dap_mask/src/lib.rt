@@ -1,7 +1,8 @@
 //! Masks: rules that take away of messages what changes from run to run.
 //!
 //! [`MaskRules::read`] reads the rules of a file, and [`mask`] blanks the values of a message at
-//! their places. `specs/` says what that means, and [`laws`] has the theorems.
+//! their places. `specs/` says what that means, and [`laws`] has the theorems. The file may also
+//! have rules for the order of messages, [`MaskRules::swaps`], which masking does not use.
 #![tactic(auto)]
 
 mod fault;
@@ -18,6 +19,7 @@ mod rule_list;
 mod rules;
 mod runs;
 mod statement;
+mod swaps;
 mod texts;
 
 pub use fault::{RulesCause, RulesFault};
@@ -25,3 +27,4 @@ pub use loose::read_masked;
 pub use mask_rules::MaskRules;
 pub use masking::{is_dropped, mask};
 pub use rules::{MaskRule, Step, Verb};
+pub use swaps::{Half, SwapRule};

@@ -9,6 +9,7 @@ use crate::fault::{RulesCause, RulesFault};
 use crate::index::KindRules;
 use crate::rule_list::RuleList;
 use crate::rules::MaskRule;
+use crate::swaps::SwapRule;
 use dap_message::Kind;
 use std::alloc::{AllocError, Global};
 
@@ -30,9 +31,11 @@ pub struct MaskRules {
 impl MaskRules {
     ghost use Rattle.dap_mask.specs.Index.{positions};
     ghost use Rattle.dap_mask.specs.KeptRules.{mask_of, changes_of, dropped_of};
+    ghost use Rattle.dap_mask.specs.KeptRules.{swaps_of_mask};
     ghost use Rattle.dap_mask.specs.ListedRules.{listed_mask};
     ghost use Rattle.dap_mask.specs.Rules.{rules_of};
     ghost use Rattle.dap_mask.specs.RulesFile.{rules_said};
+    ghost use Rattle.dap_mask.specs.Swaps.{swaps_of};
 
     /// Reads the rules of a file.
     ///
@@ -79,6 +82,13 @@ impl MaskRules {
         ensures { map (option_map string_bytes) result.now ≡ dropped_of self.now }
     {
         self.list.dropped()
+    }
+
+    /// The rules for the order, in the order of the file. Masking does not use them.
+    pub fn swaps(&self) -> &[SwapRule]
+        ensures { swaps_of result.now ≡ swaps_of_mask self.now }
+    {
+        self.list.swaps()
     }
 
     /// The changes that may speak of messages of this kind and name, by their places among all, in

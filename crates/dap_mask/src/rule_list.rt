@@ -1,6 +1,6 @@
 //! The rules of a mask in the order of their file, read from it.
 ghost use Rattle.std.specs.Prelude.{◌≡◌, ◌≢◌, ◌≤◌, true, None, Ok, Err, map, option_map};
-ghost use Rattle.std.specs.Prelude.{IfOk, IfErr, OnOk, length, string_bytes};
+ghost use Rattle.std.specs.Prelude.{IfOk, IfErr, OnOk, length, string_bytes, ◌+◌, vec_len};
 ghost use Rattle.std.specs.Str.{is_utf8};
 ghost use Rattle.dap_mask.specs.Ids.{leave_ids};
 ghost use Rattle.dap_mask.specs.Rules.{rule_of, rules_of, are_safe, are_settled};
@@ -12,6 +12,7 @@ use crate::profile_ids::takes_profile_id;
 use crate::rules::MaskRule;
 use crate::runs::{ByteClass, split_run};
 use crate::statement::{Line, Statement, read_line};
+use crate::swaps::{SwapRule, is_swap_among};
 use std::alloc::{AllocError, Global};
 use std::str;
 
@@ -21,7 +22,7 @@ const MAX_BYTES: usize = 65_536;
 /// How many rules a mask may have.
 const MAX_RULES: usize = 1_000;
 
-/// The rules of a mask in the order of their file.
+/// The rules of a mask in the order of their file, at most `MAX_RULES`.
 ///
 /// None of them changes a member by which a message is told, or a number that the profile renames;
 /// and what is masked by them, masked again, is what it was.
@@ -29,6 +30,8 @@ const MAX_RULES: usize = 1_000;
 pub(crate) struct RuleList {
     changes: Vec<MaskRule>,
     dropped: Vec<Option<String>>,
+    swaps: Vec<SwapRule>,
+    ghost few: { vec_len changes + vec_len dropped + vec_len swaps ≤ 1000 },
     ghost safe: { are_safe (rules_of changes.items) ≡ true },
     ghost settled: { are_settled (rules_of changes.items) ≡ true },
     ghost leave: { leave_ids (rules_of changes.items) ≡ true },
@@ -36,9 +39,11 @@ pub(crate) struct RuleList {
 
 impl RuleList {
     ghost use Rattle.dap_mask.specs.ListedRules.{listed_mask, listed_changes, listed_dropped};
+    ghost use Rattle.dap_mask.specs.ListedRules.{listed_swaps};
     ghost use Rattle.dap_mask.specs.Mask.{no_rules, with_rule, statement_of};
     ghost use Rattle.dap_mask.specs.RulesFile.{cause_against, line_outcome, rules_from, rules_said};
     ghost use Rattle.dap_mask.specs.Runs.{lines_of};
+    ghost use Rattle.dap_mask.specs.Swaps.{swaps_of};
 
     /// Reads the rules of a file.
     ///
@@ -67,6 +72,7 @@ impl RuleList {
         RuleList {
             changes: Vec::new(alloc),
             dropped: Vec::new(alloc),
+            swaps: Vec::new(alloc),
         }
     }
 
@@ -82,6 +88,13 @@ impl RuleList {
         ensures { map (option_map string_bytes) result.now ≡ listed_dropped self.now }
     {
         self.dropped.as_slice()
+    }
+
+    /// The rules for the order, in the order of the file.
+    pub(crate) fn swaps(&self) -> &[SwapRule]
+        ensures { swaps_of result.now ≡ listed_swaps self.now }
+    {
+        self.swaps.as_slice()
     }
 
     fn take_lines(&mut self, alloc: Global, text: &[u8]) -> Result<(), RulesFault>
@@ -137,13 +150,20 @@ impl RuleList {
     fn cause_against(&self, statement: &Statement) -> Option<RulesCause>
         ensures { result ≡ cause_against (listed_mask self.now) (statement_of statement.now) }
     {
-        if self.changes.len() + self.dropped.len() >= MAX_RULES {
+        if self.changes.len() + self.dropped.len() + self.swaps.len() >= MAX_RULES {
             return Some(RulesCause::TooMany);
         }
         match statement {
             Statement::Change(rule) => change_cause(&self.changes, rule),
             Statement::LeaveOut(name) => {
                 if is_name_among(name, &self.dropped) {
+                    Some(RulesCause::Repeated)
+                } else {
+                    None
+                }
+            }
+            Statement::Swap(swap) => {
+                if is_swap_among(swap, &self.swaps) {
                     Some(RulesCause::Repeated)
                 } else {
                     None
@@ -160,6 +180,7 @@ impl RuleList {
         match statement {
             Statement::Change(rule) => self.changes.push(rule)?,
             Statement::LeaveOut(name) => self.dropped.push(name)?,
+            Statement::Swap(swap) => self.swaps.push(swap)?,
         }
         Ok(())
     }

@@ -2,13 +2,15 @@
 ghost use Rattle.std.specs.Prelude.{◌≡◌, IfOk, option_map, string_bytes};
 ghost use Rattle.dap_mask.specs.Mask.{statement_of, line_of};
 ghost use Rattle.dap_mask.specs.RuleText.{verb_named, kind_named, head_at, change_at, leave_out_at};
-ghost use Rattle.dap_mask.specs.RuleText.{statement_at, line_said};
+ghost use Rattle.dap_mask.specs.RuleText.{half_at, swap_at, statement_at, line_said};
+ghost use Rattle.dap_mask.specs.Swaps.{half_of};
 
 use crate::meets::same_kind;
 use crate::names::any_name;
 use crate::places::place_at;
 use crate::rules::{MaskRule, Verb};
 use crate::runs::{ByteClass, gap, is_end, split_run};
+use crate::swaps::{Half, SwapRule};
 use dap_message::Kind;
 use std::alloc::{AllocError, Global};
 
@@ -19,6 +21,8 @@ pub(crate) enum Statement {
     Change(MaskRule),
     /// Events of this name are left out; all of them, if `None`.
     LeaveOut(Option<String>),
+    /// Two neighbouring messages may change places.
+    Swap(SwapRule),
 }
 
 /// What a line says.
@@ -50,6 +54,9 @@ fn statement_at(alloc: Global, text: &[u8]) -> Result<Option<Statement>, AllocEr
     let (word, rest) = split_run(text, ByteClass::Plain);
     if word == b"drop".as_slice() {
         return leave_out_at(alloc, rest);
+    }
+    if word == b"swap".as_slice() {
+        return swap_at(alloc, rest);
     }
     match verb_named(word) {
         Some(verb) => change_at(alloc, verb, rest),
@@ -137,6 +144,33 @@ fn leave_out_at(alloc: Global, text: &[u8]) -> Result<Option<Statement>, AllocEr
     };
     if same_kind(kind, Kind::Event) && is_end(text) {
         Ok(Some(Statement::LeaveOut(name)))
+    } else {
+        Ok(None)
+    }
+}
+
+// Returns one half of a rule for the order, which the text begins with, and the rest of the text.
+fn half_at(alloc: Global, text: &[u8]) -> Result<Option<(Half, &[u8])>, AllocError>
+    ensures { IfOk result
+        (λ o. option_map (λ h. (half_of h.0, h.1.now)) o ≡ half_at text.now) }
+{
+    match head_at(alloc, text)? {
+        Some((kind, name, rest)) => Ok(Some((Half { kind, name }, rest))),
+        None => Ok(None),
+    }
+}
+
+fn swap_at(alloc: Global, text: &[u8]) -> Result<Option<Statement>, AllocError>
+    ensures { IfOk result (λ o. option_map statement_of o ≡ swap_at text.now) }
+{
+    let Some((one, text)) = half_at(alloc, text)? else {
+        return Ok(None);
+    };
+    let Some((another, text)) = half_at(alloc, text)? else {
+        return Ok(None);
+    };
+    if is_end(text) {
+        Ok(Some(Statement::Swap(SwapRule { one, another })))
     } else {
         Ok(None)
     }

@@ -1,4 +1,5 @@
-use Rattle.std.proofs.Common.{◌∙◌, sym, ap}
+use Rattle.std.proofs.Common.{◌∙◌, sym, ap, arith}
+use Rattle.std.proofs.lemmas.Grind.{common_steps}
 use Rattle.std.specs.Result.{is_ok}
 use Rattle.dap_mask.specs.Ids.{leave_ids}
 use Rattle.dap_mask.specs.ListedRules.{listed_mask, listed_changes}
@@ -20,6 +21,7 @@ invariant_of-self c =
     ∙ c.requires) in
     let ok = is_ok c.push.result in
     record {
+      few = grind (arith, common_steps);
       safe = pushed_keeps ok old.changes.items c.in-Change.rule c.push.new.self.items
           c.push.ensures.items are_safe old.safe (safe_more rules rule old.safe may.safe);
       settled = pushed_keeps ok old.changes.items c.in-Change.rule c.push.new.self.items

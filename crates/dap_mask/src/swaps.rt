@@ -1,0 +1,48 @@
+//! Rules for the order of messages.
+ghost use Rattle.std.specs.Prelude.{◌≡◌};
+ghost use Rattle.dap_mask.specs.Swaps.{half_of, swap_of, swaps_of, same_half, same_swap};
+ghost use Rattle.dap_mask.specs.Swaps.{is_swap_among};
+
+use crate::meets::{same_kind, same_name, text_of};
+use dap_message::Kind;
+
+/// One half of a rule for the order: the messages of one kind and one name.
+#[derive(Drop)]
+pub struct Half {
+    pub kind: Kind,
+    /// The command or event of the messages; any, if `None`.
+    pub name: Option<String>,
+}
+
+/// A rule for the order: two neighbouring messages may change places if one of them fits one half
+/// and the other fits the other half. The rule is symmetric.
+#[derive(Drop)]
+pub struct SwapRule {
+    pub one: Half,
+    pub another: Half,
+}
+
+fn same_half(half: &Half, other: &Half) -> bool
+    ensures { result ≡ same_half (half_of half.now) (half_of other.now) }
+{
+    same_kind(half.kind, other.kind) && same_name(text_of(&half.name), text_of(&other.name))
+}
+
+fn same_swap(swap: &SwapRule, other: &SwapRule) -> bool
+    ensures { result ≡ same_swap (swap_of swap.now) (swap_of other.now) }
+{
+    (same_half(&swap.one, &other.one) && same_half(&swap.another, &other.another))
+        || (same_half(&swap.one, &other.another) && same_half(&swap.another, &other.one))
+}
+
+/// Returns whether one of the rules is the same as this rule, perhaps with its halves exchanged.
+pub(crate) fn is_swap_among(swap: &SwapRule, swaps: &[SwapRule]) -> bool
+    ensures { result ≡ is_swap_among (swap_of swap.now) (swaps_of swaps.now) }
+{
+    for other in swaps {
+        if same_swap(swap, other) {
+            return true;
+        }
+    }
+    false
+}
