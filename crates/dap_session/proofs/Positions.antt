@@ -41,7 +41,7 @@ use Rattle.dap_session.proofs.Sides.{other_other}
 
 -- ---- one message
 
-same_kind-Decides : (s r : Kind) → Decides (same_kind s r) (s ≡ r)
+pub same_kind-Decides : (s r : Kind) → Decides (same_kind s r) (s ≡ r)
 same_kind-Decides Request Request = (λ h. refl, λ h. refl)
 same_kind-Decides Request Response = (λ h. absurd (cc), λ h. absurd (cc))
 same_kind-Decides Request Event = (λ h. absurd (cc), λ h. absurd (cc))
@@ -52,33 +52,33 @@ same_kind-Decides Event Request = (λ h. absurd (cc), λ h. absurd (cc))
 same_kind-Decides Event Response = (λ h. absurd (cc), λ h. absurd (cc))
 same_kind-Decides Event Event = (λ h. refl, λ h. refl)
 
-from : (side : Side) (m : Sent) → Decides (is_from side m) (IsFrom side m)
+pub from : (side : Side) (m : Sent) → Decides (is_from side m) (IsFrom side m)
 from side m = same_side_decides side (side_of m)
 
-request : (m : Sent) → Decides (is_request m) (IsRequest m)
+pub request : (m : Sent) → Decides (is_request m) (IsRequest m)
 request m = same_kind-Decides Request (kind_of m)
 
-response : (m : Sent) → Decides (is_response m) (IsResponse m)
+pub response : (m : Sent) → Decides (is_response m) (IsResponse m)
 response m = same_kind-Decides Response (kind_of m)
 
 event : (m : Sent) → Decides (is_event m) (IsEvent m)
 event m = same_kind-Decides Event (kind_of m)
 
-named : (name : List ℕ) (m : Sent) → Decides (is_named name m) (IsNamed name m)
+pub named : (name : List ℕ) (m : Sent) → Decides (is_named name m) (IsNamed name m)
 named name m = bytes_eq-Decides (name_of m) name
 
 initialize : (m : Sent) → Decides (is_initialize m) (IsInitialize m)
 initialize m = Decides-and _ _ (request m) (named (codes "initialize") m)
 
-client_initialize : (m : Sent) → Decides (is_client_initialize m) (IsClientInitialize m)
+pub client_initialize : (m : Sent) → Decides (is_client_initialize m) (IsClientInitialize m)
 client_initialize m = Decides-and _ _ (from Client m) (initialize m)
 
-configuration_done : (m : Sent) → Decides (is_configuration_done m) (IsConfigurationDone m)
+pub configuration_done : (m : Sent) → Decides (is_configuration_done m) (IsConfigurationDone m)
 configuration_done m =
     Decides-and _ _ (Decides-and _ _ (from Client m) (request m))
     (named (codes "configurationDone") m)
 
-initialized : (m : Sent) → Decides (is_initialized m) (IsInitialized m)
+pub initialized : (m : Sent) → Decides (is_initialized m) (IsInitialized m)
 initialized m = Decides-and _ _ (event m) (named (codes "initialized") m)
 
 yes_is : (o : Option Bool) → Decides (is_yes o) (o ≡ Some true)
@@ -86,7 +86,7 @@ yes_is None = (λ h. absurd (cc), λ h. absurd (cc))
 yes_is (Some true) = (λ h. refl, λ h. refl)
 yes_is (Some false) = (λ h. absurd (cc), λ h. cc)
 
-farewell : (m : Sent) → Decides (is_farewell m) (IsFarewell m)
+pub farewell : (m : Sent) → Decides (is_farewell m) (IsFarewell m)
 farewell m =
     Decides-and _ _
     (Decides-and _ _ (Decides-and _ _ (from Adapter m) (response m)) (named (codes "disconnect") m))
@@ -219,7 +219,7 @@ initializing before rest =
 
 -- ---- the rules
 
-response_of : (side : Side) (n : ℤ) (m : Sent)
+pub response_of : (side : Side) (n : ℤ) (m : Sent)
     → Decides (is_response_to (other side) n m) (IsResponseOf side n m)
 response_of side n m =
     subst (λ (s : Side). Decides (is_response_to (other side) n m) (IsResponseOf s n m))
@@ -280,7 +280,7 @@ by_position OtherCommand before after m =
 
 -- ---- the first of them
 
-output : (m : Sent) → Decides (is_output m) (IsOutput m)
+pub output : (m : Sent) → Decides (is_output m) (IsOutput m)
 output m = Decides-and _ _ (Decides-and _ _ (from Adapter m) (event m)) (named (codes "output") m)
 
 -- by places of the list

@@ -31,10 +31,10 @@ use Rattle.dap_session.proofs.KeptAfter.{tally, count-cons}
 use Rattle.dap_session.proofs.Sides.{from_side, other_other}
 use Rattle.dap_session.proofs.SessionSteps.{first_same}
 
-and_same : (a b c d : Bool) → a ≡ b → c ≡ d → (a && c) ≡ (b && d)
+pub and_same : (a b c d : Bool) → a ≡ b → c ≡ d → (a && c) ≡ (b && d)
 and_same a b c d e f = ap (λ x. x && c) e ∙ ap (λ y. b && y) f
 
-or_same : (a b c d : Bool) → a ≡ b → c ≡ d → (a || c) ≡ (b || d)
+pub or_same : (a b c d : Bool) → a ≡ b → c ≡ d → (a || c) ≡ (b || d)
 or_same a b c d e f = ap (λ x. x || c) e ∙ ap (λ y. b || y) f
 
 -- the second parts need be equal only where the first ones hold
@@ -76,14 +76,14 @@ module _ {X : Type 0} (P : X → X → Type 0) where
 -- ---- the rules
 
 module _ (R : Sort → ℤ → ℤ → Type 0) (one : IsOneToOne R) where
-  int_same : (side : Side) (x y u v : ℤ) → R (seq_sort side) x u → R (seq_sort side) y v
+  pub int_same : (side : Side) (x y u v : ℤ) → R (seq_sort side) x u → R (seq_sort side) y v
       → int_eq x y ≡ int_eq u v
   int_same side x y u v h k =
       let w = one side x y u v h k in
       same_from_decides (int_eq x y) (int_eq u v) (Decides-int_eq x y)
       (Decides-like (int_eq u v) w.1 w.0 (Decides-int_eq u v))
 
-  number_is_same : (side : Side) (o p : Option ℤ) (x y : ℤ) → NumbersTied R (seq_sort side) o p
+  pub number_is_same : (side : Side) (o p : Option ℤ) (x y : ℤ) → NumbersTied R (seq_sort side) o p
       → R (seq_sort side) x y → is_number o x ≡ is_number p y
   number_is_same side None None x y h k = refl
   number_is_same side None (Some v) x y h k = absurd h
@@ -122,46 +122,46 @@ module _ (R : Sort → ℤ → ℤ → Type 0) (one : IsOneToOne R) where
 
   -- ---- one message
 
-  request_same : (a b : Sent) → Alike R a b → is_request a ≡ is_request b
+  pub request_same : (a b : Sent) → Alike R a b → is_request a ≡ is_request b
   request_same a b t = ap (same_kind Request) t.kind
 
-  response_same : (a b : Sent) → Alike R a b → is_response a ≡ is_response b
+  pub response_same : (a b : Sent) → Alike R a b → is_response a ≡ is_response b
   response_same a b t = ap (same_kind Response) t.kind
 
-  event_same : (a b : Sent) → Alike R a b → is_event a ≡ is_event b
+  pub event_same : (a b : Sent) → Alike R a b → is_event a ≡ is_event b
   event_same a b t = ap (same_kind Event) t.kind
 
-  from_same : (side : Side) (a b : Sent) → Alike R a b → is_from side a ≡ is_from side b
+  pub from_same : (side : Side) (a b : Sent) → Alike R a b → is_from side a ≡ is_from side b
   from_same side a b t = ap (same_side side) t.side
 
-  named_same : (name : List ℕ) (a b : Sent) → Alike R a b → is_named name a ≡ is_named name b
+  pub named_same : (name : List ℕ) (a b : Sent) → Alike R a b → is_named name a ≡ is_named name b
   named_same name a b t = ap (λ w. bytes_eq w name) t.name
 
   initialize_same : (a b : Sent) → Alike R a b → is_initialize a ≡ is_initialize b
   initialize_same a b t =
       and_same _ _ _ _ (request_same a b t) (named_same (codes "initialize") a b t)
 
-  client_initialize_same : (a b : Sent) → Alike R a b
+  pub client_initialize_same : (a b : Sent) → Alike R a b
       → is_client_initialize a ≡ is_client_initialize b
   client_initialize_same a b t = and_same _ _ _ _ (from_same Client a b t) (initialize_same a b t)
 
-  configuration_done_same : (a b : Sent) → Alike R a b
+  pub configuration_done_same : (a b : Sent) → Alike R a b
       → is_configuration_done a ≡ is_configuration_done b
   configuration_done_same a b t =
       and_same _ _ _ _ (and_same _ _ _ _ (from_same Client a b t) (request_same a b t))
       (named_same (codes "configurationDone") a b t)
 
-  initialized_same : (a b : Sent) → Alike R a b → is_initialized a ≡ is_initialized b
+  pub initialized_same : (a b : Sent) → Alike R a b → is_initialized a ≡ is_initialized b
   initialized_same a b t =
       and_same _ _ _ _ (event_same a b t) (named_same (codes "initialized") a b t)
 
-  farewell_same : (a b : Sent) → Alike R a b → is_farewell a ≡ is_farewell b
+  pub farewell_same : (a b : Sent) → Alike R a b → is_farewell a ≡ is_farewell b
   farewell_same a b t =
       and_same _ _ _ _
       (and_same _ _ _ _ (and_same _ _ _ _ (from_same Adapter a b t) (response_same a b t))
       (named_same (codes "disconnect") a b t)) (ap is_yes t.success)
 
-  output_same : (a b : Sent) → Alike R a b → is_output a ≡ is_output b
+  pub output_same : (a b : Sent) → Alike R a b → is_output a ≡ is_output b
   output_same a b t =
       and_same _ _ _ _ (and_same _ _ _ _ (from_same Adapter a b t) (event_same a b t))
       (named_same (codes "output") a b t)
@@ -198,7 +198,7 @@ module _ (R : Sort → ℤ → ℤ → Type 0) (one : IsOneToOne R) where
   request_of_both side across x y a b e h t =
       subst (λ s. is_request_of side x a ≡ is_request_of s y b) e (request_of_same side x y a b h t)
 
-  response_to_both : (side across : Side) (x y : ℤ) (a b : Sent) → side ≡ across
+  pub response_to_both : (side across : Side) (x y : ℤ) (a b : Sent) → side ≡ across
       → R (seq_sort side) x y → Alike R a b → is_response_to side x a ≡ is_response_to across y b
   response_to_both side across x y a b e h t =
       subst (λ s. is_response_to side x a

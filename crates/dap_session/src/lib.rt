@@ -5,9 +5,9 @@
 //! theorems.
 #![tactic(auto)]
 
-mod envelope;
+pub mod envelope;
 pub mod laws;
-mod message;
+pub mod message;
 mod phase;
 mod requests;
 mod rule;

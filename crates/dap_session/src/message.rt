@@ -33,7 +33,8 @@ pub fn side_of(message: &Envelope<'_>) -> Side
     message.side
 }
 
-fn kind_of(message: &Envelope<'_>) -> Kind
+/// What sort of message it is.
+pub fn kind_of(message: &Envelope<'_>) -> Kind
     ensures { result ≡ words.kind_of (message_of message.now) }
 {
     message.kind

@@ -1,0 +1,12 @@
+pub mod Swaps
+pub mod Order
+pub mod Least
+pub mod Barriers
+pub mod Labels
+pub mod Classes
+pub mod Answering
+pub mod Answers
+pub mod Alike
+pub mod AlikeAnswers
+pub mod ByPlace
+pub mod Laws

@@ -1,0 +1,31 @@
+//! Theorems on lists up to swaps and on their order. Each function does nothing: a call of it gives
+//! its clauses to a proof.
+ghost use Rattle.dap_order.specs.Swaps.{AreSwaps};
+ghost use Rattle.dap_order.specs.Laws.{OrderIsReordered, OrderIsOrdered, OneOrder, OrderedStays};
+ghost use Rattle.dap_order.specs.Laws.{OrderIsItsOwn, OneOrdered, ItemsStay, PlacesStay};
+ghost use Rattle.dap_order.specs.Laws.{OrderOfMap, OrderBegins, OrderParts};
+
+use crate::order::SwapOrder;
+
+/// The order of a list is in order, and it is the only list in order that swaps lead to.
+pub fn one_order<T, S: SwapOrder<T>>()
+    ensures reordered { (by : S) → AreSwaps (S.swaps by) → OrderIsReordered (S.swaps by) }
+    ensures in_order { (by : S) → AreSwaps (S.swaps by) → OrderIsOrdered (S.swaps by) }
+    ensures one { (by : S) → AreSwaps (S.swaps by) → OneOrder (S.swaps by) }
+    ensures stays { (by : S) → AreSwaps (S.swaps by) → OrderedStays (S.swaps by) }
+    ensures its_own { (by : S) → AreSwaps (S.swaps by) → OrderIsItsOwn (S.swaps by) }
+    ensures only { (by : S) → AreSwaps (S.swaps by) → OneOrdered (S.swaps by) }
+    ensures begins { (by : S) → AreSwaps (S.swaps by) → OrderBegins (S.swaps by) }
+    ensures parts { (by : S) → AreSwaps (S.swaps by) → OrderParts (S.swaps by) }
+{}
+
+/// Swaps keep the items, and the sequence of those of which no two are free with each other.
+pub fn swaps_keep<T, S: SwapOrder<T>>()
+    ensures items { (by : S) → ItemsStay (S.swaps by) }
+    ensures places { (by : S) → PlacesStay (S.swaps by) }
+{}
+
+/// A map that keeps freeness and the order of keys may be applied before or after the ordering.
+pub fn order_of_map<T, U, S: SwapOrder<T>, R: SwapOrder<U>>()
+    ensures { (by : S) (other : R) → OrderOfMap (S.swaps by) (R.swaps other) }
+{}

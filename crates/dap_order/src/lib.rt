@@ -1,0 +1,10 @@
+//! Lists up to swaps of free neighbours, and the one list in order that such swaps lead to.
+//!
+//! Which items are free with each other, and which item goes first, is a [`SwapOrder`]; this crate
+//! knows nothing else of the items. `specs/` defines the terms, and [`laws`] has the theorems.
+#![tactic(auto)]
+
+pub mod laws;
+mod order;
+
+pub use order::{SwapOrder, put_in_order};

@@ -1,0 +1,66 @@
+//! Puts a list in order, in place.
+ghost use Rattle.std.specs.Prelude.{◌≡◌, ◌≤◌, ◌<◌, length};
+ghost use Rattle.std.specs.List.{insert};
+ghost use Rattle.dap_order.specs.Swaps.{Swaps, AreSwaps, Reordered};
+ghost use Rattle.dap_order.specs.Order.{IsOrdered, put, put_at, order};
+
+/// Which items may change places with a neighbour, and which of two items goes first.
+pub trait SwapOrder<T> {
+    ghost swaps: { Self → Swaps T };
+
+    /// Returns whether the two items may change places if they are neighbours.
+    fn is_free(&self, x: &T, y: &T) -> bool
+        ensures { result ≡ (swaps self.now).free x.now y.now };
+
+    /// Returns whether the key of `x` is smaller than the key of `y`.
+    fn is_less(&self, x: &T, y: &T) -> bool
+        ensures { result ≡ (swaps self.now).less x.now y.now };
+}
+
+/// Returns the place of `item` among `done`.
+fn place_of<T, S: SwapOrder<T>>(by: &S, done: &[T], item: &T) -> usize
+    ensures within { result ≤ length done.now }
+    ensures place { put (S.swaps by.now) done.now item.now ≡ insert done.now result item.now }
+{
+    let mut place = done.len();
+    let mut at = done.len();
+    while at > 0 {
+        let earlier = &done[at - 1];
+        if !by.is_free(item, earlier) {
+            break;
+        }
+        at -= 1;
+        if by.is_less(item, earlier) {
+            place = at;
+        }
+    }
+    place
+}
+
+/// Puts the item at `at` in its place among the items before it.
+fn put_next<T, S: SwapOrder<T>>(by: &S, items: &mut [T], at: usize)
+    requires { at < length items.old }
+    ensures len { length items.new ≡ length items.old }
+    ensures after { items.new ≡ put_at (S.swaps by.now) items.old at }
+{
+    let shared = &items[..];
+    let place = place_of(by, &shared[..at], &shared[at]);
+    items[place..at + 1].rotate_right(1);
+}
+
+/// Puts the items in order by swaps of free neighbours.
+///
+/// Each item is compared with the items before it, from the nearest on, up to the first that is not
+/// free with it. So the time grows with the square of the length if all items are free with each
+/// other. Does not allocate.
+pub fn put_in_order<T, S: SwapOrder<T>>(by: &S, items: &mut [T])
+    // Freeness is symmetric, and the keys are strictly ordered and compare free items.
+    requires { AreSwaps (S.swaps by.now) }
+    ensures after { items.new ≡ order (S.swaps by.now) items.old }
+    ensures reordered { Reordered (S.swaps by.now).free items.old items.new }
+    ensures in_order { IsOrdered (S.swaps by.now) items.new }
+{
+    for at in 0..items.len() {
+        put_next(by, items, at);
+    }
+}

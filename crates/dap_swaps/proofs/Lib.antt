@@ -1,0 +1,16 @@
+pub mod ClassOrder
+pub mod Independence
+pub mod Histories
+pub mod Neighbours
+pub mod SwapsKeepRules
+pub mod MessageOrder
+pub mod RenamedOrder
+pub mod Unnamed
+pub mod RuleLists
+pub mod FreeInWords
+pub mod SameButOrder
+pub mod SameMessages
+pub mod RequestPlaces
+pub mod TableOrder
+pub mod Ranges
+pub mod PlacesInOrder

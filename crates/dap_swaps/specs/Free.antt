@@ -1,0 +1,127 @@
+-- Which messages may change places if they are neighbours: those that a rule of the user names, and
+-- whose order neither their class nor a rule of the session fixes (own).
+use Rattle.std.specs.Prelude.{ℕ, ℤ, Bool, true, cond, not, ◌&&◌, ◌||◌, List, [], Option, Some}
+use Rattle.std.specs.Prelude.{None, codes}
+use Rattle.std.specs.List.{list_any}
+use Rattle.std.specs.Option.{option_cmp}
+use Rattle.std.specs.Cmp.Lexicographic.{slice_cmp}
+use Rattle.std.specs.declared.cmp.Ordering.{Ordering}
+use Rattle.std.specs.Ordering.{nat_cmp, int_cmp, on, then_cmp, is_eq, is_lt}
+use Rattle.dap_tree.specs.declared.side.Side.TheVariants.{Client, Adapter}
+use Rattle.dap_profile.specs.declared.profile.Kind.{Kind}
+use Rattle.dap_profile.specs.declared.profile.Kind.TheVariants.{Request, Response, Event}
+use Rattle.dap_message.specs.Message.{Sent}
+use Rattle.dap_session.specs.Messages.{side_of, kind_of, name_of, seq_of, request_seq_of}
+use Rattle.dap_session.specs.Messages.{same_kind, is_request, is_response, is_from, is_named}
+use Rattle.dap_session.specs.Messages.{is_response_to, is_client_initialize, is_output}
+use Rattle.dap_session.specs.Messages.{is_configuration_done, is_initialized, is_farewell}
+use Rattle.dap_mask.specs.Swaps.{Half, SwapRule}
+
+-- ---- what the rules name
+
+-- The half has no name, or it has the name of the message.
+abbrev pub fits_name : Option (List ℕ) → Sent → Bool
+fits_name None m = true
+fits_name (Some name) m = is_named name m
+
+-- The half names the message.
+abbrev pub fits_half : Half → Sent → Bool
+fits_half h m = same_kind h.kind (kind_of m) && fits_name h.name m
+
+-- One half names x and the other half names y.
+abbrev pub names_both : SwapRule → Sent → Sent → Bool
+names_both r x y =
+    (fits_half r.one x && fits_half r.another y) || (fits_half r.one y && fits_half r.another x)
+
+-- Some rule names the message.
+abbrev pub names : List SwapRule → Sent → Bool
+names rules m = list_any (λ r. fits_half r.one m || fits_half r.another m) rules
+
+-- ---- the classes of messages
+
+-- Messages of one class keep their order (own). All messages of the client are one class. The
+-- adapter's responses to one request are a class, whatever their commands. Other messages of the
+-- adapter are of one class if they have the same kind and the same name.
+pub data Class : Type 0 where
+  of_client : Class
+  to_number : Option ℤ → Class
+  with_name : Kind → List ℕ → Class
+
+abbrev pub class_of : Sent → Class
+class_of m =
+    cond (is_from Client m) of_client
+    (cond (is_response m) (to_number (request_seq_of m)) (with_name (kind_of m) (name_of m)))
+
+-- Responses of the adapter come first, then its events, its requests, and the client's messages. No
+-- class has the kind `Response`.
+abbrev pub kind_rank : Kind → ℕ
+kind_rank Response = 3
+kind_rank Event = 1
+kind_rank Request = 2
+
+abbrev pub class_rank : Class → ℕ
+class_rank of_client = 4
+class_rank (to_number n) = 0
+class_rank (with_name k name) = kind_rank k
+
+abbrev pub class_number : Class → Option ℤ
+class_number of_client = None
+class_number (to_number n) = n
+class_number (with_name k name) = None
+
+abbrev pub class_name : Class → List ℕ
+class_name of_client = []
+class_name (to_number n) = []
+class_name (with_name k name) = name
+
+-- by rank, then by number, then by name
+abbrev pub class_cmp : Class → Class → Ordering
+class_cmp =
+    then_cmp (on class_rank nat_cmp) (then_cmp (on class_number (option_cmp int_cmp))
+    (on class_name (slice_cmp nat_cmp)))
+
+abbrev pub same_class : Class → Class → Bool
+same_class a b = is_eq (class_cmp a b)
+
+abbrev pub less_class : Class → Class → Bool
+less_class a b = is_lt (class_cmp a b)
+
+-- ---- what no rule can allow
+
+-- The messages are of one class.
+abbrev pub of_one_class : Sent → Sent → Bool
+of_one_class x y = same_class (class_of x) (class_of y)
+
+-- x is a response to the request y (rules `NoRequest` and `OtherCommand`).
+abbrev pub answers : Sent → Sent → Bool
+answers x y = is_request y && is_response_to (side_of y) (seq_of y) x
+
+-- It is a response of the adapter to `initialize`.
+abbrev pub is_initialize_response : Sent → Bool
+is_initialize_response m = is_from Adapter m && is_response m && is_named (codes "initialize") m
+
+-- x is the client's `initialize` request or the adapter's response to `initialize`, and y is not an
+-- `output` event of the adapter (rules `NotInitialized` and `StillInitializing`).
+abbrev pub initializes : Sent → Sent → Bool
+initializes x y = (is_client_initialize x || is_initialize_response x) && not (is_output y)
+
+-- x is an `initialized` event, and y is the client's `configurationDone` request (rule
+-- `ConfiguredEarly`).
+abbrev pub allows_configuration : Sent → Sent → Bool
+allows_configuration x y = is_initialized x && is_configuration_done y
+
+-- x is a successful `disconnect` response, and y is a request of the client (rule
+-- `AfterDisconnect`).
+abbrev pub ends_requests : Sent → Sent → Bool
+ends_requests x y = is_farewell x && (is_from Client y && is_request y)
+
+-- The order of x and y is fixed: by their class, or by a rule of the session.
+abbrev pub depends : Sent → Sent → Bool
+depends x y =
+    of_one_class x y
+    || (answers x y || (initializes x y || (allows_configuration x y || ends_requests x y)))
+
+-- The messages may change places if they are neighbours: a rule names them, and their order is not
+-- fixed.
+unfoldable pub free : List SwapRule → Sent → Sent → Bool
+free rules x y = list_any (λ r. names_both r x y) rules && (not (depends x y) && not (depends y x))

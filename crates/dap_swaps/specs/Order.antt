@@ -1,0 +1,43 @@
+-- The keys by which messages are put in order (own). A response to a request of the client has the
+-- number of that request. Every other message has its class, and the number of messages of that
+-- class before it. So no key depends on the values of ids.
+use Rattle.std.specs.Prelude.{ℕ, Bool, ◌&&◌, ◌⊎◌, List}
+use Rattle.dap_tree.specs.declared.side.Side.TheVariants.{Client}
+use Rattle.dap_message.specs.Message.{Sent}
+use Rattle.dap_session.specs.Messages.{is_from}
+use Rattle.dap_order.specs.Classes.{Classes}
+use Rattle.dap_order.specs.Answers.{Answers, answer_labels}
+use Rattle.dap_order.specs.Labels.{Labels, label, by_label, order_by_label}
+use Rattle.dap_order.specs.Order.{IsOrdered}
+use Rattle.dap_mask.specs.Swaps.{SwapRule}
+use Rattle.dap_swaps.specs.Free.{Class, free, class_of, same_class, less_class, answers}
+
+abbrev pub message_classes : List SwapRule → Classes Sent Class
+message_classes rules = record {
+  free = free rules;
+  class = class_of;
+  same = same_class;
+  less = less_class;
+}
+
+-- q is a request of the client, and m is a response to it.
+abbrev pub is_client_request_of : Sent → Sent → Bool
+is_client_request_of q m = is_from Client q && answers m q
+
+abbrev pub message_answers : List SwapRule → Answers Sent Class
+message_answers rules = record {
+  classes = message_classes rules;
+  answered_by = is_client_request_of;
+}
+
+abbrev pub message_labels : List SwapRule → Labels Sent ((Class × ℕ) ⊎ (Class × ℕ))
+message_labels rules = answer_labels (message_answers rules)
+
+-- The messages in order: the first list, by these keys, that swaps of free neighbours lead to.
+unfoldable pub ordered : List SwapRule → List Sent → List Sent
+ordered rules ms = order_by_label (message_labels rules) ms
+
+-- If a message has a smaller key than an earlier one, it is not free with all messages from the
+-- earlier one up to itself.
+abbrev pub AreOrdered : List SwapRule → List Sent → Type 0
+AreOrdered rules ms = IsOrdered (by_label (message_labels rules)) (label (message_labels rules) ms)

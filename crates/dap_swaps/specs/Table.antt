@@ -1,0 +1,15 @@
+-- The order of the places of a table, for private clauses.
+use Rattle.std.specs.Prelude.{ℕ, map}
+use Rattle.dap_mask.specs.Swaps.{swaps_of}
+use Rattle.dap_order.specs.Swaps.{Swaps}
+use Rattle.dap_order.specs.Labels.{label, by_label}
+use Rattle.dap_order.specs.ByPlace.{by_place}
+use Rattle.dap_swaps.specs.Order.{message_labels}
+use Rattle.dap_swaps.specs.Entries.{sent_by}
+use Rattle.dap_swaps.specs.declared.table.Table.{Table}
+
+-- Two places are ordered as the messages there are.
+abbrev pub place_order : Table → Swaps ℕ
+place_order t =
+    let labels = message_labels (swaps_of t.rules.now) in
+    by_place (by_label labels) (label labels (map sent_by t.entries.items))

@@ -1,0 +1,21 @@
+//! Messages of a session whose order does not matter, by rules that a user declares.
+//!
+//! [`is_free`] decides which two messages may change places if they are neighbours, and
+//! [`put_in_order`] sorts the messages of a recording by such swaps. Two recordings have the same
+//! order if and only if such swaps turn one into the other. `specs/` defines the terms, and
+//! [`laws`] has the theorems.
+#![tactic(auto)]
+
+mod classes;
+mod dependence;
+mod entries;
+pub mod laws;
+mod ordering;
+mod requests;
+mod rules;
+mod table;
+
+pub use dap_mask::{Half, SwapRule};
+pub use dap_message::{Kind, Message};
+pub use ordering::put_in_order;
+pub use rules::is_free;
