@@ -5,7 +5,7 @@ ghost use Rattle.dap_input.specs.declared.limits.Limits.{Limits};
 ghost use Rattle.dap_explain.specs.Lines.{AreLines};
 
 use crate::fractions::explain_fraction;
-use crate::head::{Head, add_head, read_value};
+use crate::head::add_message;
 use crate::json_faults::explain_json;
 use crate::lines::Lines;
 use crate::message_faults::explain_message;
@@ -14,24 +14,10 @@ use crate::records::{RecordPart, record_numbered};
 use crate::session_rules::explain_rule;
 use crate::trace_faults::{explain_piece, explain_recorder};
 use crate::unanswered::explain_incomplete;
+use crate::words::Word;
 use dap_input::{Limits, Refused};
 use dap_mask::{MaskRule, MaskRules};
 use std::alloc::{AllocError, Global};
-
-/// Adds the head of the message that a record has, if it can be read.
-fn add_message(alloc: Global, lines: &mut Lines, record: RecordPart<'_>) -> Result<(), AllocError> {
-    match read_value(alloc, record.content)? {
-        Some(message) => {
-            add_head(
-                alloc,
-                lines,
-                record.number,
-                &Head::of(record.side, &message),
-            )
-        }
-        None => Ok(()),
-    }
-}
 
 /// Explains a refusal of a record whose bytes are a record.
 fn explain_content(
@@ -51,27 +37,44 @@ fn explain_content(
         Refused::Message(_, fault) => explain_message(alloc, lines, record, fault),
         Refused::Rule(_, rule) => explain_rule(alloc, lines, input, record, rule, limits.frame),
         Refused::TooManyIds(_) => {
-            let ids = limits.ids;
             add_message(alloc, lines, record)?;
-            lines.add(&format!(in alloc; "the limit is {ids} different ids of a kind")?)
+            add_id_limit(lines, limits)
         }
         Refused::Grew(_) => {
-            let (content, text) = (limits.frame.content, limits.input);
             add_message(alloc, lines, record)?;
-            lines.add(&format!(in alloc;
-                "the limits are {content} bytes written for a record, and {text} in all"
-            )?)
+            add_text_limits(lines, limits)
         }
         _ => Ok(()),
     }
 }
 
+/// Adds the line on the limit of ids.
+fn add_id_limit(lines: &mut Lines, limits: Limits) -> Result<(), AllocError> {
+    lines.add_words(&[
+        Word::Text("the limit is "),
+        Word::Number(limits.ids as u64),
+        Word::Text(" different ids of a kind: record shorter sessions"),
+    ])
+}
+
+/// Adds the line on the limits of what is written.
+fn add_text_limits(lines: &mut Lines, limits: Limits) -> Result<(), AllocError> {
+    lines.add_words(&[
+        Word::Text("dapnorm writes at most "),
+        Word::Number(limits.frame.content as u64),
+        Word::Text(" bytes for a record and "),
+        Word::Number(limits.input),
+        Word::Text(" bytes in all: record shorter sessions"),
+    ])
+}
+
 /// Adds the line on an input that is too long.
-fn add_input_limit(alloc: Global, lines: &mut Lines, limits: Limits) -> Result<(), AllocError> {
-    let limit = limits.input;
-    lines.add(&format!(in alloc;
-        "the limit of an input is {limit} bytes: record shorter sessions"
-    )?)
+fn add_input_limit(lines: &mut Lines, limits: Limits) -> Result<(), AllocError> {
+    lines.add_words(&[
+        Word::Text("the limit of an input is "),
+        Word::Number(limits.input),
+        Word::Text(" bytes: record shorter sessions"),
+    ])
 }
 
 /// Adds the lines on a refusal.
@@ -86,13 +89,11 @@ fn add_refusal(
     requires { IsSound limits.frame }
 {
     match refused {
-        Refused::InputTooLong(_) | Refused::TraceTooLong(_) => {
-            add_input_limit(alloc, lines, limits)
-        }
+        Refused::InputTooLong(_) | Refused::TraceTooLong(_) => add_input_limit(lines, limits),
         Refused::Record(number, cause) => {
             explain_record(alloc, lines, input, number, cause, limits.frame)
         }
-        Refused::Trace(number, cause) => explain_piece(alloc, lines, input, number, cause),
+        Refused::Trace(number, cause) => explain_piece(lines, input, number, cause),
         Refused::Recorder(number, fault) => {
             explain_recorder(alloc, lines, input, number, fault, limits.frame)
         }
@@ -170,10 +171,14 @@ pub fn explain_masked(
 /// # Errors
 ///
 /// `AllocError`: an allocation failed.
-pub fn explain_unreadable(alloc: Global, name: &str, reason: &str) -> Result<String, AllocError>
+pub fn explain_unreadable<'a>(
+    alloc: Global,
+    name: &'a str,
+    reason: &'a str,
+) -> Result<String, AllocError>
     ensures { IfOk result (λ text. ∥ AreLines (string_bytes text) ∥₁) }
 {
     let mut lines = Lines::new(alloc);
-    lines.add(&format!(in alloc; "{name}: {reason}")?)?;
+    lines.add_words(&[Word::Text(name), Word::Text(": "), Word::Text(reason)])?;
     Ok(lines.into_text())
 }

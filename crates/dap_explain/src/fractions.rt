@@ -2,11 +2,13 @@
 use crate::head::{Head, add_head, kind_word, read_value};
 use crate::lines::Lines;
 use crate::number_text::number_text;
-use crate::path::{Name, Path, Place, Step};
+use crate::path::Step;
 use crate::records::RecordPart;
-use crate::shown::Cut;
+use crate::words::{Word, joined};
 use dap_mask::{MaskRule, MaskRules, RulesCause, Verb};
-use serde_json::{Map, Value};
+use dap_profile::Kind;
+use json::{Reader, Scratch};
+use serde_json::{Map, Number, Value};
 use std::alloc::{AllocError, Global};
 use std::str;
 
@@ -72,6 +74,29 @@ struct Fractions<'m> {
 }
 
 impl<'m> Fractions<'m> {
+    /// The path that leads to all of them, if it is not that of the first.
+    fn shared_path(&self) -> Option<&[Step<'m>]> {
+        if self.shared < self.first.len() {
+            self.first.get(..self.shared)
+        } else {
+            None
+        }
+    }
+
+    /// Notes a number at a path, if it is not an integer of 64 bits, and no rule blanks it.
+    fn note_number(
+        &mut self,
+        number: &Number,
+        masking: &Masking<'_>,
+        path: &[Step<'m>],
+    ) -> Result<(), AllocError> {
+        if number.is_f64() && !masking.blanks(path) {
+            self.note(path)
+        } else {
+            Ok(())
+        }
+    }
+
     /// Notes the path of one more.
     fn note(&mut self, path: &[Step<'m>]) -> Result<(), AllocError> {
         if self.count == 0 {
@@ -87,16 +112,21 @@ impl<'m> Fractions<'m> {
 
 /// How many steps two paths share, if all elements of an array are one place.
 fn shared_steps(path: &[Step<'_>], other: &[Step<'_>]) -> usize {
-    let mut shared = 0usize;
-    for (step, other) in path.iter().zip(other) {
-        match (step, other) {
-            (Step::Element(_), Step::Element(_)) => {}
-            (step, other) if step == other => {}
-            _ => return shared,
+    for shared in 0..path.len().min(other.len()) {
+        if !are_one_place(path[shared], other[shared]) {
+            return shared;
         }
-        shared = shared.saturating_add(1);
     }
-    shared
+    path.len().min(other.len())
+}
+
+/// Whether two steps are the same, if all elements of an array are one place.
+fn are_one_place(step: Step<'_>, other: Step<'_>) -> bool {
+    match (step, other) {
+        (Step::Element(_), Step::Element(_)) => true,
+        (Step::Member(name), Step::Member(other)) => name == other,
+        _ => false,
+    }
 }
 
 /// Adds the numbers of a value at a path.
@@ -108,12 +138,7 @@ fn search<'m>(
     found: &mut Fractions<'m>,
 ) -> Result<(), AllocError> {
     match value {
-        Value::Number(number) => {
-            if number.is_f64() && !masking.blanks(path.as_slice()) {
-                found.note(path.as_slice())?;
-            }
-            Ok(())
-        }
+        Value::Number(number) => found.note_number(number, masking, path.as_slice()),
         Value::Array(items) => search_items(items, masking, path, found),
         Value::Object(members) => search_members(members, masking, path, found),
         _ => Ok(()),
@@ -181,32 +206,46 @@ fn fault_of(text: &str) -> &'static str {
     }
 }
 
-/// Adds the lines that say which number it is, and how many there are.
-fn add_numbers(
+/// Adds the line on the number that has this text.
+fn add_text<'a>(lines: &mut Lines, path: &'a [Step<'a>], text: &'a str) -> Result<(), AllocError> {
+    lines.add_words(&[
+        Word::Path(path),
+        Word::Text(" is "),
+        Word::Cut(text),
+        Word::Text(", which "),
+        Word::Text(fault_of(text)),
+        Word::Text("; dapnorm takes only integers of 64 bits"),
+    ])
+}
+
+/// Adds the line that says which number is at a path, and what is wrong with it.
+fn add_number(
     alloc: Global,
     lines: &mut Lines,
     content: &[u8],
-    found: &Fractions<'_>,
+    path: &[Step<'_>],
 ) -> Result<(), AllocError> {
     let Ok(content) = str::from_utf8(content) else {
         return Ok(());
     };
-    let Some(text) = number_text(alloc, content, found.first.as_slice())? else {
-        return Ok(());
-    };
-    let path = Path(found.first.as_slice());
-    let shown = Cut(text.as_str());
-    let fault = fault_of(text.as_str());
-    lines.add(&format!(in alloc;
-        "{path} is {shown}; dapnorm takes integers only, and this {fault}"
-    )?)?;
-    match found.count.saturating_sub(1) {
+    let mut scratch = Scratch::new(alloc);
+    let mut reader = Reader::new(content, &mut scratch)?;
+    match number_text(&mut reader, path) {
+        Some(text) => add_text(lines, path, text),
+        None => Ok(()),
+    }
+}
+
+/// Adds the line that says how many numbers more there are.
+fn add_more(lines: &mut Lines, more: u64) -> Result<(), AllocError> {
+    match more {
         0 => Ok(()),
         1 => lines.add("one more number of this record is not an integer of 64 bits"),
-        more => {
-            lines.add(&format!(in alloc;
-                "{more} more numbers of this record are not integers of 64 bits"
-            )?)
+        _ => {
+            lines.add_words(&[
+                Word::Number(more),
+                Word::Text(" more numbers of this record are not integers of 64 bits"),
+            ])
         }
     }
 }
@@ -214,21 +253,33 @@ fn add_numbers(
 /// How many bytes the line of a rule may have that is proposed.
 const LONGEST_RULE: usize = 500;
 
-/// Returns the rule that blanks the value at a place of a message, if a mask may have it.
-fn rule_for(
+/// Returns the line of the rule that blanks the value at a place of a message.
+fn rule_line<'a>(
     alloc: Global,
+    kind: Kind,
+    name: &'a str,
+    place: &'a [Step<'a>],
+) -> Result<String, AllocError> {
+    let words = [
+        Word::Text("blank "),
+        Word::Text(kind_word(kind)),
+        Word::Text(" "),
+        Word::Name(name),
+        Word::Text(" "),
+        Word::Place(place),
+    ];
+    joined(alloc, &words)
+}
+
+/// Whether a line is a rule of a mask, and blanks the value at a place of a message.
+fn is_rule_for(
+    alloc: Global,
+    line: &str,
     head: Head<'_>,
     place: &[Step<'_>],
-) -> Result<Option<String>, AllocError> {
-    let (Some(kind), Some(name)) = (head.kind, head.name) else {
-        return Ok(None);
-    };
-    let kind = kind_word(kind);
-    let name = Name(name);
-    let shown = Place(place);
-    let line = format!(in alloc; "blank {kind} {name} {shown}")?;
+) -> Result<bool, AllocError> {
     if line.len() > LONGEST_RULE {
-        return Ok(None);
+        return Ok(false);
     }
     match MaskRules::read(alloc, line.as_bytes()) {
         Ok(rules) => {
@@ -236,14 +287,10 @@ fn rule_for(
                 rules: rules.changes(),
                 head,
             };
-            if masking.blanks(place) {
-                Ok(Some(line))
-            } else {
-                Ok(None)
-            }
+            Ok(masking.blanks(place))
         }
         Err(fault) if fault.cause == RulesCause::Memory => Err(AllocError),
-        Err(_) => Ok(None),
+        Err(_) => Ok(false),
     }
 }
 
@@ -255,13 +302,25 @@ fn add_rule(
     what: &str,
     place: &[Step<'_>],
 ) -> Result<bool, AllocError> {
-    match rule_for(alloc, head, place)? {
-        Some(rule) => {
-            lines.add(&format!(in alloc; "to blank {what}, write into a rules file: {rule}")?)?;
-            Ok(true)
-        }
-        None => Ok(false),
+    let (Some(kind), Some(name)) = (head.kind, head.name) else {
+        return Ok(false);
+    };
+    let line = rule_line(alloc, kind, name, place)?;
+    let is_rule = is_rule_for(alloc, line.as_str(), head, place)?;
+    if is_rule {
+        add_rule_line(lines, what, line.as_str())?;
     }
+    Ok(is_rule)
+}
+
+/// Adds the line that says which rule blanks what.
+fn add_rule_line<'a>(lines: &mut Lines, what: &'a str, rule: &'a str) -> Result<(), AllocError> {
+    lines.add_words(&[
+        Word::Text("to blank "),
+        Word::Text(what),
+        Word::Text(", write into a rules file: "),
+        Word::Text(rule),
+    ])
 }
 
 /// Adds the lines on the rules that blank the numbers that were found.
@@ -271,34 +330,57 @@ fn add_rules(
     head: Head<'_>,
     found: &Fractions<'_>,
 ) -> Result<(), AllocError> {
-    let path = found.first.as_slice();
-    let mut has_rule = add_rule(alloc, lines, head, "it", path)?;
-    if found.count > 1 && found.shared < path.len() {
-        let place = &path[..found.shared];
-        has_rule = add_rule(alloc, lines, head, "all of them", place)? || has_rule;
-    }
-    if has_rule {
-        lines.add("dapnorm mask RULES and dapnorm golden --rules RULES apply a rules file")?;
-    }
-    Ok(())
+    let has_first = add_rule(alloc, lines, head, "this number", found.first.as_slice())?;
+    let has_shared = match found.shared_path() {
+        Some(path) => add_rule(alloc, lines, head, "all of them", path)?,
+        None => false,
+    };
+    lines.add(if has_first || has_shared {
+        "apply the rules file with dapnorm mask RULES or dapnorm golden --rules RULES"
+    } else {
+        "no rule of a mask changes it: let the program that sent it write an integer"
+    })
 }
 
-/// Explains that a number of a record is not an integer of 64 bits, once these rules are applied.
+/// Adds the lines on the numbers that were found in a message.
+fn add_found(
+    alloc: Global,
+    lines: &mut Lines,
+    content: &[u8],
+    head: Head<'_>,
+    found: &Fractions<'_>,
+) -> Result<(), AllocError> {
+    if found.count == 0 {
+        return Ok(());
+    }
+    add_number(alloc, lines, content, found.first.as_slice())?;
+    add_more(lines, found.count.saturating_sub(1))?;
+    add_rules(alloc, lines, head, found)
+}
+
+/// Adds the lines on a message that has a number that is not an integer of 64 bits.
+fn add_fractions(
+    alloc: Global,
+    lines: &mut Lines,
+    record: RecordPart<'_>,
+    message: &Value,
+    rules: &[MaskRule],
+) -> Result<(), AllocError> {
+    let head = Head::of(record.side, message);
+    add_head(lines, record.number, &head)?;
+    let found = fractions_of(alloc, message, rules, head)?;
+    add_found(alloc, lines, record.content, head, &found)
+}
+
+/// Explains that a number of a record is not an integer of 64 bits, after these rules are applied.
 pub(crate) fn explain_fraction(
     alloc: Global,
     lines: &mut Lines,
     record: RecordPart<'_>,
     rules: &[MaskRule],
 ) -> Result<(), AllocError> {
-    let Some(message) = read_value(alloc, record.content)? else {
-        return Ok(());
-    };
-    let head = Head::of(record.side, &message);
-    add_head(alloc, lines, record.number, &head)?;
-    let found = fractions_of(alloc, &message, rules, head)?;
-    if found.count == 0 {
-        return Ok(());
+    match read_value(alloc, record.content)? {
+        Some(message) => add_fractions(alloc, lines, record, &message, rules),
+        None => Ok(()),
     }
-    add_numbers(alloc, lines, record.content, &found)?;
-    add_rules(alloc, lines, head, &found)
 }

@@ -1,151 +1,189 @@
 //! Frames that are faulty or cut.
 use crate::header::{
-    bad_line, content_len, has_converted_line_end, has_text_before, header_len, header_of,
-    length_value,
+    KEEP_LINE_ENDS, bad_line, content_len, has_converted_line_end, has_text_before, header_len,
+    header_of, length_value,
 };
 use crate::lines::Lines;
-use crate::shown::Bytes;
+use crate::words::Word;
 use dap_frame::{FrameFault, FrameLimits};
-use std::alloc::{AllocError, Global};
+use std::alloc::AllocError;
 
 /// A frame that is faulty or cut.
 #[derive(Clone, Copy)]
 pub(crate) struct BadFrame<'a> {
-    /// What it is called, such as `record 5`.
-    pub(crate) name: &'a str,
+    /// What it is called.
+    pub(crate) name: Word<'a>,
     /// Its first bytes: at least those of its header part, as far as they came.
     pub(crate) front: &'a [u8],
     /// How many bytes of it came.
     pub(crate) len: usize,
 }
 
-/// Adds the line on a header part with a line that is not a field line.
-fn add_header_line(
-    alloc: Global,
-    lines: &mut Lines,
-    frame: BadFrame<'_>,
-    header: &[u8],
-) -> Result<(), AllocError> {
-    let name = frame.name;
+/// Adds the lines on a header part with a line that is not a field line.
+fn add_header_line(lines: &mut Lines, frame: BadFrame<'_>) -> Result<(), AllocError> {
+    let header = header_of(frame.front);
     match bad_line(header) {
         Some(line) => {
-            let line = Bytes(line);
-            lines.add(&format!(in alloc;
-                "the header part of {name} has the line {line}, which is not a field"
-            )?)?;
+            lines.add_words(&[
+                Word::Text("the header part of "),
+                frame.name,
+                Word::Text(" has the line "),
+                Word::Bytes(line),
+                Word::Text(", which is not NAME: VALUE"),
+            ])?;
         }
-        None => lines.add(&format!(in alloc; "the header part of {name} is empty")?)?,
+        None => {
+            lines.add_words(&[
+                Word::Text("the header part of "),
+                frame.name,
+                Word::Text(" is empty"),
+            ])?;
+        }
     }
     add_printed(lines, header)
 }
 
 /// Adds lines if a program may have printed text before a header part.
 fn add_printed(lines: &mut Lines, header: &[u8]) -> Result<(), AllocError> {
-    if has_text_before(header) {
-        lines.add("a program may have printed text between two frames")?;
-        lines.add("send it to standard error or into output events instead")?;
+    if !has_text_before(header) {
+        return Ok(());
     }
-    Ok(())
+    lines.add("a program may have printed text between two frames")?;
+    lines.add("let it print to standard error, or send output events instead")
 }
 
-/// Adds the line on a frame whose header part, or the length in it, is wrong in this way.
-fn add_header(
-    alloc: Global,
-    lines: &mut Lines,
-    frame: BadFrame<'_>,
-    what: &str,
-) -> Result<(), AllocError> {
-    let name = frame.name;
-    let header = Bytes(header_of(frame.front));
-    lines.add(&format!(in alloc; "the header part of {name} {what}; it is {header}")?)
+/// Adds the line on a frame whose header part is wrong in this way.
+fn add_header<'a>(lines: &mut Lines, frame: BadFrame<'a>, what: &'a str) -> Result<(), AllocError> {
+    lines.add_words(&[
+        Word::Text("the header part of "),
+        frame.name,
+        Word::Text(what),
+        Word::Text("; it is "),
+        Word::Bytes(header_of(frame.front)),
+    ])
 }
 
 /// Adds the lines on a header part without a length.
-fn add_no_length(alloc: Global, lines: &mut Lines, frame: BadFrame<'_>) -> Result<(), AllocError> {
-    add_header(alloc, lines, frame, "has no Content-Length")?;
+fn add_no_length(lines: &mut Lines, frame: BadFrame<'_>) -> Result<(), AllocError> {
+    add_header(lines, frame, " has no Content-Length")?;
     add_printed(lines, header_of(frame.front))
 }
 
 /// Adds the line on a length that is not a number.
-fn add_bad_length(alloc: Global, lines: &mut Lines, frame: BadFrame<'_>) -> Result<(), AllocError> {
-    let name = frame.name;
-    let value = Bytes(length_value(header_of(frame.front)).unwrap_or(&[]));
-    lines.add(&format!(in alloc; "the Content-Length of {name} is {value}, not 1 to 10 digits")?)
+fn add_bad_length(lines: &mut Lines, frame: BadFrame<'_>) -> Result<(), AllocError> {
+    lines.add_words(&[
+        Word::Text("the Content-Length of "),
+        frame.name,
+        Word::Text(" is "),
+        Word::Bytes(length_value(header_of(frame.front)).unwrap_or(&[])),
+        Word::Text(", not 1 to 10 digits"),
+    ])
 }
 
-/// Adds the line on a content that is too long.
+/// Adds the lines on a content that is too long.
 fn add_content_too_long(
-    alloc: Global,
     lines: &mut Lines,
     frame: BadFrame<'_>,
     limit: usize,
 ) -> Result<(), AllocError> {
-    let name = frame.name;
     if let Some(len) = content_len(header_of(frame.front)) {
-        lines.add(&format!(in alloc;
-            "the content of {name} has {len} bytes; the limit is {limit} bytes"
-        )?)?;
+        lines.add_words(&[
+            Word::Text("the content of "),
+            frame.name,
+            Word::Text(" has "),
+            Word::Number(len),
+            Word::Text(" bytes; the limit is "),
+            Word::Number(limit as u64),
+            Word::Text(" bytes"),
+        ])?;
     }
     lines.add("request less at once, such as by start and count of variables")
 }
 
 /// Adds the line on a header part that does not end within its limit.
 fn add_header_too_long(
-    alloc: Global,
     lines: &mut Lines,
     frame: BadFrame<'_>,
     limit: usize,
 ) -> Result<(), AllocError> {
-    let name = frame.name;
-    let front = Bytes(frame.front);
-    lines.add(&format!(in alloc;
-        "no header part ends in the first {limit} bytes of {name}: {front}"
-    )?)
+    lines.add_words(&[
+        Word::Text("no header part ends in the first "),
+        Word::Number(limit as u64),
+        Word::Text(" bytes of "),
+        frame.name,
+        Word::Text(": "),
+        Word::Bytes(frame.front),
+    ])
 }
 
-/// Adds the line on a frame that has not ended.
-fn add_cut(alloc: Global, lines: &mut Lines, frame: BadFrame<'_>) -> Result<(), AllocError> {
-    let name = frame.name;
+/// Adds the lines on a frame that has not ended.
+fn add_cut(lines: &mut Lines, frame: BadFrame<'_>) -> Result<(), AllocError> {
     let Some(header) = header_len(frame.front) else {
-        let front = Bytes(frame.front);
-        return lines.add(&format!(in alloc;
-            "the input ends in the header part of {name}: {front}"
-        )?);
+        return add_cut_header(lines, frame);
     };
     let Some(len) = content_len(header_of(frame.front)) else {
         return Ok(());
     };
     let missing = len.saturating_sub(frame.len.saturating_sub(header) as u64);
-    lines.add(&format!(in alloc;
-        "the content of {name} has {len} bytes, and {missing} of them are missing"
-    )?)
+    lines.add_words(&[
+        Word::Text("the content of "),
+        frame.name,
+        Word::Text(" has "),
+        Word::Number(len),
+        Word::Text(" bytes by its header part, and "),
+        Word::Number(missing),
+        Word::Text(" of them are missing"),
+    ])?;
+    lines.add(
+        "the program that wrote the input may have been stopped early, or the length is too large",
+    )
 }
 
-/// Explains that a frame is faulty or cut.
-pub(crate) fn explain_frame(
-    alloc: Global,
+/// Adds the lines on a frame whose header part has not ended.
+fn add_cut_header(lines: &mut Lines, frame: BadFrame<'_>) -> Result<(), AllocError> {
+    lines.add_words(&[
+        Word::Text("the input ends in the header part of "),
+        frame.name,
+        Word::Text(": "),
+        Word::Bytes(frame.front),
+    ])?;
+    if has_converted_line_end(frame.front) {
+        Ok(())
+    } else {
+        lines.add("the program that wrote the input may have been stopped early")
+    }
+}
+
+/// Adds the lines on the fault of a frame.
+fn add_fault(
     lines: &mut Lines,
     frame: BadFrame<'_>,
     fault: FrameFault,
     limits: FrameLimits,
 ) -> Result<(), AllocError> {
     match fault {
-        FrameFault::HeaderLine => {
-            add_header_line(alloc, lines, frame, header_of(frame.front))?;
-        }
-        FrameFault::NoLength => add_no_length(alloc, lines, frame)?,
-        FrameFault::TwoLengths => {
-            add_header(alloc, lines, frame, "has more than one Content-Length")?;
-        }
-        FrameFault::BadLength => add_bad_length(alloc, lines, frame)?,
-        FrameFault::HeaderTooLong => add_header_too_long(alloc, lines, frame, limits.header)?,
-        FrameFault::ContentTooLong => add_content_too_long(alloc, lines, frame, limits.content)?,
-        FrameFault::Cut => add_cut(alloc, lines, frame)?,
-        FrameFault::Memory => return Ok(()),
+        FrameFault::HeaderLine => add_header_line(lines, frame),
+        FrameFault::NoLength => add_no_length(lines, frame),
+        FrameFault::TwoLengths => add_header(lines, frame, " has more than one Content-Length"),
+        FrameFault::BadLength => add_bad_length(lines, frame),
+        FrameFault::HeaderTooLong => add_header_too_long(lines, frame, limits.header),
+        FrameFault::ContentTooLong => add_content_too_long(lines, frame, limits.content),
+        FrameFault::Cut => add_cut(lines, frame),
+        FrameFault::Memory => Ok(()),
     }
-    if has_converted_line_end(frame.front) {
-        lines.add("its header lines do not end with CR LF: line ends may have been converted")?;
-        lines.add("git needs -text for recordings and traces in .gitattributes")?;
+}
+
+/// Explains that a frame is faulty or cut.
+pub(crate) fn explain_frame(
+    lines: &mut Lines,
+    frame: BadFrame<'_>,
+    fault: FrameFault,
+    limits: FrameLimits,
+) -> Result<(), AllocError> {
+    add_fault(lines, frame, fault, limits)?;
+    if !has_converted_line_end(frame.front) {
+        return Ok(());
     }
-    Ok(())
+    lines.add("its header lines do not end with CR LF: line ends may have been converted")?;
+    lines.add(KEEP_LINE_ENDS)
 }

@@ -1,11 +1,11 @@
 //! The head of a message: who sent it, its kind and its name.
 use crate::lines::Lines;
-use crate::shown::Quoted;
+use crate::records::RecordPart;
+use crate::words::Word;
 use dap_profile::Kind;
 use dap_tree::Side;
 use serde_json::Value;
 use std::alloc::{AllocError, Global};
-use std::fmt;
 
 /// The members that every message of a kind has. One that is absent or has another type is `None`.
 #[derive(Clone, Copy)]
@@ -25,7 +25,10 @@ pub(crate) struct Head<'m> {
 impl<'m> Head<'m> {
     /// Reads the head of a message.
     pub(crate) fn of(side: Option<Side>, message: &'m Value) -> Head<'m> {
-        let kind = text_at(message, "type").and_then(kind_named);
+        let kind = match text_at(message, "type") {
+            Some(name) => kind_named(name),
+            None => None,
+        };
         let is_response = kind == Some(Kind::Response);
         Head {
             side,
@@ -83,40 +86,67 @@ fn name_key(kind: Option<Kind>) -> &'static str {
 }
 
 fn text_at<'m>(message: &'m Value, name: &str) -> Option<&'m str> {
-    message.get(name).and_then(Value::as_str)
+    match message.get(name) {
+        Some(Value::String(text)) => Some(text.as_str()),
+        _ => None,
+    }
 }
 
 fn number_at(message: &Value, name: &str) -> Option<i64> {
-    message.get(name).and_then(Value::as_i64)
-}
-
-impl fmt::Display for Head<'_> {
-    fn fmt<W: fmt::Write>(&self, f: &mut fmt::Formatter<W>) -> fmt::Result {
-        f.write_str(match self.side {
-            Some(Side::Client) => "> ",
-            Some(Side::Adapter) => "< ",
-            None => "",
-        })?;
-        f.write_str(self.kind.map_or("message of unknown type", kind_word))?;
-        if let Some(name) = self.name {
-            let name = Quoted(name);
-            write!(f, " {name}")?;
-        }
-        if let Some(number) = self.request_seq {
-            write!(f, ", to request {number}")?;
-        }
-        Ok(())
+    match message.get(name) {
+        Some(Value::Number(number)) => number.as_i64(),
+        _ => None,
     }
 }
 
 /// Adds the line that says which message a record has.
-pub(crate) fn add_head(
+pub(crate) fn add_head(lines: &mut Lines, number: u64, head: &Head<'_>) -> Result<(), AllocError> {
+    lines.add_words(&[
+        Word::Record(number),
+        Word::Text(" is "),
+        Word::Text(marker(head.side)),
+        Word::Text(kind_words(head.kind)),
+        Word::Named(head.name),
+        Word::Answering(head.request_seq),
+    ])
+}
+
+/// The words for the kind of a message.
+fn kind_words(kind: Option<Kind>) -> &'static str {
+    match kind {
+        Some(kind) => kind_word(kind),
+        None => "message of unknown type",
+    }
+}
+
+/// The marker of a side, with a space after it.
+fn marker(side: Option<Side>) -> &'static str {
+    match side {
+        Some(Side::Client) => "> ",
+        Some(Side::Adapter) => "< ",
+        None => "",
+    }
+}
+
+/// Adds the line that says which message a record has, if the message can be read.
+pub(crate) fn add_message(
     alloc: Global,
     lines: &mut Lines,
-    number: u64,
-    head: &Head<'_>,
+    record: RecordPart<'_>,
 ) -> Result<(), AllocError> {
-    lines.add(&format!(in alloc; "record {number} is {head}")?)
+    match read_value(alloc, record.content)? {
+        Some(message) => add_head(lines, record.number, &Head::of(record.side, &message)),
+        None => Ok(()),
+    }
+}
+
+/// Who has to be fixed, if a message of this side is wrong.
+pub(crate) fn sender_words(side: Option<Side>) -> &'static str {
+    match side {
+        Some(Side::Client) => "the client does not follow the protocol there: fix the client",
+        Some(Side::Adapter) => "the adapter does not follow the protocol there: fix the adapter",
+        None => "the program that sent it does not follow the protocol there: fix it",
+    }
 }
 
 /// Reads a content as a JSON value; `None` if it is not JSON.

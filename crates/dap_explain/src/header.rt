@@ -1,6 +1,10 @@
 //! The header part of a frame, looked at for people.
 use crate::likeness::{first_line, is_like_frames, is_number, number_of};
 
+/// How to keep line ends as they are.
+pub(crate) const KEEP_LINE_ENDS: &str =
+    "git keeps line ends if .gitattributes has -text for recordings and traces";
+
 /// The field that each header part has.
 const LENGTH_NAME: &[u8] = b"Content-Length";
 
@@ -14,9 +18,10 @@ pub(crate) fn header_len(bytes: &[u8]) -> Option<usize> {
 
 /// The header part that bytes begin with; all of them, if it has not ended.
 pub(crate) fn header_of(bytes: &[u8]) -> &[u8] {
-    header_len(bytes)
-        .and_then(|len| bytes.get(..len))
-        .unwrap_or(bytes)
+    match header_len(bytes) {
+        Some(len) => bytes.get(..len).unwrap_or(bytes),
+        None => bytes,
+    }
 }
 
 /// Returns the first line of a header part that is not a field line, without its LF.

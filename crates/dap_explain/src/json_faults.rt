@@ -1,8 +1,8 @@
 //! Contents that are not JSON.
-use crate::head::{Head, add_head, kind_named};
+use crate::head::{Head, add_head, kind_named, sender_words};
 use crate::lines::Lines;
 use crate::records::RecordPart;
-use crate::shown::{Bytes, Cut};
+use crate::words::Word;
 use dap_profile::Kind;
 use json::{Reader, Scratch, Token};
 use serde_json::{Error, Value};
@@ -15,87 +15,6 @@ const MAX_DEPTH: usize = 127;
 /// How many bytes are shown before the place of a fault.
 const BEFORE: usize = 20;
 
-/// The head of a message, as far as its text is JSON.
-#[derive(Clone, Copy)]
-struct Beginning<'t> {
-    kind: Option<Kind>,
-    command: Option<&'t str>,
-    event: Option<&'t str>,
-    request_seq: Option<i64>,
-}
-
-impl<'t> Beginning<'t> {
-    /// Notes the text of a member.
-    fn note_text(&mut self, member: &str, text: &'t str) {
-        match member {
-            "type" => self.kind = kind_named(text),
-            "command" => self.command = Some(text),
-            "event" => self.event = Some(text),
-            _ => {}
-        }
-    }
-
-    /// Notes the number of a member.
-    fn note_number(&mut self, member: &str, text: &str) {
-        if member == "request_seq" {
-            self.request_seq = text.parse::<i64>().ok();
-        }
-    }
-}
-
-/// Reads the head of the message that a text begins with, up to the first fault of the text.
-fn read_beginning<'t>(reader: &mut Reader<'t>) -> Beginning<'t> {
-    let mut found = Beginning {
-        kind: None,
-        command: None,
-        event: None,
-        request_seq: None,
-    };
-    let mut depth = 0usize;
-    let mut member = "";
-    while let Some(token) = reader.next() {
-        match token {
-            Token::BeginObject | Token::BeginArray => depth = depth.saturating_add(1),
-            Token::EndObject | Token::EndArray => depth = depth.saturating_sub(1),
-            Token::Key(name) if depth == 1 => member = name,
-            Token::String(text) if depth == 1 => found.note_text(member, text),
-            Token::Number(text) if depth == 1 => found.note_number(member, text),
-            Token::Bad => return found,
-            _ => {}
-        }
-    }
-    found
-}
-
-/// Adds the head of a message, as far as its text is JSON, if it has a kind.
-fn add_beginning(
-    alloc: Global,
-    lines: &mut Lines,
-    record: RecordPart<'_>,
-    text: &str,
-) -> Result<(), AllocError> {
-    let mut scratch = Scratch::new(alloc);
-    let mut reader = Reader::new(text, &mut scratch)?;
-    let found = read_beginning(&mut reader);
-    let Some(kind) = found.kind else {
-        return Ok(());
-    };
-    let (name, request_seq) = match kind {
-        Kind::Request => (found.command, None),
-        Kind::Response => (found.command, found.request_seq),
-        Kind::Event => (found.event, None),
-    };
-    let head = Head {
-        side: record.side,
-        kind: found.kind,
-        name,
-        seq: None,
-        request_seq,
-        is_success: false,
-    };
-    add_head(alloc, lines, record.number, &head)
-}
-
 /// A fault that the tokens of a text show, though each of them is JSON.
 #[derive(Clone, Copy)]
 enum TokenFault<'t> {
@@ -105,40 +24,117 @@ enum TokenFault<'t> {
     Number(&'t str),
 }
 
-/// Finds the first such fault of a text, up to the first token that is not JSON.
-fn token_fault<'t>(
-    alloc: Global,
-    reader: &mut Reader<'t>,
-) -> Result<Option<TokenFault<'t>>, AllocError> {
-    let mut depth = 0usize;
-    while let Some(token) = reader.next() {
+/// What the tokens of a text show, up to the first that is not JSON.
+#[derive(Clone, Copy)]
+struct Shown<'t> {
+    depth: usize,
+    /// The name of the last member outside inner objects.
+    member: &'t str,
+    kind: Option<Kind>,
+    command: Option<&'t str>,
+    event: Option<&'t str>,
+    request_seq: Option<i64>,
+    /// The first fault.
+    fault: Option<TokenFault<'t>>,
+}
+
+impl<'t> Shown<'t> {
+    /// What no tokens show.
+    fn nothing() -> Shown<'t> {
+        Shown {
+            depth: 0,
+            member: "",
+            kind: None,
+            command: None,
+            event: None,
+            request_seq: None,
+            fault: None,
+        }
+    }
+
+    /// Notes a token.
+    fn note(&mut self, token: Token<'t>) {
         match token {
-            Token::BeginObject | Token::BeginArray => {
-                depth = depth.saturating_add(1);
-                if depth > MAX_DEPTH {
-                    return Ok(Some(TokenFault::Depth));
-                }
-            }
-            Token::EndObject | Token::EndArray => depth = depth.saturating_sub(1),
-            Token::Number(text) => {
-                if is_past_floats(alloc, text)? {
-                    return Ok(Some(TokenFault::Number(text)));
-                }
-            }
-            Token::Bad => return Ok(None),
+            Token::BeginObject | Token::BeginArray => self.enter(),
+            Token::EndObject | Token::EndArray => self.depth = self.depth.saturating_sub(1),
+            Token::Key(name) if self.depth == 1 => self.member = name,
+            Token::String(text) if self.depth == 1 => self.note_text(text),
+            Token::Number(text) => self.note_number(text),
             _ => {}
         }
     }
-    Ok(None)
+
+    /// Goes into an array or an object.
+    fn enter(&mut self) {
+        self.depth = self.depth.saturating_add(1);
+        if self.depth > MAX_DEPTH {
+            self.note_fault(TokenFault::Depth);
+        }
+    }
+
+    /// Notes the string that a member of the message has.
+    fn note_text(&mut self, text: &'t str) {
+        match self.member {
+            "type" => self.kind = kind_named(text),
+            "command" => self.command = Some(text),
+            "event" => self.event = Some(text),
+            _ => {}
+        }
+    }
+
+    /// Notes a number.
+    fn note_number(&mut self, text: &'t str) {
+        if self.depth == 1 && self.member == "request_seq" {
+            self.request_seq = text.parse::<i64>().ok();
+        }
+        if is_past_floats(text) {
+            self.note_fault(TokenFault::Number(text));
+        }
+    }
+
+    /// Notes a fault, unless it is a later one.
+    fn note_fault(&mut self, fault: TokenFault<'t>) {
+        if self.fault.is_none() {
+            self.fault = Some(fault);
+        }
+    }
+
+    /// The head of the message, if it has a kind.
+    fn head(&self, record: RecordPart<'_>) -> Option<Head<'t>> {
+        let kind = self.kind?;
+        Some(Head {
+            side: record.side,
+            kind: Some(kind),
+            name: match kind {
+                Kind::Request | Kind::Response => self.command,
+                Kind::Event => self.event,
+            },
+            seq: None,
+            request_seq: match kind {
+                Kind::Response => self.request_seq,
+                Kind::Request | Kind::Event => None,
+            },
+            is_success: false,
+        })
+    }
 }
 
-/// Whether the text of a number is refused.
-fn is_past_floats(alloc: Global, text: &str) -> Result<bool, AllocError> {
-    match Value::from_str(alloc, text) {
-        Ok(_) => Ok(false),
-        Err(error) if error.is_memory() => Err(AllocError),
-        Err(_) => Ok(true),
+/// Whether a number is past the largest 64-bit float.
+fn is_past_floats(text: &str) -> bool {
+    match text.parse::<f64>() {
+        Ok(number) => number.is_infinite(),
+        Err(_) => false,
     }
+}
+
+/// Reads the tokens of a text, up to the first that is not JSON.
+fn shown_by<'t>(text: &'t str, scratch: &'t mut Scratch<Global>) -> Result<Shown<'t>, AllocError> {
+    let mut reader = Reader::new(text, scratch)?;
+    let mut shown = Shown::nothing();
+    while let Some(token) = reader.next() {
+        shown.note(token);
+    }
+    Ok(shown)
 }
 
 /// Where in a text an error is, in bytes.
@@ -157,34 +153,78 @@ fn offset_of(text: &str, error: &Error) -> usize {
     start.saturating_add(error.column()).saturating_sub(1)
 }
 
-/// Adds the line on a text that is not JSON near the place of this error.
+/// Adds the lines on a text that is not JSON.
 fn add_syntax(
-    alloc: Global,
     lines: &mut Lines,
     record: RecordPart<'_>,
     text: &str,
     error: &Error,
 ) -> Result<(), AllocError> {
-    let number = record.number;
     if error.is_eof() {
-        let len = text.len();
-        return lines.add(&format!(in alloc;
-            "the content of record {number} ends before its JSON does: after {len} bytes"
-        )?);
+        add_early_end(lines, record, text)?;
+    } else {
+        add_near(lines, record, text, offset_of(text, error))?;
     }
-    let offset = offset_of(text, error);
-    let near = text
-        .as_bytes()
-        .get(offset.saturating_sub(BEFORE)..)
-        .unwrap_or(&[]);
-    let near = Bytes(near);
-    lines.add(&format!(in alloc;
-        "the content of record {number} is not JSON near byte {offset}: {near}"
-    )?)
+    lines.add(sender_words(record.side))
 }
 
-/// Adds the line on what is wrong with a text.
-fn add_fault(
+/// Adds the line on a text that ends before its JSON does.
+fn add_early_end(lines: &mut Lines, record: RecordPart<'_>, text: &str) -> Result<(), AllocError> {
+    lines.add_words(&[
+        Word::Text("the content of "),
+        Word::Record(record.number),
+        Word::Text(" ends after "),
+        Word::Number(text.len() as u64),
+        Word::Text(" bytes, before its JSON text does"),
+    ])
+}
+
+/// Adds the line on a text that is not JSON near this place.
+fn add_near(
+    lines: &mut Lines,
+    record: RecordPart<'_>,
+    text: &str,
+    offset: usize,
+) -> Result<(), AllocError> {
+    let near = text.as_bytes().get(offset.saturating_sub(BEFORE)..);
+    lines.add_words(&[
+        Word::Text("the content of "),
+        Word::Record(record.number),
+        Word::Text(" is not JSON near byte "),
+        Word::Number(offset as u64),
+        Word::Text(": "),
+        Word::Bytes(near.unwrap_or(&[])),
+    ])
+}
+
+/// Adds the line on arrays and objects that nest too deep.
+fn add_depth(lines: &mut Lines, record: RecordPart<'_>) -> Result<(), AllocError> {
+    lines.add_words(&[
+        Word::Record(record.number),
+        Word::Text(" has more than "),
+        Word::Number(MAX_DEPTH as u64),
+        Word::Text(" arrays and objects inside one another, which dapnorm does not read"),
+    ])
+}
+
+/// Adds the lines on a number that is past the largest 64-bit float.
+fn add_past_floats(
+    lines: &mut Lines,
+    record: RecordPart<'_>,
+    number: &str,
+) -> Result<(), AllocError> {
+    lines.add_words(&[
+        Word::Text("the number "),
+        Word::Cut(number),
+        Word::Text(" of "),
+        Word::Record(record.number),
+        Word::Text(" is outside the range of 64-bit floats"),
+    ])?;
+    lines.add("let the program that sent it write a number of that range")
+}
+
+/// Adds the lines on a text that is not JSON for this error.
+fn add_text(
     alloc: Global,
     lines: &mut Lines,
     record: RecordPart<'_>,
@@ -192,37 +232,39 @@ fn add_fault(
     error: &Error,
 ) -> Result<(), AllocError> {
     let mut scratch = Scratch::new(alloc);
-    let mut reader = Reader::new(text, &mut scratch)?;
-    let fault = token_fault(alloc, &mut reader)?;
-    let record_number = record.number;
-    match fault {
-        Some(TokenFault::Depth) => {
-            lines.add(&format!(in alloc;
-                "record {record_number} nests more than {MAX_DEPTH} arrays and objects"
-            )?)
-        }
-        Some(TokenFault::Number(number)) => {
-            let number = Cut(number);
-            lines.add(&format!(in alloc;
-                "the number {number} of record {record_number} is past the largest 64-bit float"
-            )?)
-        }
-        None => add_syntax(alloc, lines, record, text, error),
+    let shown = shown_by(text, &mut scratch)?;
+    add_shown(lines, record, text, &shown, error)
+}
+
+/// Adds the lines on a text whose tokens show this.
+fn add_shown(
+    lines: &mut Lines,
+    record: RecordPart<'_>,
+    text: &str,
+    shown: &Shown<'_>,
+    error: &Error,
+) -> Result<(), AllocError> {
+    if let Some(head) = shown.head(record) {
+        add_head(lines, record.number, &head)?;
+    }
+    match shown.fault {
+        Some(TokenFault::Depth) => add_depth(lines, record),
+        Some(TokenFault::Number(number)) => add_past_floats(lines, record, number),
+        None => add_syntax(lines, record, text, error),
     }
 }
 
-/// Adds the line on a content that is not UTF-8 after this many bytes.
-fn add_not_utf8(
-    alloc: Global,
-    lines: &mut Lines,
-    record: RecordPart<'_>,
-    valid: usize,
-) -> Result<(), AllocError> {
-    let number = record.number;
-    let rest = Bytes(record.content.get(valid..).unwrap_or(&[]));
-    lines.add(&format!(in alloc;
-        "the content of record {number} is not UTF-8 after {valid} bytes: {rest}"
-    )?)
+/// Adds the lines on a content that is not UTF-8 after this many bytes.
+fn add_not_utf8(lines: &mut Lines, record: RecordPart<'_>, valid: usize) -> Result<(), AllocError> {
+    lines.add_words(&[
+        Word::Text("the content of "),
+        Word::Record(record.number),
+        Word::Text(" is not UTF-8 after "),
+        Word::Number(valid as u64),
+        Word::Text(" bytes: "),
+        Word::Bytes(record.content.get(valid..).unwrap_or(&[])),
+    ])?;
+    lines.add(sender_words(record.side))
 }
 
 /// Explains that the content of a record is not JSON.
@@ -233,14 +275,11 @@ pub(crate) fn explain_json(
 ) -> Result<(), AllocError> {
     let text = match str::from_utf8(record.content) {
         Ok(text) => text,
-        Err(error) => return add_not_utf8(alloc, lines, record, error.valid_up_to()),
+        Err(error) => return add_not_utf8(lines, record, error.valid_up_to()),
     };
     match Value::from_str(alloc, text) {
         Ok(_) => Ok(()),
         Err(error) if error.is_memory() => Err(AllocError),
-        Err(error) => {
-            add_beginning(alloc, lines, record, text)?;
-            add_fault(alloc, lines, record, text, &error)
-        }
+        Err(error) => add_text(alloc, lines, record, text, &error),
     }
 }

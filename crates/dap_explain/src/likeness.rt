@@ -1,7 +1,7 @@
 //! What an input looks like that is not what a command reads.
 use crate::lines::Lines;
-use crate::shown::Bytes;
-use std::alloc::{AllocError, Global};
+use crate::words::Word;
+use std::alloc::AllocError;
 
 /// The bytes of the mark that some editors put before UTF-8.
 const BYTE_ORDER_MARK: &[u8] = b"\xef\xbb\xbf";
@@ -28,26 +28,26 @@ pub(crate) fn likeness_of(input: &[u8], expected: Expected) -> Option<&'static s
         return Some("this looks like a recording: leave out dapnorm record");
     }
     if is_like_recording(input) && expected == Expected::Frames {
-        return Some("this looks like a recording: dapnorm compact reads frames without markers");
+        return Some("this looks like a recording: dapnorm compact reads frames without > and <");
     }
     if is_like_frames(input) && expected != Expected::Frames {
-        return Some("this looks like frames without markers: dapnorm compact reads such frames");
+        return Some("this looks like frames without > and <: only dapnorm compact reads these");
     }
     match input {
-        [b'{' | b'[', ..] => Some("this looks like JSON without frames"),
+        [b'{' | b'[', ..] => {
+            Some("this looks like JSON without frames: each message needs a header part")
+        }
         _ => None,
     }
 }
 
 /// Adds the lines on an input that looks like something else.
 pub(crate) fn add_likeness(
-    alloc: Global,
     lines: &mut Lines,
     input: &[u8],
     likeness: &str,
 ) -> Result<(), AllocError> {
-    let shown = Bytes(input);
-    lines.add(&format!(in alloc; "the input begins {shown}")?)?;
+    lines.add_words(&[Word::Text("the input begins "), Word::Bytes(input)])?;
     lines.add(likeness)
 }
 

@@ -3,6 +3,7 @@ ghost use Rattle.std.specs.Prelude.{◌≡◌, ◌≢◌, ◌<◌, ◌≤◌, tr
 ghost use Rattle.std.specs.Prelude.{string_bytes};
 ghost use Rattle.dap_explain.specs.Lines.{AreLines, IsPrinted, line_of};
 
+use crate::words::{Word, joined};
 use std::alloc::{AllocError, Global};
 
 /// How many characters of a line are written.
@@ -30,6 +31,12 @@ impl Lines {
     pub(crate) fn add(&mut self, line: &str) -> Result<(), AllocError> {
         let line = indented(self.alloc, line)?;
         self.text.push_str(line.as_str())
+    }
+
+    /// Appends a line of these words, as `add` does.
+    pub(crate) fn add_words(&mut self, words: &[Word<'_>]) -> Result<(), AllocError> {
+        let line = joined(self.alloc, words)?;
+        self.add(line.as_str())
     }
 
     /// The text of the lines.
@@ -125,7 +132,7 @@ fn push_digit(words: &mut String, number: u32) -> Result<(), AllocError>
 }
 
 /// Returns a hexadecimal digit.
-fn hex_digit(digit: u32) -> char
+pub(crate) fn hex_digit(digit: u32) -> char
     requires { digit < 16 }
     ensures { (48 ≤ result) × (result < 127) }
 {

@@ -1,10 +1,9 @@
 //! Contents that are not messages of the profile.
-use crate::head::{Head, add_head, read_value};
+use crate::head::{Head, add_head, read_value, sender_words};
 use crate::lines::Lines;
-use crate::path::Path;
 use crate::records::RecordPart;
 use crate::row_faults::{RowFault, row_fault};
-use crate::shown::Cut;
+use crate::words::Word;
 use dap_message::MessageFault;
 use dap_profile::{Row, Want, profile_rows};
 use dap_tree::Side;
@@ -19,12 +18,12 @@ fn want_words(want: Want) -> &'static str {
         Want::Text => "a string",
         Want::Object => "an object",
         Want::List => "an array",
-        Want::OwnSeq => "a sequence number of the sender",
-        Want::OtherSeq => "a sequence number of the other side",
-        Want::Frame => "a frame id",
-        Want::Reference => "a variables reference",
-        Want::Thread => "a thread id",
-        Want::Breakpoint => "a breakpoint id",
+        Want::OwnSeq => "an integer (a sequence number of the sender)",
+        Want::OtherSeq => "an integer (a sequence number of the other side)",
+        Want::Frame => "an integer (a frame id)",
+        Want::Reference => "an integer (a variables reference)",
+        Want::Thread => "an integer (a thread id)",
+        Want::Breakpoint => "an integer (a breakpoint id)",
     }
 }
 
@@ -42,96 +41,125 @@ fn sort_words(value: &Value) -> &'static str {
 
 /// Adds the lines on a content that is not an object.
 fn add_not_object(
-    alloc: Global,
     lines: &mut Lines,
-    number: u64,
+    record: RecordPart<'_>,
     content: &Value,
 ) -> Result<(), AllocError> {
-    let sort = sort_words(content);
-    lines.add(&format!(in alloc;
-        "the content of record {number} is {sort}; a message is a JSON object"
-    )?)
+    lines.add_words(&[
+        Word::Text("the content of "),
+        Word::Record(record.number),
+        Word::Text(" is "),
+        Word::Text(sort_words(content)),
+        Word::Text("; a message is a JSON object"),
+    ])?;
+    lines.add(sender_words(record.side))
 }
 
 /// Adds the lines on a message without a type that the protocol knows.
 fn add_unknown_type(
-    alloc: Global,
     lines: &mut Lines,
-    number: u64,
+    record: RecordPart<'_>,
     message: &Value,
 ) -> Result<(), AllocError> {
-    match message.get("type") {
-        None => lines.add(&format!(in alloc;
-            "the message of record {number} has no member type"
-        )?)?,
-        Some(value) => {
-            let text = value.to_string(alloc)?;
-            let text = Cut(text.as_str());
-            lines.add(&format!(in alloc; "the type of record {number} is {text}")?)?;
-        }
+    add_type(lines, record.number, message)?;
+    lines.add("a message has the type \"request\", \"response\" or \"event\"")?;
+    if message.get("jsonrpc").is_none() {
+        return lines.add(sender_words(record.side));
     }
-    lines.add("the protocol has \"request\", \"response\" and \"event\"")?;
-    if message.get("jsonrpc").is_some() {
-        lines.add("its member jsonrpc is that of another protocol, such as a language server's")?;
-        lines.add("record the session of the debug adapter instead")?;
-    }
-    Ok(())
+    lines.add("its member \"jsonrpc\" is that of another protocol, such as a language server's")?;
+    lines.add("record the session of the debug adapter instead")
 }
 
-/// Who has to be fixed.
-fn sender_words(side: Option<Side>) -> &'static str {
-    match side {
-        Some(Side::Client) => "the client does not follow the protocol there: fix the client",
-        Some(Side::Adapter) => "the adapter does not follow the protocol there: fix the adapter",
-        None => "the program that sent it does not follow the protocol there: fix it",
+/// Adds the line on the type that a message has.
+fn add_type(lines: &mut Lines, number: u64, message: &Value) -> Result<(), AllocError> {
+    match message.get("type") {
+        None => {
+            lines.add_words(&[
+                Word::Text("the message of "),
+                Word::Record(number),
+                Word::Text(" has no member \"type\""),
+            ])
+        }
+        Some(value) => {
+            lines.add_words(&[
+                Word::Text("the type of "),
+                Word::Record(number),
+                Word::Text(" is "),
+                Word::Json(value),
+            ])
+        }
     }
 }
 
 /// Adds the line on what is at the place of a row.
-fn add_place(
-    alloc: Global,
-    lines: &mut Lines,
-    row: &Row,
-    fault: &RowFault<'_>,
-) -> Result<(), AllocError> {
-    let path = Path(fault.path.as_slice());
-    let number = row.number;
-    let want = want_words(row.want);
-    match fault.value {
-        None => {
-            lines.add(&format!(in alloc;
-                "{path} is missing; row {number} of the profile needs {want} there"
-            )?)
-        }
-        Some(value) => {
-            let text = value.to_string(alloc)?;
-            let text = Cut(text.as_str());
-            lines.add(&format!(in alloc;
-                "{path} is {text}; row {number} of the profile expects {want} there"
-            )?)
-        }
-    }
+fn add_place(lines: &mut Lines, row: &Row, fault: RowFault<'_>) -> Result<(), AllocError> {
+    lines.add_words(&[
+        Word::RowPlace(row.place, fault.element),
+        Word::Text(" is "),
+        match fault.value {
+            Some(value) => Word::Json(value),
+            None => Word::Text("missing"),
+        },
+        Word::Text("; the profile requires "),
+        Word::Text(want_words(row.want)),
+        Word::Text(" there (dapnorm rows "),
+        Word::Number(u64::from(row.number)),
+        Word::Text(")"),
+    ])
+}
+
+/// The row of the profile with this number.
+fn row_numbered(number: u16) -> Option<&'static Row> {
+    profile_rows().iter().find(|row| row.number == number)
 }
 
 /// Adds the lines on a message that violates the row with this number.
 fn add_row(
-    alloc: Global,
     lines: &mut Lines,
     record: RecordPart<'_>,
     message: &Value,
     number: u16,
     is_missing: bool,
 ) -> Result<(), AllocError> {
-    add_head(alloc, lines, record.number, &Head::of(record.side, message))?;
-    let Some(row) = profile_rows().iter().find(|row| row.number == number) else {
-        return Ok(());
-    };
-    match row_fault(alloc, row, message)? {
+    add_head(lines, record.number, &Head::of(record.side, message))?;
+    match row_numbered(number) {
+        Some(row) => add_row_fault(lines, record.side, row, message, is_missing),
+        None => Ok(()),
+    }
+}
+
+/// Adds the lines on the place at which a message violates a row.
+fn add_row_fault(
+    lines: &mut Lines,
+    side: Option<Side>,
+    row: &Row,
+    message: &Value,
+    is_missing: bool,
+) -> Result<(), AllocError> {
+    match row_fault(row, message) {
         Some(fault) if fault.value.is_none() == is_missing => {
-            add_place(alloc, lines, row, &fault)?;
-            lines.add(sender_words(record.side))
+            add_place(lines, row, fault)?;
+            lines.add(sender_words(side))
         }
         _ => Ok(()),
+    }
+}
+
+/// Adds the lines on a content that is not a message.
+fn add_fault(
+    lines: &mut Lines,
+    record: RecordPart<'_>,
+    message: &Value,
+    fault: MessageFault,
+) -> Result<(), AllocError> {
+    match fault {
+        MessageFault::NotObject if !message.is_object() => {
+            add_not_object(lines, record, message)
+        }
+        MessageFault::UnknownType => add_unknown_type(lines, record, message),
+        MessageFault::Missing(row) => add_row(lines, record, message, row, true),
+        MessageFault::WrongType(row) => add_row(lines, record, message, row, false),
+        MessageFault::NotObject | MessageFault::Memory => Ok(()),
     }
 }
 
@@ -142,16 +170,8 @@ pub(crate) fn explain_message(
     record: RecordPart<'_>,
     fault: MessageFault,
 ) -> Result<(), AllocError> {
-    let Some(message) = read_value(alloc, record.content)? else {
-        return Ok(());
-    };
-    match fault {
-        MessageFault::NotObject if !message.is_object() => {
-            add_not_object(alloc, lines, record.number, &message)
-        }
-        MessageFault::UnknownType => add_unknown_type(alloc, lines, record.number, &message),
-        MessageFault::Missing(row) => add_row(alloc, lines, record, &message, row, true),
-        MessageFault::WrongType(row) => add_row(alloc, lines, record, &message, row, false),
-        MessageFault::NotObject | MessageFault::Memory => Ok(()),
+    match read_value(alloc, record.content)? {
+        Some(message) => add_fault(lines, record, &message, fault),
+        None => Ok(()),
     }
 }

@@ -1,81 +1,91 @@
 //! The text of a number as it is in a content.
 use crate::path::Step;
-use json::{Reader, Scratch, Token};
-use std::alloc::{AllocError, Global};
-
-/// An array or an object that has begun and not ended.
-#[derive(Clone, Copy)]
-struct Level {
-    /// Whether the path leads to it.
-    is_on_path: bool,
-    /// The index of the next element of an array; `None` in an object.
-    element: Option<usize>,
-    /// Whether the path leads to its next value.
-    is_next_on_path: bool,
-}
+use json::{Reader, Token};
 
 /// The way to the next value of a text, compared with a path.
-#[derive(Drop)]
+#[derive(Clone, Copy)]
 struct Way<'p> {
     path: &'p [Step<'p>],
-    levels: Vec<Level>,
+    /// How many arrays and objects have begun and not ended.
+    depth: usize,
+    /// To how many of these the path leads: to the first ones.
+    on_path: usize,
+    /// The index of the next element of the last of these, if it is an array.
+    element: usize,
+    /// Whether the path leads to the next value, if the last that began is one of these.
+    is_next: bool,
 }
 
-impl Way<'_> {
+impl<'p> Way<'p> {
+    /// The way to the value that a text is.
+    fn new(path: &'p [Step<'p>]) -> Way<'p> {
+        Way {
+            path,
+            depth: 0,
+            on_path: 0,
+            element: 0,
+            is_next: true,
+        }
+    }
+
     /// Whether the path leads to the next value.
     fn is_next_on_path(&self) -> bool {
-        match self.levels.last() {
-            Some(level) => level.is_next_on_path,
-            None => true,
-        }
+        self.is_next && self.depth == self.on_path
     }
 
     /// Whether the path ends at the next value.
     fn is_at_end(&self) -> bool {
-        self.is_next_on_path() && self.levels.len() == self.path.len()
+        self.is_next_on_path() && self.depth == self.path.len()
+    }
+
+    /// The step of the path into the last array or object that began.
+    fn step(&self) -> Option<&'p Step<'p>> {
+        self.path.get(self.depth.saturating_sub(1))
     }
 
     /// Goes into an array or an object.
-    fn enter(&mut self, element: Option<usize>) -> Result<(), AllocError> {
+    fn enter(&mut self) {
         let is_on_path = self.is_next_on_path();
-        let step = self.path.get(self.levels.len());
-        let is_next_on_path = is_on_path && element.is_some() && step == Some(&Step::Element(0));
-        self.levels.push(Level {
-            is_on_path,
-            element,
-            is_next_on_path,
-        })?;
-        Ok(())
+        self.depth = self.depth.saturating_add(1);
+        if is_on_path {
+            self.on_path = self.depth;
+            self.element = 0;
+            self.is_next = is_element(self.step(), 0);
+        }
     }
 
-    /// Goes out of an array or an object, which was a value.
+    /// Goes out of an array or an object, which was a value. No later element of an array is on a
+    /// path that leads into this one.
     fn leave(&mut self) {
-        self.levels.pop();
+        if self.depth == self.on_path {
+            self.on_path = self.on_path.saturating_sub(1);
+            self.element = usize::MAX;
+        }
+        self.depth = self.depth.saturating_sub(1);
         self.pass();
     }
 
     /// Passes a value.
     fn pass(&mut self) {
-        let depth = self.levels.len();
-        let path = self.path;
-        let step = path.get(depth.saturating_sub(1));
-        if let Some(level) = self.levels.last_mut() {
-            if let Some(element) = level.element {
-                let next = element.saturating_add(1);
-                level.element = Some(next);
-                level.is_next_on_path = level.is_on_path && step == Some(&Step::Element(next));
-            }
+        if self.depth == self.on_path {
+            self.element = self.element.saturating_add(1);
+            self.is_next = is_element(self.step(), self.element);
         }
     }
 
     /// Passes the name of a member.
     fn pass_name(&mut self, name: &str) {
-        let depth = self.levels.len();
-        let path = self.path;
-        let step = path.get(depth.saturating_sub(1));
-        if let Some(level) = self.levels.last_mut() {
-            level.is_next_on_path = level.is_on_path && is_member(step, name);
+        if self.depth == self.on_path {
+            self.is_next = is_member(self.step(), name);
         }
+    }
+}
+
+/// Whether a step is one to the element at this index.
+fn is_element(step: Option<&Step<'_>>, index: usize) -> bool {
+    match step {
+        Some(Step::Element(own)) => *own == index,
+        _ => false,
     }
 }
 
@@ -87,24 +97,14 @@ fn is_member(step: Option<&Step<'_>>, name: &str) -> bool {
     }
 }
 
-/// Returns the text of the number at a path of a JSON text, as it is there. Of members with one
-/// name the last counts.
-pub(crate) fn number_text(
-    alloc: Global,
-    content: &str,
-    path: &[Step<'_>],
-) -> Result<Option<String>, AllocError> {
-    let mut scratch = Scratch::new(alloc);
-    let mut reader = Reader::new(content, &mut scratch)?;
-    let mut way = Way {
-        path,
-        levels: Vec::new(alloc),
-    };
+/// Returns the text of the number at a path of a JSON text, as it is there. If a member name occurs
+/// twice in an object, the last one counts.
+pub(crate) fn number_text<'t>(reader: &mut Reader<'t>, path: &[Step<'_>]) -> Option<&'t str> {
+    let mut way = Way::new(path);
     let mut found = None;
     while let Some(token) = reader.next() {
         match token {
-            Token::BeginObject => way.enter(None)?,
-            Token::BeginArray => way.enter(Some(0))?,
+            Token::BeginObject | Token::BeginArray => way.enter(),
             Token::Key(name) => way.pass_name(name),
             Token::EndObject | Token::EndArray => way.leave(),
             Token::Number(text) => {
@@ -114,11 +114,8 @@ pub(crate) fn number_text(
                 way.pass();
             }
             Token::String(_) | Token::Bool(_) | Token::Null => way.pass(),
-            Token::Bad => return Ok(None),
+            Token::Bad => return None,
         }
     }
-    match found {
-        Some(text) => Ok(Some(String::from_str(alloc, text)?)),
-        None => Ok(None),
-    }
+    found
 }

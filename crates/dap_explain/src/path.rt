@@ -1,9 +1,10 @@
-//! Paths into a JSON value, in the notation of `diff`, and places of masks.
-use crate::shown::Quoted;
-use std::fmt;
+//! Paths into a JSON value, and the places of masks that they are at.
+use crate::words::push_quoted;
+use dap_profile::Place;
+use std::alloc::AllocError;
 
 /// A step into a JSON value.
-#[derive(Clone, Copy, Debug, PartialEq)]
+#[derive(Clone, Copy)]
 pub(crate) enum Step<'a> {
     /// To the member of that name of an object.
     Member(&'a str),
@@ -11,66 +12,68 @@ pub(crate) enum Step<'a> {
     Element(usize),
 }
 
-/// A path in the notation of `diff`, such as `body.stackFrames[2].line`.
-#[derive(Clone, Copy)]
-pub(crate) struct Path<'a>(pub(crate) &'a [Step<'a>]);
+/// Appends a path in the notation of `diff`.
+pub(crate) fn push_path(text: &mut String, path: &[Step<'_>]) -> Result<(), AllocError> {
+    if path.is_empty() {
+        return text.push('.');
+    }
+    for (index, step) in path.iter().enumerate() {
+        match step {
+            Step::Member(name) => push_member(text, name, index == 0)?,
+            Step::Element(element) => write!(text, "[{element}]")?,
+        }
+    }
+    Ok(())
+}
 
-impl fmt::Display for Path<'_> {
-    fn fmt<W: fmt::Write>(&self, f: &mut fmt::Formatter<W>) -> fmt::Result {
-        if self.0.is_empty() {
-            return f.write_str(".");
+/// Appends a place of a row of the profile, with the index of the element that it is in.
+pub(crate) fn push_row_place(
+    text: &mut String,
+    place: Place,
+    element: usize,
+) -> Result<(), AllocError> {
+    let element = Step::Element(element);
+    match place {
+        Place::Member(a) => push_path(text, &[Step::Member(a)]),
+        Place::Inner(a, b) => push_path(text, &[Step::Member(a), Step::Member(b)]),
+        Place::Deep(a, b, c) => {
+            push_path(text, &[Step::Member(a), Step::Member(b), Step::Member(c)])
         }
-        for (index, step) in self.0.iter().enumerate() {
-            match step {
-                Step::Member(name) => write_member(f, name, index == 0)?,
-                Step::Element(element) => write!(f, "[{element}]")?,
-            }
+        Place::Element(a, b) => { push_path(text, &[Step::Member(a), Step::Member(b), element]) }
+        Place::Part(a, b, c) => {
+            push_path(
+                text,
+                &[Step::Member(a), Step::Member(b), element, Step::Member(c)],
+            )
         }
-        Ok(())
     }
 }
 
-/// The place of a mask that a path is at, such as `body.stackFrames[].line`.
-#[derive(Clone, Copy)]
-pub(crate) struct Place<'a>(pub(crate) &'a [Step<'a>]);
-
-impl fmt::Display for Place<'_> {
-    fn fmt<W: fmt::Write>(&self, f: &mut fmt::Formatter<W>) -> fmt::Result {
-        for (index, step) in self.0.iter().enumerate() {
-            match step {
-                Step::Member(name) => write_member(f, name, index == 0)?,
-                Step::Element(_) => f.write_str("[]")?,
-            }
+/// Appends the place of a mask that a path is at.
+pub(crate) fn push_place(text: &mut String, path: &[Step<'_>]) -> Result<(), AllocError> {
+    for (index, step) in path.iter().enumerate() {
+        match step {
+            Step::Member(name) => push_member(text, name, index == 0)?,
+            Step::Element(_) => text.push_str("[]")?,
         }
-        Ok(())
     }
+    Ok(())
 }
 
-/// Writes the step to a member, with a dot before it unless it is the first.
-fn write_member<W: fmt::Write>(
-    f: &mut fmt::Formatter<W>,
-    name: &str,
-    is_first: bool,
-) -> fmt::Result {
+/// Appends the step to a member, with a dot before it unless it is the first.
+fn push_member(text: &mut String, name: &str, is_first: bool) -> Result<(), AllocError> {
     if !is_first {
-        f.write_str(".")?;
+        text.push('.')?;
     }
-    let name = Name(name);
-    write!(f, "{name}")
+    push_name(text, name)
 }
 
-/// A name as paths and rules have it: as it is, or as a JSON string.
-#[derive(Clone, Copy)]
-pub(crate) struct Name<'a>(pub(crate) &'a str);
-
-impl fmt::Display for Name<'_> {
-    fn fmt<W: fmt::Write>(&self, f: &mut fmt::Formatter<W>) -> fmt::Result {
-        if is_plain(self.0) {
-            f.write_str(self.0)
-        } else {
-            let name = Quoted(self.0);
-            write!(f, "{name}")
-        }
+/// Appends a name as paths and rules have it.
+pub(crate) fn push_name(text: &mut String, name: &str) -> Result<(), AllocError> {
+    if is_plain(name) {
+        text.push_str(name)
+    } else {
+        push_quoted(text, name)
     }
 }
 

@@ -1,4 +1,4 @@
-//! The pieces of a trace that is at hand as a whole, as parts of it.
+//! The pieces of a trace, as parts of its bytes.
 ghost use Rattle.std.specs.Prelude.{length};
 
 use dap_recording::{TracePart, TraceReader};

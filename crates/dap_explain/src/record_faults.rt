@@ -3,11 +3,11 @@ ghost use Rattle.dap_frame.specs.Limits.{IsSound};
 
 use crate::frame_faults::{BadFrame, explain_frame};
 use crate::head::read_value;
-use crate::header::header_len;
+use crate::header::{KEEP_LINE_ENDS, header_len};
 use crate::likeness::{Expected, add_likeness, first_line, likeness_of};
 use crate::lines::Lines;
 use crate::records::{Form, bytes_from};
-use crate::shown::Bytes;
+use crate::words::Word;
 use dap_frame::{FrameFault, FrameLimits, Framer};
 use dap_recording::{RecordCause, RecordReader};
 use std::alloc::{AllocError, Global};
@@ -65,14 +65,12 @@ fn frame_cause(alloc: Global, bytes: &[u8], limits: FrameLimits) -> Option<Recor
 }
 
 /// Adds the lines on a record that does not begin with a marker.
-fn add_bad_marker(
-    alloc: Global,
-    lines: &mut Lines,
-    number: u64,
-    bytes: &[u8],
-) -> Result<(), AllocError> {
-    let shown = Bytes(bytes);
-    lines.add(&format!(in alloc; "record {number} begins {shown}")?)?;
+fn add_bad_marker(lines: &mut Lines, number: u64, bytes: &[u8]) -> Result<(), AllocError> {
+    lines.add_words(&[
+        Word::Record(number),
+        Word::Text(" begins "),
+        Word::Bytes(bytes),
+    ])?;
     lines.add("a record begins with > (client) or < (adapter), and nothing is between two records")
 }
 
@@ -86,18 +84,43 @@ fn add_no_line_end(
 ) -> Result<(), AllocError>
     requires { IsSound limits }
 {
-    let Some(used) = Framer::new(alloc, limits).frame_in(frame) else {
-        return Ok(());
-    };
-    let Some((whole, after)) = frame.split_at_checked(used) else {
-        return Ok(());
-    };
-    let shown = Bytes(after);
-    lines.add(&format!(in alloc;
-        "after the frame of record {number} comes {shown} instead of LF"
-    )?)?;
+    match whole_and_after(alloc, frame, limits) {
+        Some((whole, after)) => add_after(alloc, lines, number, frame, whole, after),
+        None => Ok(()),
+    }
+}
+
+/// Splits bytes after the frame that they begin with, if it is whole.
+fn whole_and_after<'a>(
+    alloc: Global,
+    bytes: &'a [u8],
+    limits: FrameLimits,
+) -> Option<(&'a [u8], &'a [u8])>
+    requires { IsSound limits }
+{
+    let used = Framer::new(alloc, limits).frame_in(bytes)?;
+    bytes.split_at_checked(used)
+}
+
+/// Adds the lines on the bytes after a frame that do not begin with LF.
+fn add_after(
+    alloc: Global,
+    lines: &mut Lines,
+    number: u64,
+    frame: &[u8],
+    whole: &[u8],
+    after: &[u8],
+) -> Result<(), AllocError> {
+    lines.add_words(&[
+        Word::Text("after the frame of "),
+        Word::Record(number),
+        Word::Text(" comes "),
+        Word::Bytes(after),
+        Word::Text(" instead of LF"),
+    ])?;
     if after.starts_with(b"\r\n") {
-        lines.add("line ends were converted to CR LF: git needs -text in .gitattributes")
+        lines.add("line ends were converted to CR LF")?;
+        lines.add(KEEP_LINE_ENDS)
     } else {
         add_length(alloc, lines, frame, whole, after)
     }
@@ -119,14 +142,27 @@ fn add_length(
     let (Some(content), Some(text)) = (whole.get(start..), frame.get(start..end)) else {
         return Ok(());
     };
-    if read_value(alloc, content)?.is_some() || read_value(alloc, text)?.is_none() {
+    if is_json(alloc, content)? || !is_json(alloc, text)? {
         return Ok(());
     }
-    let (len, text_len) = (content.len(), text.len());
-    lines.add(&format!(in alloc;
-        "Content-Length is {len}, and the JSON text there has {text_len} bytes"
-    )?)?;
-    lines.add("the sender may count characters: the length is that in bytes of UTF-8")
+    add_lengths(lines, content.len(), text.len())
+}
+
+/// Whether some bytes are JSON.
+fn is_json(alloc: Global, bytes: &[u8]) -> Result<bool, AllocError> {
+    Ok(read_value(alloc, bytes)?.is_some())
+}
+
+/// Adds the lines on the length of a content that is not that of its JSON text.
+fn add_lengths(lines: &mut Lines, len: usize, text_len: usize) -> Result<(), AllocError> {
+    lines.add_words(&[
+        Word::Text("Content-Length is "),
+        Word::Number(len as u64),
+        Word::Text(", and the JSON text there has "),
+        Word::Number(text_len as u64),
+        Word::Text(" bytes"),
+    ])?;
+    lines.add("Content-Length counts bytes of UTF-8: the sender may have counted characters")
 }
 
 /// Adds the lines on a record that has not ended.
@@ -138,13 +174,16 @@ fn add_cut(
 ) -> Result<(), AllocError>
     requires { IsSound limits }
 {
-    match Framer::new(alloc, limits).frame_in(frame.front) {
+    match whole_and_after(alloc, frame.front, limits) {
         Some(_) => {
-            let name = frame.name;
-            lines.add(&format!(in alloc; "only the LF at the end of {name} is missing")?)?;
-            lines.add("an editor may have removed it")
+            lines.add_words(&[
+                Word::Text("only the LF at the end of "),
+                frame.name,
+                Word::Text(" is missing"),
+            ])?;
+            lines.add("an editor may have removed it: add it again")
         }
-        None => explain_frame(alloc, lines, frame, FrameFault::Cut, limits),
+        None => explain_frame(lines, frame, FrameFault::Cut, limits),
     }
 }
 
@@ -164,15 +203,14 @@ fn explain_bytes(
         (Form::Recording, [_, frame @ ..]) => frame,
         _ => bytes,
     };
-    let name = format!(in alloc; "record {number}")?;
     let bad = BadFrame {
-        name: name.as_str(),
+        name: Word::Record(number),
         front: frame,
         len: frame.len(),
     };
     match cause {
-        RecordCause::BadMarker => add_bad_marker(alloc, lines, number, bytes),
-        RecordCause::Frame(fault) => explain_frame(alloc, lines, bad, fault, limits),
+        RecordCause::BadMarker => add_bad_marker(lines, number, bytes),
+        RecordCause::Frame(fault) => explain_frame(lines, bad, fault, limits),
         RecordCause::NoLineEnd => add_no_line_end(alloc, lines, number, frame, limits),
         RecordCause::Cut => add_cut(alloc, lines, bad, limits),
         RecordCause::Memory => Ok(()),
@@ -195,18 +233,34 @@ fn explain_in_form(
     let Some(bytes) = bytes_from(alloc, form, input, number, limits) else {
         return Ok(false);
     };
-    if !is_refused(alloc, form, bytes, cause, limits)? {
-        return Ok(false);
+    let is_found = is_refused(alloc, form, bytes, cause, limits)?;
+    if is_found {
+        explain_found(alloc, lines, number, bytes, form, cause, limits)?;
     }
+    Ok(is_found)
+}
+
+/// Explains the fault of the first record of some bytes, or what an input looks like that has no
+/// record.
+fn explain_found(
+    alloc: Global,
+    lines: &mut Lines,
+    number: u64,
+    bytes: &[u8],
+    form: Form,
+    cause: RecordCause,
+    limits: FrameLimits,
+) -> Result<(), AllocError>
+    requires { IsSound limits }
+{
     let expected = match form {
         Form::Recording => Expected::Recording,
         Form::Frames => Expected::Frames,
     };
-    match likeness_of(input, expected) {
-        Some(likeness) if number == 1 => add_likeness(alloc, lines, input, likeness)?,
-        _ => explain_bytes(alloc, lines, number, bytes, form, cause, limits)?,
+    match likeness_of(bytes, expected) {
+        Some(likeness) if number == 1 => add_likeness(lines, bytes, likeness),
+        _ => explain_bytes(alloc, lines, number, bytes, form, cause, limits),
     }
-    Ok(true)
 }
 
 /// Explains that the bytes of a record are not a record.

@@ -1,4 +1,4 @@
-//! The records of an input that is at hand as a whole, as parts of it.
+//! The records of an input, as parts of its bytes.
 ghost use Rattle.std.specs.Prelude.{◌≤◌, length, IfSome};
 ghost use Rattle.dap_frame.specs.Limits.{IsSound};
 
@@ -8,7 +8,7 @@ use dap_tree::Side;
 use std::alloc::Global;
 
 /// What an input consists of.
-#[derive(Clone, Copy, PartialEq)]
+#[derive(Clone, Copy)]
 pub(crate) enum Form {
     /// Records: a marker, a frame and LF each.
     Recording,
@@ -117,9 +117,10 @@ impl<'a> Iterator for RecordParts<'a> {
 
 /// The content of a whole frame.
 fn content_of(frame: &[u8]) -> &[u8] {
-    header_len(frame)
-        .and_then(|len| frame.get(len..))
-        .unwrap_or(&[])
+    match header_len(frame) {
+        Some(len) => frame.get(len..).unwrap_or(&[]),
+        None => &[],
+    }
 }
 
 /// Returns the record with this number, if the input has it.

@@ -1,36 +1,28 @@
 //! The place at which a message violates a row of the profile.
-use crate::path::Step;
 use dap_profile::{Place, Row, Want};
 use serde_json::Value;
-use std::alloc::{AllocError, Global};
 
-/// A place at which a message violates a row.
-#[derive(Drop)]
+/// A violation of a row: at the place of the row, or at one of its places.
+#[derive(Clone, Copy)]
 pub(crate) struct RowFault<'m> {
-    pub(crate) path: Vec<Step<'m>>,
-    /// What is there; `None` if it is absent.
+    /// The index of the element of the array, if the row is on the elements of an array; else 0.
+    pub(crate) element: usize,
+    /// What is at the place; `None` if it is absent.
     pub(crate) value: Option<&'m Value>,
 }
 
-/// Returns the first place at which a message violates a row.
-pub(crate) fn row_fault<'m>(
-    alloc: Global,
-    row: &Row,
-    message: &'m Value,
-) -> Result<Option<RowFault<'m>>, AllocError> {
+/// Returns the first violation of a row by a message.
+pub(crate) fn row_fault<'m>(row: &Row, message: &'m Value) -> Option<RowFault<'m>> {
     match row.place {
-        Place::Member(a) => fault_of_member(alloc, row, Some(message), &[Step::Member(a)]),
-        Place::Inner(a, b) => {
-            let path = [Step::Member(a), Step::Member(b)];
-            fault_of_member(alloc, row, message.get(a), &path)
+        Place::Member(name) => fault_of_member(row, Some(message), name),
+        Place::Inner(outer, name) => fault_of_member(row, message.get(outer), name),
+        Place::Deep(outer, inner, name) => {
+            fault_of_member(row, value_at(message, outer, inner), name)
         }
-        Place::Deep(a, b, c) => {
-            let parent = message.get(a).and_then(|outer| outer.get(b));
-            let path = [Step::Member(a), Step::Member(b), Step::Member(c)];
-            fault_of_member(alloc, row, parent, &path)
+        Place::Element(outer, list) => fault_of_element(row, elements_at(message, outer, list)),
+        Place::Part(outer, list, name) => {
+            fault_of_part(row, elements_at(message, outer, list), name)
         }
-        Place::Element(a, b) => fault_of_element(alloc, row, message, a, b),
-        Place::Part(a, b, c) => fault_of_part(alloc, row, message, a, b, c),
     }
 }
 
@@ -56,85 +48,56 @@ fn has_type(value: &Value, want: Want) -> bool {
     }
 }
 
-/// The fault of the member at the end of a path. A parent that is not an object has no fault.
-fn fault_of_member<'m>(
-    alloc: Global,
-    row: &Row,
-    parent: Option<&'m Value>,
-    path: &[Step<'m>],
-) -> Result<Option<RowFault<'m>>, AllocError> {
-    match (parent, path.last()) {
-        (Some(Value::Object(members)), Some(Step::Member(name))) => {
-            fault_at(alloc, row, members.get(*name), path)
-        }
-        _ => Ok(None),
+/// The violation by a member of an object. A parent that is not an object has none.
+fn fault_of_member<'m>(row: &Row, parent: Option<&'m Value>, name: &str) -> Option<RowFault<'m>> {
+    match parent {
+        Some(Value::Object(members)) => fault_at(row, 0, members.get(name)),
+        _ => None,
     }
 }
 
-/// The fault of what is at a path, if it violates the row.
-fn fault_at<'m>(
-    alloc: Global,
-    row: &Row,
-    value: Option<&'m Value>,
-    path: &[Step<'m>],
-) -> Result<Option<RowFault<'m>>, AllocError> {
-    if !is_violated(row, value) {
-        return Ok(None);
+/// The violation by what is at a place of the row, or by its absence.
+fn fault_at<'m>(row: &Row, element: usize, value: Option<&'m Value>) -> Option<RowFault<'m>> {
+    if is_violated(row, value) {
+        Some(RowFault { element, value })
+    } else {
+        None
     }
-    let path = Vec::from_slice(alloc, path)?;
-    Ok(Some(RowFault { path, value }))
 }
 
-/// The elements of a list; none if there is no list.
+/// What is at a member of a member.
+fn value_at<'m>(message: &'m Value, outer: &str, name: &str) -> Option<&'m Value> {
+    message.get(outer)?.get(name)
+}
+
+/// The elements of an array that is a member of a member; none, if there is no array.
 fn elements_at<'m>(message: &'m Value, outer: &str, list: &str) -> &'m [Value] {
-    match message.get(outer).and_then(|outer| outer.get(list)) {
+    match value_at(message, outer, list) {
         Some(Value::Array(elements)) => elements.as_slice(),
         _ => &[],
     }
 }
 
-/// The fault of the first element that violates the row.
-fn fault_of_element<'m>(
-    alloc: Global,
-    row: &Row,
-    message: &'m Value,
-    outer: &'static str,
-    list: &'static str,
-) -> Result<Option<RowFault<'m>>, AllocError> {
-    for (index, element) in elements_at(message, outer, list).iter().enumerate() {
-        let path = [
-            Step::Member(outer),
-            Step::Member(list),
-            Step::Element(index),
-        ];
-        let fault = fault_at(alloc, row, Some(element), &path)?;
+/// The violation by the first element that violates the row.
+fn fault_of_element<'m>(row: &Row, elements: &'m [Value]) -> Option<RowFault<'m>> {
+    for (index, element) in elements.iter().enumerate() {
+        let fault = fault_at(row, index, Some(element));
         if fault.is_some() {
-            return Ok(fault);
+            return fault;
         }
     }
-    Ok(None)
+    None
 }
 
-/// The fault of the first element whose member violates the row.
-fn fault_of_part<'m>(
-    alloc: Global,
-    row: &Row,
-    message: &'m Value,
-    outer: &'static str,
-    list: &'static str,
-    member: &'static str,
-) -> Result<Option<RowFault<'m>>, AllocError> {
-    for (index, element) in elements_at(message, outer, list).iter().enumerate() {
-        let path = [
-            Step::Member(outer),
-            Step::Member(list),
-            Step::Element(index),
-            Step::Member(member),
-        ];
-        let fault = fault_of_member(alloc, row, Some(element), &path)?;
-        if fault.is_some() {
-            return Ok(fault);
+/// The violation by the first element whose member violates the row.
+fn fault_of_part<'m>(row: &Row, elements: &'m [Value], name: &str) -> Option<RowFault<'m>> {
+    for (index, element) in elements.iter().enumerate() {
+        if let Value::Object(members) = element {
+            let fault = fault_at(row, index, members.get(name));
+            if fault.is_some() {
+                return fault;
+            }
         }
     }
-    Ok(None)
+    None
 }

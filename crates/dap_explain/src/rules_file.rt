@@ -4,7 +4,7 @@ ghost use Rattle.dap_explain.specs.Lines.{AreLines};
 
 use crate::lines::Lines;
 use crate::rules_line::{is_end, place_of};
-use crate::shown::{Bytes, Cut};
+use crate::words::Word;
 use dap_mask::{MaskRules, RulesCause, RulesFault};
 use std::alloc::{AllocError, Global};
 use std::str;
@@ -18,37 +18,48 @@ fn line_of(rules: &[u8], number: usize) -> &[u8] {
 }
 
 /// Adds a line as it is in the file.
-fn add_line(
-    alloc: Global,
-    lines: &mut Lines,
-    number: usize,
-    line: &[u8],
-) -> Result<(), AllocError> {
+fn add_line(lines: &mut Lines, number: usize, line: &[u8]) -> Result<(), AllocError> {
+    let number = Word::Number(number as u64);
     match str::from_utf8(line) {
         Ok(text) => {
-            let text = Cut(text.trim());
-            lines.add(&format!(in alloc; "line {number} is: {text}")?)
+            lines.add_words(&[
+                Word::Text("line "),
+                number,
+                Word::Text(" is: "),
+                Word::Cut(text.trim()),
+            ])
         }
         Err(error) => {
             let valid = error.valid_up_to();
-            let rest = Bytes(line.get(valid..).unwrap_or(&[]));
-            lines.add(&format!(in alloc; "line {number} is not UTF-8 after {valid} bytes: {rest}")?)
+            lines.add_words(&[
+                Word::Text("line "),
+                number,
+                Word::Text(" is not UTF-8 after "),
+                Word::Number(valid as u64),
+                Word::Text(" bytes: "),
+                Word::Bytes(line.get(valid..).unwrap_or(&[])),
+            ])
         }
     }
 }
 
 /// Adds the line on a line that is not a rule.
-fn add_bad_rule(alloc: Global, lines: &mut Lines, line: &[u8]) -> Result<(), AllocError> {
-    match place_of(line) {
-        Err(fault) => lines.add(&format!(in alloc; "{fault}")?),
-        Ok(_) => lines.add("a rule is VERB KIND NAME PLACE, or drop event NAME"),
+fn add_bad_rule(lines: &mut Lines, line: &[u8]) -> Result<(), AllocError> {
+    let Err(fault) = place_of(line) else {
+        return lines.add(
+            "a rule is VERB KIND NAME PLACE, drop event NAME, or swap KIND NAME KIND NAME",
+        );
+    };
+    match fault.bytes_and_words() {
+        (Some(bytes), words) => lines.add_words(&[Word::Bytes(bytes), Word::Text(words)]),
+        (None, words) => lines.add(words),
     }
 }
 
 /// Adds the lines on a rule with a place that no rule changes.
 fn add_bad_place(lines: &mut Lines, line: &[u8]) -> Result<(), AllocError> {
     lines.add(match place_of(line) {
-        Ok(b"type" | b"command" | b"event" | b"success") => {
+        Ok(place) if is_head_member(place) => {
             "no rule changes the member by which dapnorm recognises messages: leave the rule out"
         }
         Ok(place) if !place.contains(&b'"') => {
@@ -56,6 +67,14 @@ fn add_bad_place(lines: &mut Lines, line: &[u8]) -> Result<(), AllocError> {
         }
         _ => "an id is there, or a member by which dapnorm recognises messages: leave the rule out",
     })
+}
+
+/// Whether a place is a member by which messages are recognised.
+fn is_head_member(place: &[u8]) -> bool {
+    place == b"type".as_slice()
+        || place == b"command".as_slice()
+        || place == b"event".as_slice()
+        || place == b"success".as_slice()
 }
 
 /// Returns the number of the first line before this one after which it is refused for this cause.
@@ -85,14 +104,25 @@ fn is_refused_after(
     line: &[u8],
     cause: RulesCause,
 ) -> Result<bool, AllocError> {
-    let mut both = Vec::from_slice(alloc, earlier)?;
-    both.push(b'\n')?;
-    both.extend_from_slice(line)?;
-    match MaskRules::read(alloc, both.as_slice()) {
+    let both = two_lines(alloc, earlier, line)?;
+    is_second_refused(alloc, both.as_slice(), cause)
+}
+
+/// Whether the second line of a file is the first that is refused, for this cause.
+fn is_second_refused(alloc: Global, rules: &[u8], cause: RulesCause) -> Result<bool, AllocError> {
+    match MaskRules::read(alloc, rules) {
         Ok(_) => Ok(false),
         Err(fault) if fault.cause == RulesCause::Memory => Err(AllocError),
         Err(fault) => Ok(fault.line == 2 && fault.cause == cause),
     }
+}
+
+/// Returns a file of two lines.
+fn two_lines(alloc: Global, first: &[u8], second: &[u8]) -> Result<Vec<u8>, AllocError> {
+    let mut both = Vec::from_slice(alloc, first)?;
+    both.push(b'\n')?;
+    both.extend_from_slice(second)?;
+    Ok(both)
 }
 
 /// Adds the line that says which earlier line has the same rule, or the rule that comes too early.
@@ -104,7 +134,13 @@ fn add_earlier(
     what: &str,
 ) -> Result<(), AllocError> {
     match earlier_line(alloc, rules, fault.line, fault.cause)? {
-        Some(number) => lines.add(&format!(in alloc; "line {number} has {what}")?),
+        Some(number) => {
+            lines.add_words(&[
+                Word::Text("line "),
+                Word::Number(number as u64),
+                Word::Text(what),
+            ])
+        }
         None => Ok(()),
     }
 }
@@ -117,21 +153,50 @@ fn add_cause(
     fault: RulesFault,
 ) -> Result<(), AllocError> {
     match fault.cause {
-        RulesCause::BadRule => add_bad_rule(alloc, lines, line_of(rules, fault.line)),
+        RulesCause::BadRule => add_bad_rule(lines, line_of(rules, fault.line)),
         RulesCause::TooMany => {
             lines.add("a file has at most 1000 rules: join some by * in the place of a name")
         }
         RulesCause::BadPlace => add_bad_place(lines, line_of(rules, fault.line)),
         RulesCause::Repeated => {
-            add_earlier(alloc, lines, rules, fault, "the same rule")?;
+            add_earlier(alloc, lines, rules, fault, " has the same rule")?;
             lines.add("leave one of them out")
         }
         RulesCause::DigitsBehindHex => {
-            add_earlier(alloc, lines, rules, fault, "a hex rule for the same place")?;
+            add_earlier(
+                alloc,
+                lines,
+                rules,
+                fault,
+                " has a hex rule for the same place",
+            )?;
             lines.add("write the digits rule before the hex rule")
         }
         RulesCause::NotUtf8 => lines.add("save the file as UTF-8"),
         RulesCause::TooLong | RulesCause::Memory => Ok(()),
+    }
+}
+
+/// Adds the lines on a file of rules that is refused.
+fn add_fault(
+    alloc: Global,
+    lines: &mut Lines,
+    rules: &[u8],
+    fault: RulesFault,
+) -> Result<(), AllocError> {
+    match fault.cause {
+        RulesCause::Memory => Ok(()),
+        RulesCause::TooLong => {
+            lines.add_words(&[
+                Word::Text("the file has "),
+                Word::Number(rules.len() as u64),
+                Word::Text(" bytes; a file of rules has at most 65536"),
+            ])
+        }
+        _ => {
+            add_line(lines, fault.line, line_of(rules, fault.line))?;
+            add_cause(alloc, lines, rules, fault)
+        }
     }
 }
 
@@ -146,18 +211,6 @@ pub fn explain_rules(alloc: Global, rules: &[u8], fault: RulesFault) -> Result<S
     ensures { IfOk result (λ text. ∥ AreLines (string_bytes text) ∥₁) }
 {
     let mut lines = Lines::new(alloc);
-    match fault.cause {
-        RulesCause::Memory => {}
-        RulesCause::TooLong => {
-            let len = rules.len();
-            lines.add(&format!(in alloc;
-                "the file has {len} bytes; a file of rules has at most 65536"
-            )?)?;
-        }
-        _ => {
-            add_line(alloc, &mut lines, fault.line, line_of(rules, fault.line))?;
-            add_cause(alloc, &mut lines, rules, fault)?;
-        }
-    }
+    add_fault(alloc, &mut lines, rules, fault)?;
     Ok(lines.into_text())
 }

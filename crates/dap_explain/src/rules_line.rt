@@ -1,12 +1,12 @@
 //! What is wrong with a line of a file of rules that is not a rule.
-use crate::shown::Bytes;
-use std::fmt;
 
 /// What is wrong with a line that is not a rule, with the bytes of it that are wrong.
 #[derive(Clone, Copy)]
 pub(crate) enum LineFault<'l> {
     Verb(&'l [u8]),
     NoKind,
+    /// A rule for the order has only one half.
+    NoHalf,
     Kind(&'l [u8]),
     NoName,
     Name(&'l [u8]),
@@ -18,37 +18,57 @@ pub(crate) enum LineFault<'l> {
     More(&'l [u8]),
 }
 
-impl fmt::Display for LineFault<'_> {
-    fn fmt<W: fmt::Write>(&self, f: &mut fmt::Formatter<W>) -> fmt::Result {
-        let (bytes, words) = match *self {
-            LineFault::Verb(word) => (word, "is not a verb: write blank, digits, hex or drop"),
-            LineFault::NoKind => {
-                return f.write_str("after the verb comes a kind: request, response or event");
+impl<'l> LineFault<'l> {
+    /// Returns the bytes that are wrong, if there are any, and what is wrong.
+    pub(crate) fn bytes_and_words(self) -> (Option<&'l [u8]>, &'static str) {
+        match self {
+            LineFault::Verb(word) => {
+                (
+                    Some(word),
+                    " is not a verb: write blank, digits, hex, drop or swap",
+                )
             }
-            LineFault::Kind(word) => (word, "is not a kind: write request, response or event"),
-            LineFault::NoName => {
-                return f.write_str("after the kind comes a command or an event, or * for any");
+            LineFault::NoKind => (
+                None,
+                "after the verb comes a kind: request, response or event",
+            ),
+            LineFault::NoHalf => (
+                None,
+                "a swap names two messages: write swap KIND NAME KIND NAME",
+            ),
+            LineFault::Kind(word) => {
+                (
+                    Some(word),
+                    " is not a kind: write request, response or event",
+                )
             }
+            LineFault::NoName => (
+                None,
+                "after the kind comes a command or an event, or * for any",
+            ),
             LineFault::Name(word) => {
                 (
-                    word,
-                    "is not a name: write letters, digits, _, - and $, or a JSON string",
+                    Some(word),
+                    " is not a name: write letters, digits, _, - and $, or a JSON string",
                 )
             }
-            LineFault::Dropped(word) => (word, "cannot be dropped: write drop event NAME"),
-            LineFault::NoPlace => {
-                return f.write_str("after the name comes a place, such as body.reason");
+            LineFault::Dropped(word) => {
+                (Some(word), " cannot be dropped: write drop event NAME")
             }
+            LineFault::NoPlace => (None, "after the name comes a place, such as body.reason"),
             LineFault::Place(word) => {
                 (
-                    word,
-                    "is not a place: write names with dots between them, and [] for elements",
+                    Some(word),
+                    " is not a place: write names with dots between them, and [] for elements",
                 )
             }
-            LineFault::More(word) => (word, "is after the rule: only a comment may be there"),
-        };
-        let bytes = Bytes(bytes);
-        write!(f, "{bytes} {words}")
+            LineFault::More(word) => {
+                (
+                    Some(word),
+                    " is after the rule: only a comment may be there",
+                )
+            }
+        }
     }
 }
 
@@ -153,10 +173,13 @@ fn after_step(bytes: &[u8]) -> Option<&[u8]> {
     }
 }
 
-/// Returns the place of a rule, which is empty if it drops messages; or what is wrong with a line
+/// Returns the place of a rule, which is empty if it drops or swaps messages; or what is wrong with a line
 /// that is not a rule, if it is recognised.
 pub(crate) fn place_of(line: &[u8]) -> Result<&[u8], LineFault<'_>> {
     let (verb, rest) = split_run(after_blanks(line), ByteClass::Word);
+    if verb == b"swap".as_slice() {
+        return after_halves(rest);
+    }
     let is_drop = verb == b"drop".as_slice();
     if !is_drop && !is_change(verb) {
         return Err(LineFault::Verb(verb));
@@ -172,6 +195,36 @@ pub(crate) fn place_of(line: &[u8]) -> Result<&[u8], LineFault<'_>> {
         return Err(LineFault::Dropped(kind));
     }
     place_after_kind(after_blanks(rest), is_drop)
+}
+
+/// Returns no bytes if these are the two halves of a rule for the order, and otherwise what is wrong.
+fn after_halves(text: &[u8]) -> Result<&[u8], LineFault<'_>> {
+    let rest = after_half(text, LineFault::NoKind)?;
+    let rest = after_half(rest, LineFault::NoHalf)?;
+    if is_end(rest) {
+        Ok(&[])
+    } else {
+        Err(LineFault::More(after_blanks(rest)))
+    }
+}
+
+/// Returns the bytes after a kind and a name, or what is wrong there: `none`, if nothing is.
+fn after_half<'l>(text: &'l [u8], none: LineFault<'l>) -> Result<&'l [u8], LineFault<'l>> {
+    if is_end(text) {
+        return Err(none);
+    }
+    let (kind, rest) = split_run(after_blanks(text), ByteClass::Word);
+    if !is_kind(kind) {
+        return Err(LineFault::Kind(kind));
+    }
+    let name = after_blanks(rest);
+    if is_end(name) {
+        return Err(LineFault::NoName);
+    }
+    match after_name(name) {
+        Some(rest) if is_end(rest) || after_blanks(rest).len() < rest.len() => Ok(rest),
+        _ => Err(LineFault::Name(first_word(name))),
+    }
 }
 
 /// Whether a word is the verb of a rule that changes values.

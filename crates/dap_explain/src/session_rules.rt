@@ -4,7 +4,7 @@ ghost use Rattle.dap_frame.specs.Limits.{IsSound};
 use crate::head::{Head, add_head, read_value};
 use crate::lines::Lines;
 use crate::records::{Form, RecordPart, RecordParts};
-use crate::shown::Quoted;
+use crate::words::Word;
 use dap_frame::FrameLimits;
 use dap_profile::Kind;
 use dap_session::Rule;
@@ -46,14 +46,6 @@ impl Sought {
     }
 }
 
-/// A message that was found.
-#[derive(Drop)]
-struct Found {
-    /// The number of its record.
-    number: u64,
-    name: String,
-}
-
 /// What is looked through: the records of an input before one of them.
 #[derive(Clone, Copy)]
 struct Earlier<'a> {
@@ -63,60 +55,51 @@ struct Earlier<'a> {
     limits: FrameLimits,
 }
 
-/// Returns the first of the earlier messages that is looked for.
-fn find(alloc: Global, earlier: Earlier<'_>, sought: Sought) -> Result<Option<Found>, AllocError>
+/// Returns the record of the first of the earlier messages that is looked for.
+fn find<'a>(
+    alloc: Global,
+    earlier: Earlier<'a>,
+    sought: Sought,
+) -> Result<Option<RecordPart<'a>>, AllocError>
     requires { IsSound earlier.limits }
 {
-    let records = RecordParts::new(alloc, Form::Recording, earlier.input, earlier.limits);
-    for record in records {
+    for record in RecordParts::new(alloc, Form::Recording, earlier.input, earlier.limits) {
         if record.number >= earlier.before {
             break;
         }
-        let found = found_in(alloc, record, sought)?;
-        if found.is_some() {
-            return Ok(found);
+        if is_sought(alloc, record, sought)? {
+            return Ok(Some(record));
         }
     }
     Ok(None)
 }
 
-/// Returns the message of a record, if it is looked for.
-fn found_in(
-    alloc: Global,
-    record: RecordPart<'_>,
-    sought: Sought,
-) -> Result<Option<Found>, AllocError> {
-    let Some(message) = read_value(alloc, record.content)? else {
-        return Ok(None);
-    };
-    let head = Head::of(record.side, &message);
-    match head.name {
-        Some(name) if sought.is_met_by(&head) => {
-            let number = record.number;
-            let name = String::from_str(alloc, name)?;
-            Ok(Some(Found { number, name }))
-        }
-        _ => Ok(None),
+/// Whether the message of a record is one that is looked for.
+fn is_sought(alloc: Global, record: RecordPart<'_>, sought: Sought) -> Result<bool, AllocError> {
+    match read_value(alloc, record.content)? {
+        Some(message) => Ok(sought.is_met_by(&Head::of(record.side, &message))),
+        None => Ok(false),
     }
 }
 
 /// The other side.
-fn other(side: Side) -> Side {
+fn other(side: Option<Side>) -> Option<Side> {
     match side {
-        Side::Client => Side::Adapter,
-        Side::Adapter => Side::Client,
+        Some(Side::Client) => Some(Side::Adapter),
+        Some(Side::Adapter) => Some(Side::Client),
+        None => None,
     }
 }
 
 /// Adds what a rule is, in a sentence.
 fn add_rule(lines: &mut Lines, rule: Rule) -> Result<(), AllocError> {
     lines.add(match rule {
-        Rule::EventFromClient => "only an adapter sends events",
+        Rule::EventFromClient => "only the adapter sends events",
         Rule::NotInitialized => {
             "only output events may come before the client's initialize request"
         }
         Rule::StillInitializing => {
-            "before the adapter responds to initialize, it sends only responses and output events"
+            "before the response to initialize, only the adapter sends: responses and output events"
         }
         Rule::InitializeTwice => "a session has one initialize request",
         Rule::AfterDisconnect => {
@@ -125,7 +108,7 @@ fn add_rule(lines: &mut Lines, rule: Rule) -> Result<(), AllocError> {
         Rule::SeqUsed => "each request of a side has a seq of its own",
         Rule::ConfiguredEarly => "configurationDone comes after an initialized event",
         Rule::ConfiguredTwice => "the client sends configurationDone once",
-        Rule::NoRequest => "a response names a request that came before it",
+        Rule::NoRequest => "a response answers an earlier request of the other side",
         Rule::AnsweredTwice => "a request has one response",
         Rule::OtherCommand => "a response has the command of its request",
     })
@@ -134,98 +117,107 @@ fn add_rule(lines: &mut Lines, rule: Rule) -> Result<(), AllocError> {
 /// Adds what to do about a violation of a rule.
 fn add_advice(lines: &mut Lines, rule: Rule) -> Result<(), AllocError> {
     lines.add(match rule {
-        Rule::EventFromClient => "if the markers > and < are exchanged, fix what writes the trace",
-        Rule::NotInitialized => "begin to record before the client connects",
-        Rule::StillInitializing | Rule::ConfiguredEarly => {
-            "let the client wait; a trace made of an adapter's log may have another order"
+        Rule::EventFromClient => {
+            "if > and < are exchanged in the input, fix the program that wrote it"
+        }
+        Rule::NotInitialized => "start to record before the client connects",
+        Rule::StillInitializing => {
+            "let the sender wait for that response; a trace made from a log may have another order"
+        }
+        Rule::ConfiguredEarly => {
+            "let the client wait for that event; a trace made from a log may have another order"
         }
         Rule::InitializeTwice | Rule::AfterDisconnect | Rule::SeqUsed => {
-            "if there are two sessions in the recording, split it"
+            "if the recording has two sessions, split it; otherwise fix the program that sent it"
         }
-        Rule::ConfiguredTwice => "let the client send it once",
-        Rule::NoRequest => "record each message before it is passed on",
+        Rule::ConfiguredTwice => "fix the client",
+        Rule::NoRequest => "let the recorder write each message before it passes it on",
         Rule::AnsweredTwice | Rule::OtherCommand => "fix the program that sent the response",
     })
 }
 
-/// Adds a line on an earlier request of the client with this command.
-fn add_command(
+/// Adds a line on the first of the earlier messages that is looked for, with these words and the
+/// number of its record.
+fn add_found(
     alloc: Global,
     lines: &mut Lines,
     earlier: Earlier<'_>,
-    command: &'static str,
+    sought: Sought,
+    words: &str,
 ) -> Result<(), AllocError>
     requires { IsSound earlier.limits }
 {
-    match find(alloc, earlier, Sought::Command(command))? {
-        Some(Found { number, .. }) => {
-            lines.add(&format!(in alloc; "the client's {command} request is record {number}")?)
-        }
+    match find(alloc, earlier, sought)? {
+        Some(record) => lines.add_words(&[Word::Text(words), Word::Record(record.number)]),
         None => Ok(()),
     }
 }
 
-/// Adds a line on the earlier response to `disconnect`.
-fn add_farewell(alloc: Global, lines: &mut Lines, earlier: Earlier<'_>) -> Result<(), AllocError>
-    requires { IsSound earlier.limits }
-{
-    match find(alloc, earlier, Sought::Farewell)? {
-        Some(Found { number, .. }) => {
-            lines.add(&format!(in alloc; "that response is record {number}")?)
-        }
-        None => Ok(()),
-    }
-}
-
-/// Adds a line on the earlier request that has the `seq` of this one.
-fn add_same_seq(
-    alloc: Global,
-    lines: &mut Lines,
-    earlier: Earlier<'_>,
-    head: &Head<'_>,
-) -> Result<(), AllocError>
-    requires { IsSound earlier.limits }
-{
-    let (Some(side), Some(seq)) = (head.side, head.seq) else {
-        return Ok(());
-    };
-    match find(alloc, earlier, Sought::Request(side, seq))? {
-        Some(Found { number, name }) => {
-            let name = Quoted(name.as_str());
-            lines.add(&format!(in alloc;
-                "seq {seq} is that of the request {name} in record {number}"
-            )?)
-        }
-        None => Ok(()),
-    }
-}
-
-/// Adds a line on the request that a response answers.
+/// Adds a line on the earlier request of a side that has a `seq`.
 fn add_request(
     alloc: Global,
     lines: &mut Lines,
     earlier: Earlier<'_>,
-    head: &Head<'_>,
+    side: Option<Side>,
+    seq: Option<i64>,
 ) -> Result<(), AllocError>
     requires { IsSound earlier.limits }
 {
-    let (Some(side), Some(seq)) = (head.side, head.request_seq) else {
+    let (Some(side), Some(seq)) = (side, seq) else {
         return Ok(());
     };
-    let side = other(side);
     match find(alloc, earlier, Sought::Request(side, seq))? {
-        Some(Found { number, name }) => {
-            let name = Quoted(name.as_str());
-            lines.add(&format!(in alloc;
-                "request {seq} of the {side} is {name}, in record {number}"
-            )?)
-        }
-        None => {
-            lines.add(&format!(in alloc;
-                "the {side} has sent no request with seq {seq} before it"
-            )?)
-        }
+        Some(record) => add_named(alloc, lines, record, side, seq),
+        None => add_no_request(lines, side, seq),
     }
+}
+
+/// Adds the line on a request that is not there.
+fn add_no_request(lines: &mut Lines, side: Side, seq: i64) -> Result<(), AllocError> {
+    lines.add_words(&[
+        Word::Text("the "),
+        Word::Side(side),
+        Word::Text(" sent no request with seq "),
+        Word::Seq(seq),
+        Word::Text(" before it"),
+    ])
+}
+
+/// Adds the line on a request that was found.
+fn add_named(
+    alloc: Global,
+    lines: &mut Lines,
+    record: RecordPart<'_>,
+    side: Side,
+    seq: i64,
+) -> Result<(), AllocError> {
+    match read_value(alloc, record.content)? {
+        Some(message) => {
+            let head = Head::of(record.side, &message);
+            add_request_line(lines, record.number, head, side, seq)
+        }
+        None => Ok(()),
+    }
+}
+
+/// Adds the line that says which request has a `seq`.
+fn add_request_line(
+    lines: &mut Lines,
+    number: u64,
+    head: Head<'_>,
+    side: Side,
+    seq: i64,
+) -> Result<(), AllocError> {
+    lines.add_words(&[
+        Word::Text("the "),
+        Word::Side(side),
+        Word::Text("'s request with seq "),
+        Word::Seq(seq),
+        Word::Text(" is"),
+        Word::Named(head.name),
+        Word::Text(", in "),
+        Word::Record(number),
+    ])
 }
 
 /// Adds a line on the first response to the request that a response answers.
@@ -241,8 +233,11 @@ fn add_response(
         return Ok(());
     };
     match find(alloc, earlier, Sought::Response(side, seq))? {
-        Some(Found { number, .. }) => {
-            lines.add(&format!(in alloc; "record {number} is its first response")?)
+        Some(record) => {
+            lines.add_words(&[
+                Word::Record(record.number),
+                Word::Text(" is its first response"),
+            ])
         }
         None => Ok(()),
     }
@@ -261,17 +256,43 @@ fn add_earlier(
     match rule {
         Rule::EventFromClient | Rule::NotInitialized | Rule::ConfiguredEarly => Ok(()),
         Rule::StillInitializing | Rule::InitializeTwice => {
-            add_command(alloc, lines, earlier, "initialize")
+            let sought = Sought::Command("initialize");
+            let words = "the client's initialize request is ";
+            add_found(alloc, lines, earlier, sought, words)
         }
-        Rule::ConfiguredTwice => add_command(alloc, lines, earlier, "configurationDone"),
-        Rule::AfterDisconnect => add_farewell(alloc, lines, earlier),
-        Rule::SeqUsed => add_same_seq(alloc, lines, earlier, head),
-        Rule::NoRequest | Rule::OtherCommand => add_request(alloc, lines, earlier, head),
+        Rule::ConfiguredTwice => {
+            let sought = Sought::Command("configurationDone");
+            let words = "the client's configurationDone request is ";
+            add_found(alloc, lines, earlier, sought, words)
+        }
+        Rule::AfterDisconnect => {
+            add_found(alloc, lines, earlier, Sought::Farewell, "that response is ")
+        }
+        Rule::SeqUsed => add_request(alloc, lines, earlier, head.side, head.seq),
+        Rule::NoRequest | Rule::OtherCommand => {
+            add_request(alloc, lines, earlier, other(head.side), head.request_seq)
+        }
         Rule::AnsweredTwice => {
-            add_request(alloc, lines, earlier, head)?;
+            add_request(alloc, lines, earlier, other(head.side), head.request_seq)?;
             add_response(alloc, lines, earlier, head)
         }
     }
+}
+
+/// Adds the lines on a message that violates a rule of its session.
+fn add_violation(
+    alloc: Global,
+    lines: &mut Lines,
+    earlier: Earlier<'_>,
+    head: &Head<'_>,
+    rule: Rule,
+) -> Result<(), AllocError>
+    requires { IsSound earlier.limits }
+{
+    add_head(lines, earlier.before, head)?;
+    add_rule(lines, rule)?;
+    add_earlier(alloc, lines, earlier, head, rule)?;
+    add_advice(lines, rule)
 }
 
 /// Explains that the message of a record violates a rule of its session.
@@ -290,12 +311,11 @@ pub(crate) fn explain_rule(
         before: record.number,
         limits,
     };
-    if let Some(message) = read_value(alloc, record.content)? {
-        let head = Head::of(record.side, &message);
-        add_head(alloc, lines, record.number, &head)?;
-        add_rule(lines, rule)?;
-        add_earlier(alloc, lines, earlier, &head, rule)?;
-        add_advice(lines, rule)?;
+    match read_value(alloc, record.content)? {
+        Some(message) => {
+            let head = Head::of(record.side, &message);
+            add_violation(alloc, lines, earlier, &head, rule)
+        }
+        None => Ok(()),
     }
-    Ok(())
 }

@@ -3,10 +3,11 @@ ghost use Rattle.std.specs.Prelude.{◌≡◌};
 ghost use Rattle.dap_frame.specs.Limits.{IsSound};
 
 use crate::frame_faults::{BadFrame, explain_frame};
+use crate::header::KEEP_LINE_ENDS;
 use crate::likeness::{Expected, add_likeness, count_of, first_line, likeness_of, number_of};
 use crate::lines::Lines;
 use crate::pieces::{PieceParts, bytes_from};
-use crate::shown::Bytes;
+use crate::words::Word;
 use dap_frame::{FrameFault, FrameLimits, Framer};
 use dap_recording::{RecorderFault, TraceCause, TraceReader};
 use dap_tree::Side;
@@ -15,80 +16,113 @@ use std::alloc::{AllocError, Global};
 /// Whether the first piece of some bytes is refused for this cause.
 fn is_refused(bytes: &[u8], cause: TraceCause) -> bool {
     let mut reader = TraceReader::new();
-    let found = match reader.feed(bytes) {
-        Err(fault) => Some(fault.cause),
-        Ok(_) => reader.finish().err().map(|fault| fault.cause),
-    };
-    found == Some(cause)
+    match reader.feed(bytes) {
+        Err(fault) => fault.cause == cause,
+        Ok(_) => match reader.finish() {
+            Err(fault) => fault.cause == cause,
+            Ok(()) => false,
+        },
+    }
 }
 
 /// Adds the lines on a piece that does not begin as a piece does.
-fn add_bad_piece(
-    alloc: Global,
-    lines: &mut Lines,
-    number: u64,
-    bytes: &[u8],
-) -> Result<(), AllocError> {
-    let shown = Bytes(bytes);
-    lines.add(&format!(in alloc; "piece {number} begins {shown}")?)?;
+fn add_bad_piece(lines: &mut Lines, number: u64, bytes: &[u8]) -> Result<(), AllocError> {
+    lines.add_words(&[
+        Word::Text("piece "),
+        Word::Number(number),
+        Word::Text(" begins "),
+        Word::Bytes(bytes),
+    ])?;
     lines.add("a piece begins with > or <, its length in decimal digits without leading 0, and LF")
 }
 
-/// Adds the line on a piece that has not ended.
-fn add_cut(alloc: Global, lines: &mut Lines, number: u64, bytes: &[u8]) -> Result<(), AllocError> {
-    let behind = match bytes {
-        [_, behind @ ..] => behind,
+/// Adds the lines on a piece that does not begin with a marker.
+fn add_bad_marker(lines: &mut Lines, number: u64, bytes: &[u8]) -> Result<(), AllocError> {
+    add_bad_piece(lines, number, bytes)?;
+    if number > 1 {
+        lines.add("the length of the piece before it may be wrong: it counts bytes")
+    } else {
+        Ok(())
+    }
+}
+
+/// Adds the lines on a piece whose length is not a number.
+fn add_bad_count(lines: &mut Lines, number: u64, bytes: &[u8]) -> Result<(), AllocError> {
+    add_bad_piece(lines, number, bytes)?;
+    if first_line(bytes).ends_with(b"\r") {
+        lines.add("line ends may have been converted")?;
+        lines.add(KEEP_LINE_ENDS)
+    } else {
+        Ok(())
+    }
+}
+
+/// Adds the lines on a piece that has not ended.
+fn add_cut(lines: &mut Lines, number: u64, bytes: &[u8]) -> Result<(), AllocError> {
+    let after = match bytes {
+        [_, after @ ..] => after,
         [] => bytes,
     };
-    let Some(digits) = count_of(behind) else {
-        let shown = Bytes(bytes);
-        return lines.add(&format!(in alloc;
-            "the trace ends in the count of piece {number}: {shown}"
-        )?);
+    let Some(digits) = count_of(after) else {
+        return add_cut_length(lines, number, bytes);
     };
     let count = number_of(digits);
-    let came = behind
+    let came = after
         .len()
-        .saturating_sub(first_line(behind).len())
+        .saturating_sub(first_line(after).len())
         .saturating_sub(1);
-    let missing = count.saturating_sub(came as u64);
-    lines.add(&format!(in alloc;
-        "piece {number} has {count} bytes, and {missing} of them are missing"
-    )?)
+    lines.add_words(&[
+        Word::Text("piece "),
+        Word::Number(number),
+        Word::Text(" has "),
+        Word::Number(count),
+        Word::Text(" bytes, and "),
+        Word::Number(count.saturating_sub(came as u64)),
+        Word::Text(" of them are missing"),
+    ])?;
+    lines.add("the program that wrote the input may have been stopped early")
+}
+
+/// Adds the lines on a piece whose length has not ended.
+fn add_cut_length(lines: &mut Lines, number: u64, bytes: &[u8]) -> Result<(), AllocError> {
+    lines.add_words(&[
+        Word::Text("the trace ends in the length of piece "),
+        Word::Number(number),
+        Word::Text(": "),
+        Word::Bytes(bytes),
+    ])?;
+    lines.add("the program that wrote the input may have been stopped early")
 }
 
 /// Explains that the bytes of a piece are not a piece of a trace.
 pub(crate) fn explain_piece(
-    alloc: Global,
     lines: &mut Lines,
     trace: &[u8],
     number: u64,
     cause: TraceCause,
 ) -> Result<(), AllocError> {
-    let bytes = match bytes_from(trace, number) {
-        Some(bytes) if is_refused(bytes, cause) => bytes,
-        _ => return Ok(()),
-    };
-    match likeness_of(trace, Expected::Trace) {
-        Some(likeness) if number == 1 => return add_likeness(alloc, lines, trace, likeness),
-        _ => {}
+    match bytes_from(trace, number) {
+        Some(bytes) if is_refused(bytes, cause) => {
+            match likeness_of(trace, Expected::Trace) {
+                Some(likeness) if number == 1 => add_likeness(lines, trace, likeness),
+                _ => add_cause(lines, number, bytes, cause),
+            }
+        }
+        _ => Ok(()),
     }
+}
+
+/// Adds the lines on the cause for which a piece is refused.
+fn add_cause(
+    lines: &mut Lines,
+    number: u64,
+    bytes: &[u8],
+    cause: TraceCause,
+) -> Result<(), AllocError> {
     match cause {
-        TraceCause::BadMarker => {
-            add_bad_piece(alloc, lines, number, bytes)?;
-            if number > 1 {
-                lines.add("the count of the piece before it may be wrong: it counts bytes")?;
-            }
-            Ok(())
-        }
-        TraceCause::BadCount => {
-            add_bad_piece(alloc, lines, number, bytes)?;
-            if first_line(bytes).ends_with(b"\r") {
-                lines.add("line ends may have been converted: git needs -text in .gitattributes")?;
-            }
-            Ok(())
-        }
-        TraceCause::Cut => add_cut(alloc, lines, number, bytes),
+        TraceCause::BadMarker => add_bad_marker(lines, number, bytes),
+        TraceCause::BadCount => add_bad_count(lines, number, bytes),
+        TraceCause::Cut => add_cut(lines, number, bytes),
     }
 }
 
@@ -172,14 +206,13 @@ pub(crate) fn explain_recorder(
         return Ok(());
     };
     let frame = frame_in_piece(alloc, trace, number, side, limits)?;
-    let name = format!(in alloc; "the frame of the {side}")?;
     let bad = BadFrame {
-        name: name.as_str(),
+        name: Word::FrameOf(side),
         front: frame.front.as_slice(),
         len: frame.len,
     };
     match frame.framer.finish() {
-        Err(found) if found == fault => explain_frame(alloc, lines, bad, fault, limits),
+        Err(found) if found == fault => explain_frame(lines, bad, fault, limits),
         _ => Ok(()),
     }
 }

@@ -4,7 +4,7 @@ ghost use Rattle.dap_frame.specs.Limits.{IsSound};
 use crate::head::{Head, read_value};
 use crate::lines::Lines;
 use crate::records::{Form, RecordPart, RecordParts};
-use crate::shown::Quoted;
+use crate::words::Word;
 use dap_frame::FrameLimits;
 use dap_profile::Kind;
 use dap_tree::Side;
@@ -41,24 +41,31 @@ impl Answered {
     }
 }
 
-/// The requests of a recording that have a response.
-fn answered_requests(
+/// Notes the request that the message of a record answers.
+fn note_message(
     alloc: Global,
+    answered: &mut Answered,
+    record: RecordPart<'_>,
+) -> Result<(), AllocError> {
+    match read_value(alloc, record.content)? {
+        Some(message) => answered.note(&Head::of(record.side, &message)),
+        None => Ok(()),
+    }
+}
+
+/// Notes the requests of a recording that have a response.
+fn note_messages(
+    alloc: Global,
+    answered: &mut Answered,
     input: &[u8],
     limits: FrameLimits,
-) -> Result<Answered, AllocError>
+) -> Result<(), AllocError>
     requires { IsSound limits }
 {
-    let mut answered = Answered {
-        client: BTreeSet::new(alloc),
-        adapter: BTreeSet::new(alloc),
-    };
     for record in RecordParts::new(alloc, Form::Recording, input, limits) {
-        if let Some(message) = read_value(alloc, record.content)? {
-            answered.note(&Head::of(record.side, &message))?;
-        }
+        note_message(alloc, answered, record)?;
     }
-    Ok(answered)
+    Ok(())
 }
 
 /// Adds a line on the request of a record, if it has no response. Returns whether it did.
@@ -68,22 +75,62 @@ fn add_unanswered(
     record: RecordPart<'_>,
     answered: &Answered,
 ) -> Result<bool, AllocError> {
-    let Some(message) = read_value(alloc, record.content)? else {
-        return Ok(false);
-    };
-    let head = Head::of(record.side, &message);
+    match read_value(alloc, record.content)? {
+        Some(message) => {
+            let head = Head::of(record.side, &message);
+            add_if_unanswered(lines, record.number, &head, answered)
+        }
+        None => Ok(false),
+    }
+}
+
+/// Adds a line on a message, if it is a request that has no response. Returns whether it did.
+fn add_if_unanswered(
+    lines: &mut Lines,
+    number: u64,
+    head: &Head<'_>,
+    answered: &Answered,
+) -> Result<bool, AllocError> {
     let (Some(side), Some(seq), Some(name)) = (head.side, head.seq, head.name) else {
         return Ok(false);
     };
     if head.kind != Some(Kind::Request) || answered.has(side, seq) {
         return Ok(false);
     }
-    let name = Quoted(name);
-    let number = record.number;
-    lines.add(&format!(in alloc;
-        "request {seq} of the {side}, {name} in record {number}, has no response"
-    )?)?;
+    lines.add_words(&[
+        Word::Text("the "),
+        Word::Side(side),
+        Word::Text("'s request "),
+        Word::Quoted(name),
+        Word::Text(" with seq "),
+        Word::Seq(seq),
+        Word::Text(", in "),
+        Word::Record(number),
+        Word::Text(", has no response"),
+    ])?;
     Ok(true)
+}
+
+/// Adds lines on the first five requests without a response. Returns how many lines it added.
+fn add_first(
+    alloc: Global,
+    lines: &mut Lines,
+    input: &[u8],
+    answered: &Answered,
+    limits: FrameLimits,
+) -> Result<usize, AllocError>
+    requires { IsSound limits }
+{
+    let mut named = 0usize;
+    for record in RecordParts::new(alloc, Form::Recording, input, limits) {
+        if named == NAMED {
+            break;
+        }
+        if add_unanswered(alloc, lines, record, answered)? {
+            named = named.saturating_add(1);
+        }
+    }
+    Ok(named)
 }
 
 /// Explains that requests have no response: names the first five, of this many.
@@ -96,19 +143,24 @@ pub(crate) fn explain_incomplete(
 ) -> Result<(), AllocError>
     requires { IsSound limits }
 {
-    let answered = answered_requests(alloc, input, limits)?;
-    let mut named = 0usize;
-    for record in RecordParts::new(alloc, Form::Recording, input, limits) {
-        if named == NAMED {
-            break;
-        }
-        if add_unanswered(alloc, lines, record, &answered)? {
-            named = named.saturating_add(1);
-        }
-    }
+    let mut answered = Answered {
+        client: BTreeSet::new(alloc),
+        adapter: BTreeSet::new(alloc),
+    };
+    note_messages(alloc, &mut answered, input, limits)?;
+    let named = add_first(alloc, lines, input, &answered, limits)?;
+    add_end(lines, named, count)
+}
+
+/// Adds the lines after the requests that are named: how many more there are, and what to do.
+fn add_end(lines: &mut Lines, named: usize, count: usize) -> Result<(), AllocError> {
     let more = count.saturating_sub(named);
     if named == NAMED && more > 0 {
-        lines.add(&format!(in alloc; "and {more} more")?)?;
+        lines.add_words(&[
+            Word::Text("and "),
+            Word::Number(more as u64),
+            Word::Text(" more"),
+        ])?;
     }
-    lines.add("let the client wait for each response, also to disconnect")
+    lines.add("wait for each response before the end, or accept open requests with golden --open")
 }
