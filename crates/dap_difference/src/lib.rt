@@ -10,5 +10,5 @@ mod lines;
 mod telling;
 
 pub use difference::{Difference, Step, Values};
-pub use lines::difference_text;
+pub use lines::{difference_text, push_path};
 pub use telling::differences;

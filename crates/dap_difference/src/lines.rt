@@ -91,8 +91,12 @@ fn push_steps(alloc: Global, steps: &[Step<'_>], out: &mut Vec<u8>) -> Result<()
     Ok(())
 }
 
-/// Appends a path, as `body.stackFrames[2].line`.
-fn push_path(alloc: Global, path: &[Step<'_>], out: &mut Vec<u8>) -> Result<(), AllocError>
+/// Appends a path, as `body.stackFrames[2].line`; `.` is the path of the whole document.
+///
+/// # Errors
+///
+/// An allocation failed.
+pub fn push_path(alloc: Global, path: &[Step<'_>], out: &mut Vec<u8>) -> Result<(), AllocError>
     ensures { OnOk result (out.new.items ≡ out.old.items ++ path_text (path_of path.now)) }
 {
     match path {

@@ -1,4 +1,12 @@
 pub mod AppendedLines
+pub mod EntryLines
+pub mod Framing
+pub mod RecordAnswers
 pub mod ShowingFacts
 pub mod ShowingLoop
 pub mod ShownInputs
+pub mod Stopping
+pub mod TreeLines
+pub mod ViewedInputs
+pub mod ViewingFacts
+pub mod ViewingLoop

@@ -1,2 +1,9 @@
+pub mod Indented
+pub mod Leaves
+pub mod OneRecord
+pub mod OneRecordSteps
 pub mod Showing
 pub mod ShowingSteps
+pub mod Stopping
+pub mod Viewing
+pub mod ViewingSteps

@@ -1,8 +1,21 @@
-//! Recordings shown in lines.
+//! Recordings printed for a reader: in lines, with their faults, or one content as indented JSON.
+//!
+//! [`show`] and [`show_with`] print the lines of a recording, [`show_faulty`] those of one with
+//! faults, and [`show_record`] one content. `specs/` says what they print.
 #![tactic(auto)]
 
+mod detail;
+mod entries;
+mod fault_words;
+mod indented;
 pub mod laws;
+mod leaves;
 mod message_lines;
+mod one_record;
 mod showing;
+mod viewing;
 
+pub use detail::{Detail, ShowRequest};
+pub use one_record::{RecordShown, show_record};
 pub use showing::show;
+pub use viewing::{show_faulty, show_with};

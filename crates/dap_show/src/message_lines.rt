@@ -5,6 +5,7 @@ ghost use Rattle.dap_message.specs.Message.{doc_of, sent};
 ghost use Rattle.dap_message.specs.ViewItems.{frame_shown, frames_left, scope_shown, scopes_left};
 ghost use Rattle.dap_message.specs.ViewItems.{variable_shown, variables_left};
 ghost use Rattle.dap_show.specs.Showing.{answered_words, frame_line, in_quotes, kind_word};
+ghost use Rattle.dap_show.specs.Showing.{listed_lines};
 ghost use Rattle.dap_show.specs.Showing.{message_line, message_lines, outcome_words, place_words};
 ghost use Rattle.dap_show.specs.Showing.{scope_line, side_words, start_words, success_words};
 ghost use Rattle.dap_show.specs.Showing.{title_words, variable_line};
@@ -17,7 +18,11 @@ use itoa::{Buffer, Integer};
 use std::alloc::{AllocError, Global};
 
 /// Appends a word and a number.
-fn push_number<I: Integer>(out: &mut String, word: &str, number: I) -> Result<(), AllocError>
+pub(crate) fn push_number<I: Integer>(
+    out: &mut String,
+    word: &str,
+    number: I,
+) -> Result<(), AllocError>
     ensures { OnOk result (string_bytes out.new
         ≡ string_bytes out.old ++ word.now ++ I.text number) }
 {
@@ -161,7 +166,7 @@ fn push_success(out: &mut String, success: Option<bool>) -> Result<(), AllocErro
 }
 
 /// Appends the number of a record and the marker of its side.
-fn push_start(out: &mut String, number: u64, side: Side) -> Result<(), AllocError>
+pub(crate) fn push_start(out: &mut String, number: u64, side: Side) -> Result<(), AllocError>
     ensures { OnOk result (string_bytes out.new ≡ string_bytes out.old ++ start_words number side) }
 {
     push_number(out, "", number)?;
@@ -187,7 +192,7 @@ fn push_outcome(out: &mut String, message: &Message) -> Result<(), AllocError>
 }
 
 /// Appends the line of a message behind the number of its record.
-fn push_message(
+pub(crate) fn push_message(
     alloc: Global,
     out: &mut String,
     number: u64,
@@ -213,6 +218,18 @@ pub fn push_lines(
         ≡ string_bytes out.old ++ message_lines number (sent message.now)) }
 {
     push_message(alloc, out, number, message)?;
+    push_listed(alloc, out, message)
+}
+
+/// Appends the lines of what a message lists.
+pub(crate) fn push_listed(
+    alloc: Global,
+    out: &mut String,
+    message: &Message,
+) -> Result<(), AllocError>
+    ensures { OnOk result (string_bytes out.new
+        ≡ string_bytes out.old ++ listed_lines (doc_of message.now)) }
+{
     push_frames(alloc, out, message.frames())?;
     push_scopes(alloc, out, message.scopes())?;
     push_variables(alloc, out, message.variables())

@@ -1,0 +1,232 @@
+-- The lines of entries, the messages that they keep, and their first refusal, with one entry more.
+use Rattle.std.proofs.Common.{◌≡◌, ◌≢◌, ℕ, ◌+◌, ◌<◌, ◌≤◌, Bool, true, false, List, [], ◌∷◌, ◌++◌}
+use Rattle.std.proofs.Common.{length, Option, Some, None, refl, sym, ◌∙◌, ap, subst}
+use Rattle.std.proofs.Common.{arith, append_assoc, append-nil, length-append}
+use Rattle.std.proofs.lemmas.Bool.Decides.{nat_tests}
+use Rattle.std.proofs.lemmas.List.Concat.{flat_map-append}
+use Rattle.dap_message.specs.Message.{Refusal, no_reading, fraction, faulty}
+use Rattle.dap_recording.specs.declared.record_fault.RecordCause.TheVariants as cause
+use Rattle.dap_input.specs.Refusals.{RefusesHeld}
+use Rattle.dap_input.specs.declared.limits.Limits.{Limits}
+use Rattle.dap_input.specs.declared.refused.Refused.{Refused}
+use Rattle.dap_input.specs.declared.refused.Refused.TheVariants as because
+use Rattle.dap_message.specs.Message.{HasRefusal, Sent}
+use Rattle.dap_normal.specs.Accepting.{Held, HoldsNoMessage, IsMessage}
+use Rattle.dap_show.specs.Showing.{start_words}
+use Rattle.dap_session.specs.Kept.{Kept}
+use Rattle.dap_session.specs.declared.rule.Rule.{Rule}
+use Rattle.dap_tree.specs.Doc.{Doc}
+use Rattle.dap_tree.specs.Json.{IsRead}
+use Rattle.dap_show.specs.Viewing.{Entry, Fits, Objects, entry_lines, first_refusal, fits_in, kept}
+use Rattle.dap_show.specs.Viewing.{IsEntry, detail_lines, fault_words, head_lines, kept_of}
+use Rattle.dap_show.specs.Viewing.{lines_of, or_else, refusal_at, refusal_of, refused_words}
+use Rattle.dap_show.specs.Viewing.{rule_refusal, typed, untyped}
+use Rattle.dap_show.specs.ViewingSteps.{IsEntered, IsJudged, StandsIf}
+use Rattle.dap_show.specs.declared.detail.Detail.{Detail}
+use Rattle.dap_show.specs.declared.detail.Detail.TheVariants.{Lists, Leaves}
+
+pub lines_push : (detail : Detail) (n k : ℕ) (entries : List Entry) (e : Entry)
+    → k ≡ length entries + n
+    → lines_of detail n (entries ++ e ∷ []) ≡ lines_of detail n entries ++ entry_lines detail k e
+lines_push detail n k [] e is =
+    let same : n ≡ k = omega (arith, is) in
+    append-nil (entry_lines detail n e) ∙ ap (λ i. entry_lines detail i e) same
+lines_push detail n k (first ∷ entries) e is =
+    let later = lines_push detail (n + 1) k entries e (omega (arith, is)) in
+    ap (λ t. entry_lines detail n first ++ t) later
+    ∙ sym (append_assoc (entry_lines detail n first) (lines_of detail (n + 1) entries)
+    (entry_lines detail k e))
+
+or_none : (o : Option Refused) → or_else o None ≡ o
+or_none None = refl
+or_none (Some refused) = refl
+
+or_assoc : (o p q : Option Refused) → or_else o (or_else p q) ≡ or_else (or_else o p) q
+or_assoc None p q = refl
+or_assoc (Some refused) p q = refl
+
+pub refusal_push : (n k : ℕ) (entries : List Entry) (e : Entry) → k ≡ length entries + n
+    → first_refusal n (entries ++ e ∷ []) ≡ or_else (first_refusal n entries) (refusal_at k e)
+refusal_push n k [] e is =
+    let same : n ≡ k = omega (arith, is) in
+    or_none (refusal_at n e) ∙ ap (λ i. refusal_at i e) same
+refusal_push n k (first ∷ entries) e is =
+    ap (or_else (refusal_at n first)) (refusal_push (n + 1) k entries e (omega (arith, is)))
+    ∙ or_assoc (refusal_at n first) (first_refusal (n + 1) entries) (refusal_at k e)
+
+pub kept_push : (entries : List Entry) (e : Entry)
+    → kept (entries ++ e ∷ []) ≡ kept entries ++ kept_of e
+kept_push entries e =
+    flat_map-append kept_of entries (e ∷ []) ∙ ap (λ t. kept entries ++ t) (append-nil (kept_of e))
+
+-- ---- what fits
+
+-- a text that is longer than the limit does not fit
+pub not_within : (limit n : ℕ) → limit < n → fits_in Leaves limit n ≡ false
+not_within limit n past = grind (arith, nat_tests)
+
+-- a part of a text that fits, fits
+pub part_fits : (detail : Detail) (limit m n : ℕ) → m ≤ n → fits_in detail limit m ≡ false
+    → fits_in detail limit n ≡ false
+part_fits Lists limit m n le past = past
+part_fits Leaves limit m n le past = grind (arith, nat_tests)
+
+-- ---- what a record is refused for
+
+-- A record that holds no message is refused for that.
+pub record Untyped (held : Held) (n : ℕ) (refused : Refused) : Type 0 where
+  pub why : Refusal
+  pub has : HasRefusal held.1 why
+  pub refused_is : refused ≡ refusal_of n why
+
+pub untyped_for : (held : Held) (n : ℕ) (refused : Refused)
+    → RefusesHeld (HoldsNoMessage held) n refused → refused ≢ because.Memory
+    → Untyped held n refused
+untyped_for held n (because.Json m) (same, has) other =
+    record { why = no_reading; has = has; refused_is = ap because.Json same }
+untyped_for held n (because.Fraction m) (same, has) other =
+    record { why = fraction; has = has; refused_is = ap because.Fraction same }
+untyped_for held n (because.Message m fault) (same, has) other =
+    record {
+      why = faulty fault;
+      has = has;
+      refused_is = ap (λ k. because.Message k fault) same;
+    }
+untyped_for held n because.Memory h other = absurd (other refl)
+untyped_for held n (because.Record m cause.Cut) h other = absurd h.1
+untyped_for held n (because.Record m cause.Memory) h other = absurd h
+untyped_for held n (because.Record m why) h other = absurd h.1
+untyped_for held n (because.InputTooLong m) h other = absurd h.1
+untyped_for held n (because.Rule m rule) h other = absurd h.1
+untyped_for held n (because.TooManyIds m) h other = absurd h.1
+untyped_for held n (because.Grew m) h other = absurd h.1
+untyped_for held n refused h other = absurd h
+
+-- If faults are not marked, that refuses the record.
+pub refused_strictly : (detail : Detail) (limits : Limits) (before : List Entry) (held : Held)
+    (n : ℕ) (refused : Refused) → RefusesHeld (HoldsNoMessage held) n refused
+    → RefusesHeld (Objects false detail limits before held) n refused
+refused_strictly detail limits before held n (because.Json m) (same, has) = (same, (refl, has))
+refused_strictly detail limits before held n (because.Fraction m) (same, has) = (same, (refl, has))
+refused_strictly detail limits before held n (because.Message m fault) (same, has) =
+    (same, (refl, has))
+refused_strictly detail limits before held n because.Memory h = tt
+refused_strictly detail limits before held n (because.Record m cause.Cut) h = h
+refused_strictly detail limits before held n (because.Record m cause.Memory) h = h
+refused_strictly detail limits before held n (because.Record m why) h = h
+refused_strictly detail limits before held n (because.InputTooLong m) h = h
+refused_strictly detail limits before held n (because.Rule m rule) h = absurd h.1
+refused_strictly detail limits before held n (because.TooManyIds m) h = absurd h.1
+refused_strictly detail limits before held n (because.Grew m) h = absurd h.1
+refused_strictly detail limits before held n refused h = h
+
+-- ---- one entry more
+
+module _ (detail : Detail) (limits : Limits) (before : List Entry) (number : ℕ)
+    (number_is : number ≡ length before + 1) (old : List ℕ)
+    (old_is : old ≡ lines_of detail 1 before) where
+  entered_lines : (e : Entry) (new : List ℕ) → new ≡ old ++ entry_lines detail number e
+      → new ≡ lines_of detail 1 (before ++ e ∷ [])
+  entered_lines e new is =
+      is ∙ ap (λ t. t ++ entry_lines detail number e) old_is
+      ∙ sym (lines_push detail 1 number before e number_is)
+
+  not_fitting : (marks_faults : Bool) (e : Entry) (new : List ℕ)
+      → new ≡ old ++ entry_lines detail number e
+      → fits_in detail limits.input (length new) ≡ false
+      → Fits marks_faults detail limits (before ++ e ∷ []) → ⊥
+  not_fitting marks_faults e new is past fits =
+      let same = ap (λ t. fits_in detail limits.input (length t)) (entered_lines e new is) in
+      (let clash : false ≡ true = sym past ∙ same ∙ fits in cc)
+
+  fitting : (marks_faults : Bool) (e : Entry) (new : List ℕ)
+      → new ≡ old ++ entry_lines detail number e
+      → fits_in detail limits.input (length new) ≡ true
+      → Fits marks_faults detail limits (before ++ e ∷ [])
+  fitting marks_faults e new is fits =
+      sym (ap (λ t. fits_in detail limits.input (length t)) (entered_lines e new is)) ∙ fits
+
+  -- a record that holds no message
+  module _ (held : Held) (refused : Refused)
+      (told : RefusesHeld (HoldsNoMessage held) number refused) (other : refused ≢ because.Memory)
+      (new : List ℕ)
+      (new_is : new ≡ old ++ (start_words number held.0 ++ fault_words (refused_words refused)))
+    where
+      abbrev here : Untyped held number refused
+      here = untyped_for held number refused told other
+
+      abbrev entry : Entry
+      entry = untyped held.0 here.why
+
+      lines_are : new ≡ old ++ entry_lines detail number entry
+      lines_are =
+          new_is ∙ ap (λ r. old ++ (start_words number held.0 ++ fault_words (refused_words r)))
+          here.refused_is
+
+      pub entered_untyped : (session : Kept) → StandsIf true session (kept before)
+          → fits_in detail limits.input (length new) ≡ true
+          → IsEntered true detail limits before number held session new (Some refused)
+      entered_untyped session stands fits = record {
+        entry = entry;
+        is_next = ((refl, refl, here.has), fitting true entry new lines_are fits);
+        session_is = subst (StandsIf true session)
+            (sym (kept_push before entry ∙ append-nil (kept before))) stands;
+        lines_are = entered_lines entry new lines_are;
+        refusal_is = ap Some here.refused_is;
+      }
+
+      pub grown_untyped : fits_in detail limits.input (length new) ≡ false
+          → (number ≡ number) × ((e : Entry) × IsEntry true detail limits before held e
+          × (Fits true detail limits (before ++ e ∷ []) → ⊥))
+      grown_untyped past = (
+        refl,
+        (entry, (refl, refl, here.has), not_fitting true entry new lines_are past),
+      )
+
+  -- a record that holds a message
+  module _ (marks_faults : Bool) (held : Held) (message : Sent) (d : Doc) (rule : Option Rule)
+      (session : Kept) (is : IsMessage held message) (reads : IsRead held.1 d)
+      (judged : IsJudged marks_faults (kept before) message rule session) (mid : List ℕ)
+      (mid_is : mid ≡ old ++ head_lines number message rule) where
+    is_entry : IsEntry marks_faults detail limits before held (typed message d rule)
+    is_entry = (is, reads, judged.0)
+
+    abbrev this : Entry
+    this = typed message d rule
+
+    message_lines_are : (new : List ℕ) → new ≡ mid ++ detail_lines detail message d
+        → new ≡ old ++ entry_lines detail number this
+    message_lines_are new new_is =
+        new_is ∙ ap (λ t. t ++ detail_lines detail message d) mid_is
+        ∙ append_assoc old (head_lines number message rule) (detail_lines detail message d)
+
+    pub entered_typed : (new : List ℕ) → new ≡ mid ++ detail_lines detail message d
+        → fits_in detail limits.input (length new) ≡ true
+        → IsEntered marks_faults detail limits before number held session new
+        (rule_refusal number rule)
+    entered_typed new new_is fits = record {
+      entry = this;
+      is_next = (is_entry, fitting marks_faults this new (message_lines_are new new_is) fits);
+      session_is = subst (StandsIf marks_faults session) (sym (kept_push before this)) judged.1;
+      lines_are = entered_lines this new (message_lines_are new new_is);
+      refusal_is = refl;
+    }
+
+    pub grown_typed : (new : List ℕ) → new ≡ mid ++ detail_lines detail message d
+        → fits_in detail limits.input (length new) ≡ false
+        → (number ≡ number) × ((e : Entry) × IsEntry marks_faults detail limits before held e
+        × (Fits marks_faults detail limits (before ++ e ∷ []) → ⊥))
+    grown_typed new new_is past = (
+      refl,
+      (this, is_entry, not_fitting marks_faults this new (message_lines_are new new_is) past),
+    )
+
+    -- the lines under the first one were not appended to their end
+    pub grown_detail : fits_in detail limits.input
+        (length mid + length (detail_lines detail message d)) ≡ false
+        → (number ≡ number) × ((e : Entry) × IsEntry marks_faults detail limits before held e
+        × (Fits marks_faults detail limits (before ++ e ∷ []) → ⊥))
+    grown_detail past =
+        grown_typed (mid ++ detail_lines detail message d) refl
+        (ap (fits_in detail limits.input) (length-append mid (detail_lines detail message d))
+        ∙ past)

@@ -1,0 +1,85 @@
+-- Where an engine stops that reads an input no further than it has to.
+use Rattle.std.proofs.Common.{◌≡◌, ℕ, ◌+◌, ◌≤◌, List, ◌++◌, length, Option, Some, None, Result, Ok}
+use Rattle.std.proofs.Common.{Err, ◌∙◌, ap, arith, append_assoc}
+use Rattle.dap_device.specs.declared.device.Source.{Ghosts as Source}
+use Rattle.dap_device.specs.declared.reading.Stop.{Stop}
+use Rattle.dap_device.specs.declared.reading.Stop.TheVariants.{End, Full, Failed}
+use Rattle.dap_items.specs.Items.{Items}
+use Rattle.dap_recording.specs.declared.record_fault.RecordCause.{RecordCause}
+use Rattle.dap_recording.specs.declared.record_fault.RecordCause.TheVariants.{Cut}
+use Rattle.dap_input.specs.InputSteps.{Says}
+use Rattle.dap_input.specs.Judging.{Judging}
+use Rattle.dap_input.specs.RecordSteps.{IsWithin, ReadsNext}
+use Rattle.dap_input.specs.Refusals.{RefusesHeld}
+use Rattle.dap_input.specs.declared.records.Records.{Records}
+use Rattle.dap_input.specs.declared.refused.Refused.{Refused}
+use Rattle.dap_input.specs.declared.refused.Refused.TheVariants.{Record}
+use Rattle.dap_input.proofs.Coming.{came_on}
+use Rattle.dap_input.proofs.InputLoop.{ReadsAs}
+use Rattle.dap_input.proofs.InputSteps as steps
+use Rattle.dap_input.proofs.WholeInputs.{Going}
+use Rattle.dap_show.specs.Stopping.{StopsAt}
+
+module _ {I A R : Type 0} (j : Judging) (g : Items A RecordCause) (held_of : A → j.Held)
+    (facts : ReadsAs j g held_of) (stands : I → List ℕ → Type 0) (source : Source R)
+    (start reader : R) (records : Records I) (values : List j.Value)
+    (was : Going j stands source start reader records values) (new : Records I) (after : R) where
+  abbrev pub Reads : Result (Option A) Refused → Type 0
+  Reads answer = ReadsNext g stands source records new reader after answer
+
+  -- It stops at the next record, of which this is said.
+  abbrev pub stops : (answer : Result (Option A) Refused) (read : Reads answer) (because : Refused)
+      → Says j (was.bytes ++ read.more) read.stop records.number because
+      × ((n : ℕ) → because ≡ Record n Cut → read.stop ≡ Some End)
+      → StopsAt j source start after because
+  stops answer read because told = record {
+    bytes = was.bytes ++ read.more;
+    stop = read.stop;
+    came = came_on source start reader after was.bytes read.more read.stop was.came read.came;
+    within = steps.within j g held_of facts stands source was.bytes records values was.behind new
+        reader after answer read;
+    number = records.number;
+    before = record {
+      values = values;
+      front = was.behind.front;
+      rest = records.pieces.unread ++ read.more;
+      split = ap (λ t. t ++ read.more) was.behind.came
+          ∙ append_assoc was.behind.front records.pieces.unread read.more;
+      accepted = was.behind.accepted;
+      is_number = was.behind.number_is;
+    };
+    says = told.0;
+    cut = told.1;
+  }
+
+  -- The next record is not read.
+  abbrev pub stops_read : (because : Refused) → Reads (Err because)
+      → StopsAt j source start after because
+  stops_read because read =
+      stops (Err because) read because
+      (steps.refused_read j g held_of facts stands source was.bytes records values was.behind new
+      reader after because read)
+
+  -- It is refused for what it holds.
+  abbrev pub stops_held : (whole : A) → Reads (Ok (Some whole)) → (because : Refused)
+      → RefusesHeld (j.Objects values (held_of whole)) records.number because
+      → StopsAt j source start after because
+  stops_held whole read because refuses =
+      stops (Ok (Some whole)) read because
+      (steps.refused_held j g held_of facts stands source was.bytes records values was.behind new
+      reader after whole read because refuses)
+
+within_one : (taken limit : ℕ) (stop : Option Stop) → IsWithin taken limit stop → taken ≤ limit + 1
+within_one taken limit None le = omega (arith, le)
+within_one taken limit (Some End) le = omega (arith, le)
+within_one taken limit (Some Failed) le = omega (arith, le)
+within_one taken limit (Some Full) is = omega (arith, is)
+
+-- At most one byte past the limit was taken.
+pub stopped_taken : {R : Type 0} (j : Judging) (source : Source R) (old new : R)
+    (because : Refused) → StopsAt j source old new because
+    → source.given new ≤ source.given old + j.input + 1
+stopped_taken j source old new because at =
+    let counted = at.came.counted in
+    let most = within_one (length at.bytes) j.input at.stop at.within in
+    omega (arith, counted, most)

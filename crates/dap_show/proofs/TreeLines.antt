@@ -1,0 +1,147 @@
+-- The lines of trees with parts, and what one part leaves of them.
+use Rattle.std.proofs.Common.{◌≡◌, ℕ, zero, suc, ◌+◌, ◌<◌, Bool, true, false, nat_eq, List, []}
+use Rattle.std.proofs.Common.{◌∷◌, ◌++◌, length, codes, String, refl, sym, ◌∙◌, ap, arith}
+use Rattle.std.proofs.Common.{append_assoc, append-nil, length-append, ap₂, drop, ◌≤◌, ◌↔◌, IsTrue}
+use Rattle.std.proofs.Common.{string_bytes, subst}
+use Rattle.std.proofs.lemmas.List.{drop_all, map-append}
+use Rattle.std.specs.Borrow.{Bor}
+use Rattle.std.specs.declared.alloc.Global.{Global}
+use Rattle.dap_tree.specs.Doc.{list, object}
+use Rattle.dap_tree.specs.Path.{Step, name, place}
+use Rattle.dap_tree.specs.View.{items_view, members_view, view}
+use Rattle.dap_tree.specs.declared.tree.Tree.{Tree}
+use Rattle.dap_difference.specs.Shown.{path_of, step_of}
+use Rattle.dap_difference.specs.declared.difference.Step.{Step as CodeStep}
+use Rattle.dap_difference.specs.declared.difference.Step.TheVariants.{Member, Item}
+use Rattle.dap_show.specs.Indented.{indented, inner, item_texts, member_texts, next_line}
+use Rattle.dap_show.specs.Leaves.{item_lines, leaf_lines, member_lines}
+
+-- what is not empty has some length
+pub not_none : (b : Bool) (m n : ℕ) → b ≡ nat_eq m 0 → b ≡ false → m ≡ n → 0 < n
+not_none b zero n is other same = absurd (let e : true ≡ false = sym is ∙ other in cc)
+not_none b (suc m) n is other same = omega arith
+
+pub not_none_if : (b : Bool) (n : ℕ) → IsTrue b ↔ (n ≡ 0) → b ≡ false → 0 < n
+not_none_if b zero iff other = absurd (let e : false ≡ true = sym other ∙ iff.1 refl in cc)
+not_none_if b (suc n) iff other = omega arith
+
+-- a list with items has the lines of its items
+pub list_lines : (p : List Step) (xs : List Tree) → 0 < length xs
+    → leaf_lines p (list (items_view xs)) ≡ item_lines p 0 (items_view xs)
+list_lines p [] some = absurd (omega arith)
+list_lines p (x ∷ xs) some = refl
+
+pub object_lines : (p : List Step) (ms : List (String Global × Tree)) → 0 < length ms
+    → leaf_lines p (object (members_view ms)) ≡ member_lines p (members_view ms)
+object_lines p [] some = absurd (omega arith)
+object_lines p (m ∷ ms) some = refl
+
+pub longer_path : (steps root : List CodeStep) (s : CodeStep) → steps ≡ root
+    → path_of (steps ++ s ∷ []) ≡ path_of root ++ step_of s ∷ []
+longer_path steps root s same =
+    map-append step_of steps (s ∷ []) ∙ ap (λ r. path_of r ++ step_of s ∷ []) same
+
+-- the text of one part was appended to what was before, and the rest is left
+pub one_part : (before after part rest left all : List ℕ) → after ≡ before ++ part
+    → left ≡ part ++ rest → before ++ left ≡ all → after ++ rest ≡ all
+one_part before after part rest left all is split was =
+    ap (λ t. t ++ rest) is ∙ append_assoc before part rest ∙ ap (λ t. before ++ t) (sym split) ∙ was
+
+-- what passes the limit with one part, passes it with all
+pub full_part : (limit : ℕ) (before part rest left old all : List ℕ)
+    → limit < length before + length part → left ≡ part ++ rest → before ++ left ≡ old ++ all
+    → limit < length old + length all
+full_part limit before part rest left old all full split was =
+    omega (
+      arith,
+      full,
+      ap length split,
+      length-append part rest,
+      ap length was,
+      length-append before left,
+      length-append old all,
+    )
+
+-- what passes the limit with the lines of an item, passes it with those of all items
+pub items_full : (limit : ℕ) (root steps pushed : List CodeStep) (xs : List Tree) (i : ℕ) (t : Tree)
+    (before old : List ℕ) → steps ≡ root → pushed ≡ steps ++ Item i ∷ []
+    → drop i xs ≡ t ∷ drop (suc i) xs
+    → before ++ item_lines (path_of root) i (items_view (drop i xs))
+    ≡ old ++ item_lines (path_of root) 0 (items_view xs)
+    → limit < length before + length (leaf_lines (path_of pushed) (view t))
+    → limit < length old + length (item_lines (path_of root) 0 (items_view xs))
+items_full limit root steps pushed xs i t before old same is there was full =
+    let p = path_of root in
+    full_part limit before (leaf_lines (p ++ place i ∷ []) (view t))
+    (item_lines p (suc i) (items_view (drop (suc i) xs))) (item_lines p i (items_view (drop i xs)))
+    old (item_lines p 0 (items_view xs))
+    (subst (λ q. limit < length before + length (leaf_lines q (view t)))
+    (ap path_of is ∙ longer_path steps root (Item i) same) full)
+    (ap (λ ts. item_lines p i (items_view ts)) there) was
+
+pub members_full : (limit : ℕ) (root steps pushed : List CodeStep) (s : Bor (List ℕ))
+    (key : String Global) (t : Tree) (all left more : List (String Global × Tree))
+    (before old : List ℕ) → steps ≡ root → pushed ≡ steps ++ Member s ∷ []
+    → s.now ≡ string_bytes key → left ≡ (key, t) ∷ more
+    → before ++ member_lines (path_of root) (members_view left)
+    ≡ old ++ member_lines (path_of root) (members_view all)
+    → limit < length before + length (leaf_lines (path_of pushed) (view t))
+    → limit < length old + length (member_lines (path_of root) (members_view all))
+members_full limit root steps pushed s key t all left more before old same is named next was full =
+    let p = path_of root in
+    full_part limit before (leaf_lines (p ++ name (string_bytes key) ∷ []) (view t))
+    (member_lines p (members_view more)) (member_lines p (members_view left)) old
+    (member_lines p (members_view all))
+    (subst (λ q. limit < length before + length (leaf_lines q (view t)))
+    (ap path_of is ∙ longer_path steps root (Member s) same
+    ∙ ap (λ k. p ++ name k ∷ []) named) full)
+    (ap (λ ms. member_lines p (members_view ms)) next) was
+
+-- ---- indented texts
+
+-- all items were appended
+pub filled_items : (before margin inside : List ℕ) (xs ys : List Tree) (i : ℕ)
+    (out begun : List ℕ) → length xs ≤ i → margin ≡ inside → xs ≡ ys
+    → out ++ item_texts before margin (items_view (drop i xs))
+    ≡ begun ++ item_texts [] margin (items_view xs)
+    → out ≡ begun ++ item_texts [] inside (items_view ys)
+filled_items before margin inside xs ys i out begun past same all was =
+    sym (append-nil out)
+    ∙ ap (λ ts. out ++ item_texts before margin (items_view ts)) (sym (drop_all i xs past)) ∙ was
+    ∙ ap₂ (λ m ts. begun ++ item_texts [] m (items_view ts)) same all
+
+pub filled_members : (before margin inside : List ℕ) (left all : List (String Global × Tree))
+    (out begun : List ℕ) → left ≡ [] → margin ≡ inside
+    → out ++ member_texts before margin (members_view left)
+    ≡ begun ++ member_texts [] margin (members_view all)
+    → out ≡ begun ++ member_texts [] inside (members_view all)
+filled_members before margin inside left all out begun none same was =
+    sym (append-nil out)
+    ∙ ap (λ ms. out ++ member_texts before margin (members_view ms)) (sym none) ∙ was
+    ∙ ap (λ m. begun ++ member_texts [] m (members_view all)) same
+
+-- four texts that were appended, the last two at once
+regrouped : (old a b c d begun filled ended : List ℕ) → begun ≡ old ++ a → filled ≡ begun ++ b
+    → ended ≡ filled ++ (c ++ d) → ended ≡ old ++ (((a ++ b) ++ c) ++ d)
+regrouped old a b c d begun filled ended one two three =
+    three ∙ ap (λ t. t ++ (c ++ d)) (two ∙ ap (λ t. t ++ b) one) ∙ simp append_assoc
+
+pub indented_list : (m : List ℕ) (xs : List Tree) → 0 < length xs
+    → (old begun filled ended : List ℕ) → begun ≡ old ++ codes "["
+    → filled ≡ begun ++ item_texts [] (inner m) (items_view xs)
+    → ended ≡ filled ++ (next_line m ++ codes "]")
+    → ended ≡ old ++ indented m (list (items_view xs))
+indented_list m [] some old begun filled ended one two three = absurd (omega arith)
+indented_list m (x ∷ xs) some old begun filled ended one two three =
+    regrouped old (codes "[") (item_texts [] (inner m) (items_view (x ∷ xs))) (next_line m)
+    (codes "]") begun filled ended one two three
+
+pub indented_object : (m : List ℕ) (ms : List (String Global × Tree)) → 0 < length ms
+    → (old begun filled ended : List ℕ) → begun ≡ old ++ codes "{"
+    → filled ≡ begun ++ member_texts [] (inner m) (members_view ms)
+    → ended ≡ filled ++ (next_line m ++ codes "}")
+    → ended ≡ old ++ indented m (object (members_view ms))
+indented_object m [] some old begun filled ended one two three = absurd (omega arith)
+indented_object m (x ∷ ms) some old begun filled ended one two three =
+    regrouped old (codes "{") (member_texts [] (inner m) (members_view (x ∷ ms))) (next_line m)
+    (codes "}") begun filled ended one two three

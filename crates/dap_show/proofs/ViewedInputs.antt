@@ -1,0 +1,97 @@
+-- What `show_with` and `show_faulty` answer of an input whose records were shown.
+use Rattle.std.proofs.Common.{◌≡◌, inl, inr, ℕ, ◌+◌, ◌≤◌, Bool, true, false, List, ◌++◌}
+use Rattle.std.proofs.Common.{Option, Some, Result, Ok, Err, refl, sym, ◌∙◌, ap, subst, arith}
+use Rattle.dap_device.specs.declared.device.Sink.{Ghosts as Sink}
+use Rattle.dap_device.specs.declared.device.Source.{Ghosts as Source}
+use Rattle.dap_input.proofs.Refusals.{untold}
+use Rattle.dap_input.specs.declared.limits.Limits.{Limits}
+use Rattle.dap_input.specs.declared.refused.Refused.{Refused}
+use Rattle.dap_input.specs.declared.refused.Refused.TheVariants as because
+use Rattle.dap_show.specs.Stopping.{StopsAt}
+use Rattle.dap_show.specs.Viewing.{IsFraming, Shows, ShowsAll, ShowsInput, ViewsInput, or_else}
+use Rattle.dap_show.specs.Viewing.{stop_line, viewing}
+use Rattle.dap_show.specs.ViewingSteps.{Finishes, ShowsRecords}
+use Rattle.dap_show.specs.declared.detail.Detail.{Detail}
+use Rattle.dap_show.proofs.Stopping.{stopped_taken}
+
+module _ {R : Type 0} (marks_faults : Bool) (detail : Detail) (limits : Limits) (source : Source R)
+    (old new : R) where
+  pub records_taken : (stopped : Result (Unit {0}) Refused) (lines : List ℕ)
+      (first : Option Refused)
+      → ShowsRecords marks_faults detail limits source old new lines first stopped
+      → source.given new ≤ source.given old + limits.input + 1
+  records_taken (Ok done) lines first (entries, all, shown) =
+      let counted = all.came.counted in let within = all.within in omega (arith, counted, within)
+  records_taken (Err refused) lines first (stops, shown) =
+      stopped_taken (viewing marks_faults detail limits) source old new refused stops
+
+  pub shown_lines : {U : Type 0} (done : U) (stopped : Result (Unit {0}) Refused)
+      (lines text : List ℕ) (first last : Option Refused)
+      → ShowsRecords marks_faults detail limits source old new lines first stopped
+      → Finishes marks_faults stopped lines text first last (Ok done)
+      → Shows marks_faults detail limits source old new text last
+  shown_lines done (Ok over) lines text first last (entries, all, shown) (same, kept) =
+      inl (record {
+        entries = entries;
+        all = all;
+        text_is = same ∙ shown.lines_are;
+        first_is = kept ∙ shown.first_is;
+      })
+  shown_lines done (Err refused) lines text first last (stops, shown)
+      (marked, framing, text_is, last_is) =
+      inr (record {
+        marked = marked;
+        refused = refused;
+        framing = framing;
+        stops = stops;
+        text_is = text_is ∙ ap (λ t. t ++ stop_line refused) (shown framing).lines_are;
+        first_is = last_is ∙ ap (λ o. or_else o (Some refused)) (shown framing).first_is;
+      })
+
+  module _ {W : Type 0} (sink : Sink W) (writer : W) where
+    -- a writer has not failed before it is written to
+    no_write_fault : StopsAt (viewing marks_faults detail limits) source old new because.WriteFault
+        → ⊥
+    no_write_fault stops =
+        untold because.WriteFault stops.number stops.says.fault refl
+        (λ same. absurd (let e = same in cc)) stops.says.tells
+
+    pub refused_view : (other : Refused) (stopped : Result (Unit {0}) Refused)
+        (lines text : List ℕ) (first last : Option Refused)
+        → ShowsRecords marks_faults detail limits source old new lines first stopped
+        → Finishes {V = Unit {0}} marks_faults stopped lines text first last (Err other)
+        → ViewsInput marks_faults detail limits source sink old new writer writer (Err other)
+    refused_view other (Ok over) lines text first last shows finishes = absurd finishes
+    refused_view because.Memory (Err refused) lines text first last shows finishes = refl
+    refused_view because.WriteFault (Err refused) lines text first last (stops, shown) finishes =
+        absurd (no_write_fault
+        (subst (StopsAt (viewing marks_faults detail limits) source old new) (sym finishes.0)
+        stops))
+    refused_view other (Err refused) lines text first last (stops, shown) finishes = (
+      subst (StopsAt (viewing marks_faults detail limits) source old new) (sym finishes.0) stops,
+      λ faulty framing. finishes.1 faulty (subst IsFraming finishes.0 framing),
+      refl,
+    )
+
+-- ---- without marks
+
+module _ {R W : Type 0} (detail : Detail) (limits : Limits) (source : Source R) (sink : Sink W)
+    (old new : R) (before after : W) where
+  all_shown : (text : List ℕ) (first : Option Refused)
+      → Shows false detail limits source old new text first
+      → ShowsAll false detail limits source old new text first
+  all_shown text first (inl all) = all
+  all_shown text first (inr front) =
+      absurd (let clash : false ≡ true = front.marked in cc)
+
+  pub done_strictly : {U : Type 0} (done : U) (first : Option Refused)
+      → ViewsInput false detail limits source sink old new before after (Ok first)
+      → ShowsInput detail limits source sink old new before after (Ok done)
+  done_strictly done first (text, shows, sent) = (text, first, all_shown text first shows, sent)
+
+  pub refused_strictly : (U : Type 0) (refused : Refused)
+      → ViewsInput false detail limits source sink old new before after (Err refused)
+      → ShowsInput {U = U} detail limits source sink old new before after (Err refused)
+  refused_strictly U because.WriteFault h = (h.0, h.1, all_shown h.0 h.1 h.2, h.3)
+  refused_strictly U because.Memory h = h
+  refused_strictly U refused h = (h.0, h.2)

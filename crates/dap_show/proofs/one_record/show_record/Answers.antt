@@ -1,0 +1,17 @@
+use Rattle.std.proofs.Common.{Err, subst}
+use Rattle.dap_show.specs.OneRecordSteps.{TextIsMade}
+use Rattle.dap_show.proofs.RecordAnswers.{not_framed, not_made}
+use Rattle.dap_show.proofs.one_record.show_record.Goals as goal
+
+pub returns-in-Err-clause-answer : goal.returns-in-Err-clause-answer
+returns-in-Err-clause-answer g c =
+    not_framed c.args.limits g.R.Source g.W.Sink c.args.number c.args.reader.now
+    c.find_record.new.reader c.args.writer.now c.in-Err.refused c.in-Err.ensures
+
+pub returns-in-Err-text_of-clause-answer : goal.returns-in-Err-text_of-clause-answer
+returns-in-Err-text_of-clause-answer g c =
+    not_made c.args.limits g.R.Source g.W.Sink c.args.number c.args.reader.now
+    c.find_record.new.reader c.args.writer.now c.in-Err-text_of.refused c.in-Ok-Whole.whole.content
+    (rw c.in-Ok-Whole.field-0-is at c.in-Ok-Whole.ensures)
+    (subst (λ t. TextIsMade c.args.number t (Err c.in-Err-text_of.refused)) c.as_slice.ensures
+    c.in-Err-text_of.ensures)

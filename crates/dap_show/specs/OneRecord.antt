@@ -1,0 +1,96 @@
+-- What `show_record` prints of a recording. Source: own.
+use Rattle.std.specs.Prelude.{◌≡◌, ◌⊎◌, ℕ, ◌<◌, ◌≤◌, List, [], ◌++◌, length, None, Result, Ok, Err}
+use Rattle.std.specs.Prelude.{codes}
+use Rattle.dap_device.specs.Pieces.{HasComeSoFar}
+use Rattle.dap_device.specs.Written.{AllSent, FrontWritten}
+use Rattle.dap_device.specs.declared.device.Sink.{Ghosts as Sink}
+use Rattle.dap_device.specs.declared.device.Source.{Ghosts as Source}
+use Rattle.dap_tree.specs.Doc.{Doc}
+use Rattle.dap_tree.specs.Json.{HasFraction, HasNoReading, IsRead}
+use Rattle.dap_tree.specs.declared.side.Side.{Side}
+use Rattle.dap_recording.specs.Recording.{IsRecord, IsRecording, records}
+use Rattle.dap_input.specs.InputSteps.{AcceptsAll}
+use Rattle.dap_input.specs.Inputs.{AcceptedBefore}
+use Rattle.dap_input.specs.Judging.{Judging}
+use Rattle.dap_input.specs.ReadTo.{so_far}
+use Rattle.dap_input.specs.declared.limits.Limits.{Limits}
+use Rattle.dap_input.specs.declared.refused.Refused.{Refused}
+use Rattle.dap_input.specs.declared.refused.Refused.TheVariants.{Fraction, Json, Memory, WriteFault}
+use Rattle.dap_normal.specs.Accepting.{Held}
+use Rattle.dap_show.specs.Indented.{indented}
+use Rattle.dap_show.specs.Stopping.{StopsAt}
+use Rattle.dap_show.specs.declared.one_record.RecordShown.{RecordShown}
+use Rattle.dap_show.specs.declared.one_record.RecordShown.TheVariants.{Shown, Missing}
+
+-- the indented text of a content, with the LF at its end
+abbrev pub content_text : Doc → List ℕ
+content_text d = indented [] d ++ codes "\n"
+
+-- The bytes are a recording of these records, of whose contents nothing is asked.
+pub record IsFramed (limits : Limits) (bytes : List ℕ) (values : List Held) : Type 0 where
+  pub short : length bytes ≤ limits.input
+  pub recording : IsRecording limits.frame bytes values
+
+abbrev pub framing : Limits → Judging
+framing limits = record {
+  Held = Held;
+  Value = Held;
+  input = limits.input;
+  records = records limits.frame;
+  IsNext = λ before held value. value ≡ held;
+  Objects = λ before held why. ⊥;
+  IsAccepted = IsFramed limits;
+}
+
+-- Records are read to the one that is sought, and to the end if none is: no record has the number
+-- 0.
+abbrev pub IsSought : ℕ → ℕ → Type 0
+IsSought sought number = (sought ≡ 0) ⊎ (number ≤ sought)
+
+module _ {R : Type 0} (limits : Limits) (source : Source R) where
+  -- So much has come, and it has the record of this number with this content, after whole records.
+  pub record HasRecord (old new : R) (number : ℕ) (content : List ℕ) : Type 0 where
+    pub bytes : List ℕ
+    pub came : HasComeSoFar source old new bytes None
+    pub short : length bytes ≤ limits.input
+    pub before : AcceptedBefore (framing limits) (so_far bytes None) number
+    pub record_bytes : List ℕ
+    pub more : List ℕ
+    pub split : before.rest ≡ record_bytes ++ more
+    pub side : Side
+    pub is_record : IsRecord limits.frame record_bytes side content
+
+  -- The recording has so many records, and none of them has the number.
+  pub record HasNoRecord (old new : R) (number count : ℕ) : Type 0 where
+    pub values : List Held
+    pub all : AcceptsAll (framing limits) source old new values
+    pub count_is : count ≡ length values
+    pub missing : (number ≡ 0) ⊎ (count < number)
+
+  -- The framing of a record up to the one that is sought is faulty, or the reader fails at it.
+  pub record StopsBefore (old new : R) (number : ℕ) (refused : Refused) : Type 0 where
+    pub stops : StopsAt (framing limits) source old new refused
+    pub early : IsSought number stops.number
+
+  module _ {W : Type 0} (sink : Sink W) (number : ℕ) where
+    -- The content is JSON of this document, whose text went out or, with a failure of the writer, a
+    -- prefix of it.
+    abbrev pub Writes : R → R → (List ℕ → Type 0) → Type 0
+    Writes old new Written = (content : List ℕ) × (d : Doc) × HasRecord old new number content
+        × IsRead content d × Written (content_text d)
+
+    abbrev pub ShowsRecord : R → R → W → W → Result RecordShown Refused → Type 0
+    ShowsRecord old new before after (Ok Shown) = Writes old new (AllSent sink before after)
+    ShowsRecord old new before after (Ok (Missing count)) =
+        HasNoRecord old new number count × (after ≡ before)
+    ShowsRecord old new before after (Err WriteFault) =
+        Writes old new (FrontWritten sink before after)
+    ShowsRecord old new before after (Err (Json n)) = (n ≡ number)
+        × ((content : List ℕ) × HasRecord old new number content × HasNoReading content)
+        × (after ≡ before)
+    ShowsRecord old new before after (Err (Fraction n)) = (n ≡ number)
+        × ((content : List ℕ) × HasRecord old new number content × HasFraction content)
+        × (after ≡ before)
+    ShowsRecord old new before after (Err Memory) = after ≡ before
+    ShowsRecord old new before after (Err refused) =
+        StopsBefore old new number refused × (after ≡ before)

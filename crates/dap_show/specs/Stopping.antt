@@ -1,0 +1,28 @@
+-- Where an engine stops that reads an input no further than it has to. Source: own.
+use Rattle.std.specs.Prelude.{◌≡◌, ℕ, List, length, Option, Some}
+use Rattle.dap_device.specs.Pieces.{HasComeSoFar}
+use Rattle.dap_device.specs.declared.device.Source.{Ghosts as Source}
+use Rattle.dap_device.specs.declared.reading.Stop.{Stop}
+use Rattle.dap_device.specs.declared.reading.Stop.TheVariants.{End}
+use Rattle.dap_recording.specs.declared.record_fault.RecordCause.TheVariants.{Cut}
+use Rattle.dap_input.specs.InputSteps.{Says}
+use Rattle.dap_input.specs.Inputs.{AcceptedBefore}
+use Rattle.dap_input.specs.Judging.{Judging}
+use Rattle.dap_input.specs.ReadTo.{so_far}
+use Rattle.dap_input.specs.RecordSteps.{IsWithin}
+use Rattle.dap_input.specs.declared.refused.Refused.{Refused}
+use Rattle.dap_input.specs.declared.refused.Refused.TheVariants.{Record}
+
+-- These bytes of the input have come, the records before this one are accepted, and this one is
+-- refused, or the reader fails at it. It is refused as cut only if the reader came to its end. A
+-- failed allocation says nothing about the record.
+pub record StopsAt {R : Type 0} (j : Judging) (source : Source R) (old new : R)
+    (refused : Refused) : Type 0 where
+  pub bytes : List ℕ
+  pub stop : Option Stop
+  pub came : HasComeSoFar source old new bytes stop
+  pub within : IsWithin (length bytes) j.input stop
+  pub number : ℕ
+  pub before : AcceptedBefore j (so_far bytes stop) number
+  pub says : Says j bytes stop number refused
+  pub cut : (n : ℕ) → refused ≡ Record n Cut → stop ≡ Some End

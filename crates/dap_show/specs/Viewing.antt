@@ -1,0 +1,255 @@
+-- What `show_with` and `show_faulty` print of a recording, and where they stop. Source: own, over
+-- recordings, the messages of the DAP specification, and the rules of its sessions.
+use Rattle.std.specs.Prelude.{◌≡◌, ◌⊎◌, ℕ, ◌+◌, ◌≤◌, Bool, true, false, nat_le, List, [], ◌∷◌}
+use Rattle.std.specs.Prelude.{◌++◌, length, Option, Some, None, Result, Ok, Err, codes, decimal}
+use Rattle.std.specs.List.{flat_map}
+use Rattle.dap_device.specs.Written.{AllSent, FrontWritten}
+use Rattle.dap_device.specs.declared.device.Sink.{Ghosts as Sink}
+use Rattle.dap_device.specs.declared.device.Source.{Ghosts as Source}
+use Rattle.dap_tree.specs.Doc.{Doc}
+use Rattle.dap_tree.specs.Json.{IsRead}
+use Rattle.dap_tree.specs.declared.side.Side.{Side}
+use Rattle.dap_message.specs.Message.{HasRefusal, Refusal, Sent, faulty, fraction, no_reading}
+use Rattle.dap_message.specs.declared.fault.MessageFault.{MessageFault}
+use Rattle.dap_message.specs.declared.fault.MessageFault.TheVariants as message_fault
+use Rattle.dap_recording.specs.FaultNames.{cause_name}
+use Rattle.dap_recording.specs.Recording.{IsRecording, records}
+use Rattle.dap_session.specs.RuleName.{rule_name}
+use Rattle.dap_session.specs.Rules.{first_broken}
+use Rattle.dap_session.specs.declared.rule.Rule.{Rule}
+use Rattle.dap_input.specs.InputSteps.{AcceptsAll}
+use Rattle.dap_input.specs.Judging.{Judging, Objection, grew, no_message}
+use Rattle.dap_input.specs.Limits.{AreSound}
+use Rattle.dap_input.specs.Refusals.{HasOneOutcome, RefusalStays}
+use Rattle.dap_input.specs.declared.limits.Limits.{Limits}
+use Rattle.dap_input.specs.declared.refused.Refused.{Refused}
+use Rattle.dap_input.specs.declared.refused.Refused.TheVariants as because
+use Rattle.dap_normal.specs.Accepting.{Held, IsMessage}
+use Rattle.dap_show.specs.Leaves.{leaf_lines}
+use Rattle.dap_show.specs.Showing.{listed_lines, message_line, start_words}
+use Rattle.dap_show.specs.Stopping.{StopsAt}
+use Rattle.dap_show.specs.declared.detail.Detail.{Detail}
+use Rattle.dap_show.specs.declared.detail.Detail.TheVariants.{Lists, Leaves}
+
+-- ---- entries
+
+-- What is printed of a record: its message, the document of its content, and the rule that the
+-- message breaks, if it breaks one; or that a record of this side holds no message, and why.
+pub data Entry : Type 0 where
+  typed : Sent → Doc → Option Rule → Entry
+  untyped : Side → Refusal → Entry
+
+-- the messages among which a later one is judged: those that break no rule
+abbrev pub kept_if : Option Rule → Sent → List Sent
+kept_if None message = message ∷ []
+kept_if (Some rule) message = []
+
+abbrev pub kept_of : Entry → List Sent
+kept_of (typed message d rule) = kept_if rule message
+kept_of (untyped side why) = []
+
+abbrev pub kept : List Entry → List Sent
+kept entries = flat_map kept_of entries
+
+-- ---- refusals
+
+-- the refusal of record n whose content is no message
+abbrev pub refusal_of : ℕ → Refusal → Refused
+refusal_of n no_reading = because.Json n
+refusal_of n fraction = because.Fraction n
+refusal_of n (faulty fault) = because.Message n fault
+
+-- the refusal of record n, if there is one
+abbrev pub rule_refusal : ℕ → Option Rule → Option Refused
+rule_refusal n None = None
+rule_refusal n (Some rule) = Some (because.Rule n rule)
+
+abbrev pub refusal_at : ℕ → Entry → Option Refused
+refusal_at n (typed message d rule) = rule_refusal n rule
+refusal_at n (untyped side why) = Some (refusal_of n why)
+
+abbrev pub or_else : Option Refused → Option Refused → Option Refused
+or_else None later = later
+or_else (Some refused) later = Some refused
+
+-- the first refusal of entries, the first of which is of record n
+abbrev pub first_refusal : ℕ → List Entry → Option Refused
+first_refusal n [] = None
+first_refusal n (entry ∷ entries) = or_else (refusal_at n entry) (first_refusal (n + 1) entries)
+
+-- A fault of the framing: the start of the next record is not known.
+abbrev pub IsFraming : Refused → Type 0
+IsFraming (because.Record n cause) = Unit {0}
+IsFraming (because.InputTooLong n) = Unit {0}
+IsFraming refused = ⊥
+
+-- ---- lines
+
+abbrev pub message_fault_words : MessageFault → List ℕ
+message_fault_words message_fault.NotObject = codes "NotObject"
+message_fault_words message_fault.UnknownType = codes "UnknownType"
+message_fault_words (message_fault.Missing row) = codes "Missing row " ++ decimal row
+message_fault_words (message_fault.WrongType row) = codes "WrongType row " ++ decimal row
+message_fault_words message_fault.Memory = codes "Memory"
+
+-- why a record is refused, in the words of the line of its refusal
+abbrev pub refused_words : Refused → List ℕ
+refused_words (because.InputTooLong n) = codes "InputTooLong"
+refused_words (because.Record n cause) = cause_name cause
+refused_words (because.Json n) = codes "Json"
+refused_words (because.Fraction n) = codes "Fraction"
+refused_words (because.Message n fault) = message_fault_words fault
+refused_words (because.Rule n rule) = rule_name rule
+refused_words refused = []
+
+abbrev pub fault_words : List ℕ → List ℕ
+fault_words words = codes "fault: " ++ words ++ codes "\n"
+
+-- the lines of a message, with the rule that it breaks
+abbrev pub head_lines : ℕ → Sent → Option Rule → List ℕ
+head_lines n message None = message_line n message
+head_lines n message (Some rule) =
+    message_line n message ++ (codes "  " ++ fault_words (refused_words (because.Rule n rule)))
+
+-- the lines under them: of what the message lists, or of the leaves of the content
+abbrev pub detail_lines : Detail → Sent → Doc → List ℕ
+detail_lines Lists message d = listed_lines message.doc
+detail_lines Leaves message d = leaf_lines [] d
+
+abbrev pub entry_lines : Detail → ℕ → Entry → List ℕ
+entry_lines detail n (typed message d rule) =
+    head_lines n message rule ++ detail_lines detail message d
+entry_lines detail n (untyped side why) =
+    start_words n side ++ fault_words (refused_words (refusal_of n why))
+
+-- the lines of entries, the first of which is of record n
+abbrev pub lines_of : Detail → ℕ → List Entry → List ℕ
+lines_of detail n [] = []
+lines_of detail n (entry ∷ entries) =
+    entry_lines detail n entry ++ lines_of detail (n + 1) entries
+
+-- the line of a fault of the framing, whose side may be unknown
+abbrev pub stop_line : Refused → List ℕ
+stop_line (because.Record n cause) =
+    decimal n ++ codes " " ++ fault_words (refused_words (because.Record n cause))
+stop_line (because.InputTooLong n) =
+    decimal n ++ codes " " ++ fault_words (refused_words (because.InputTooLong n))
+stop_line refused = []
+
+-- The lines of leaves repeat their paths, so they have a limit: that of the input.
+abbrev pub fits_in : Detail → ℕ → ℕ → Bool
+fits_in Lists limit n = true
+fits_in Leaves limit n = nat_le n limit
+
+-- ---- what is shown
+
+-- the rule that a message breaks after these messages, if rules are asked
+abbrev pub broken_rule : Bool → List Sent → Sent → Option Rule
+broken_rule false before message = None
+broken_rule true before message = first_broken before message
+
+module _ (marks_faults : Bool) (detail : Detail) (limits : Limits) where
+  -- A record holds this entry after these. Records that hold no message are entries only if faults
+  -- are marked.
+  abbrev pub IsEntry : List Entry → Held → Entry → Type 0
+  IsEntry before held (typed message d rule) = IsMessage held message × IsRead held.1 d
+      × (rule ≡ broken_rule marks_faults (kept before) message)
+  IsEntry before held (untyped side why) = (marks_faults ≡ true) × (side ≡ held.0)
+      × HasRefusal held.1 why
+
+  abbrev pub Fits : List Entry → Type 0
+  Fits entries = fits_in detail limits.input (length (lines_of detail 1 entries)) ≡ true
+
+  abbrev pub IsNext : List Entry → Held → Entry → Type 0
+  IsNext before held entry = IsEntry before held entry × Fits (before ++ entry ∷ [])
+
+  -- A record is refused because it holds no message, if faults are not marked, or because the lines
+  -- with its own pass the limit.
+  abbrev pub Objects : List Entry → Held → Objection → Type 0
+  Objects before held (no_message why) = (marks_faults ≡ false) × HasRefusal held.1 why
+  Objects before held grew =
+      (entry : Entry) × IsEntry before held entry × (Fits (before ++ entry ∷ []) → ⊥)
+  Objects before held why = ⊥
+
+  -- The records hold these entries, each after those before it.
+  abbrev pub AreEntries : List Entry → List Held → List Entry → Type 0
+  AreEntries before [] [] = Unit {0}
+  AreEntries before [] (entry ∷ entries) = ⊥
+  AreEntries before (held ∷ records) [] = ⊥
+  AreEntries before (held ∷ records) (entry ∷ entries) = IsNext before held entry
+      × AreEntries (before ++ entry ∷ []) records entries
+
+  -- The bytes are a recording of records with these entries.
+  pub record IsViewable (bytes : List ℕ) (entries : List Entry) : Type 0 where
+    pub short : length bytes ≤ limits.input
+    pub records : List Held
+    pub recording : IsRecording limits.frame bytes records
+    pub entered : AreEntries [] records entries
+
+  abbrev pub viewing : Judging
+  viewing = record {
+    Held = Held;
+    Value = Entry;
+    input = limits.input;
+    records = records limits.frame;
+    IsNext = IsNext;
+    Objects = Objects;
+    IsAccepted = IsViewable;
+  }
+
+  module _ {R : Type 0} (source : Source R) where
+    -- All records have entries; these are their lines, and this is the first refusal among them.
+    pub record ShowsAll (old new : R) (text : List ℕ) (first : Option Refused) : Type 0 where
+      pub entries : List Entry
+      pub all : AcceptsAll viewing source old new entries
+      pub text_is : text ≡ lines_of detail 1 entries
+      pub first_is : first ≡ first_refusal 1 entries
+
+    -- Faults are marked, and the framing of a record is faulty. These are the lines of the records
+    -- before it, and its own line.
+    pub record ShowsFront (old new : R) (text : List ℕ) (first : Option Refused) : Type 0 where
+      pub marked : marks_faults ≡ true
+      pub refused : Refused
+      pub framing : IsFraming refused
+      pub stops : StopsAt viewing source old new refused
+      pub text_is : text ≡ lines_of detail 1 stops.before.values ++ stop_line refused
+      pub first_is : first ≡ or_else (first_refusal 1 stops.before.values) (Some refused)
+
+    abbrev pub Shows : R → R → List ℕ → Option Refused → Type 0
+    Shows old new text first = ShowsAll old new text first ⊎ ShowsFront old new text first
+
+    module _ {W : Type 0} (sink : Sink W) where
+      -- The lines went out and were flushed, or a prefix of them went out and the writer failed; or
+      -- the input is refused, and nothing went out.
+      abbrev pub ViewsInput : R → R → W → W → Result (Option Refused) Refused → Type 0
+      ViewsInput old new before after (Ok first) =
+          (text : List ℕ) × Shows old new text first × AllSent sink before after text
+      ViewsInput old new before after (Err because.WriteFault) =
+          (text : List ℕ) × (first : Option Refused) × Shows old new text first
+          × FrontWritten sink before after text
+      ViewsInput old new before after (Err because.Memory) = after ≡ before
+      ViewsInput old new before after (Err refused) = StopsAt viewing source old new refused
+          × (marks_faults ≡ true → IsFraming refused → ⊥) × (after ≡ before)
+
+-- What `show_with` answers: all lines went out, or the first refusal is answered and nothing did.
+abbrev pub ShowsInput : {U R W : Type 0} → Detail → Limits → Source R → Sink W → R → R → W → W
+    → Result U Refused → Type 0
+ShowsInput detail limits source sink old new before after (Ok done) =
+    (text : List ℕ) × (first : Option Refused)
+    × ShowsAll false detail limits source old new text first × AllSent sink before after text
+ShowsInput detail limits source sink old new before after (Err because.WriteFault) =
+    (text : List ℕ) × (first : Option Refused)
+    × ShowsAll false detail limits source old new text first × FrontWritten sink before after text
+ShowsInput detail limits source sink old new before after (Err because.Memory) = after ≡ before
+ShowsInput detail limits source sink old new before after (Err refused) =
+    StopsAt (viewing false detail limits) source old new refused × (after ≡ before)
+
+-- An input is accepted as one list of entries, or has one refusal, and not both.
+abbrev pub ViewHasOneOutcome : Type 0
+ViewHasOneOutcome = (marks_faults : Bool) (detail : Detail) (limits : Limits) → AreSound limits
+    → HasOneOutcome (viewing marks_faults detail limits)
+
+-- A refusal stays when more bytes come, unless the record was only cut.
+abbrev pub ViewRefusalStays : Type 0
+ViewRefusalStays = (marks_faults : Bool) (detail : Detail) (limits : Limits) → AreSound limits
+    → RefusalStays (viewing marks_faults detail limits)

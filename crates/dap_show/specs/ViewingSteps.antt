@@ -1,0 +1,77 @@
+-- What the steps of `show_with` and `show_faulty` do.
+use Rattle.std.specs.Prelude.{◌≡◌, ℕ, ◌++◌, Bool, true, List, [], ◌∷◌, Option}
+use Rattle.std.specs.Prelude.{Some, Result, Ok, Err}
+use Rattle.dap_device.specs.declared.device.Source.{Ghosts as Source}
+use Rattle.dap_input.specs.InputSteps.{AcceptsAll}
+use Rattle.dap_input.specs.Refusals.{RefusesHeld}
+use Rattle.dap_input.specs.declared.limits.Limits.{Limits}
+use Rattle.dap_input.specs.declared.refused.Refused.{Refused}
+use Rattle.dap_input.specs.declared.refused.Refused.TheVariants as because
+use Rattle.dap_message.specs.Message.{Sent}
+use Rattle.dap_normal.specs.Accepting.{Held}
+use Rattle.dap_session.specs.Kept.{Kept}
+use Rattle.dap_session.specs.Standing.{Stands}
+use Rattle.dap_session.specs.declared.rule.Rule.{Rule}
+use Rattle.dap_show.specs.Stopping.{StopsAt}
+use Rattle.dap_show.specs.Viewing.{Entry, IsFraming, IsNext, Objects, first_refusal, kept}
+use Rattle.dap_show.specs.Viewing.{kept_if, lines_of, or_else, refusal_at, broken_rule, stop_line}
+use Rattle.dap_show.specs.Viewing.{viewing}
+use Rattle.dap_show.specs.declared.detail.Detail.{Detail}
+
+-- If rules are asked, the session represents these messages.
+abbrev pub StandsIf : Bool → Kept → List Sent → Type 0
+StandsIf marks_faults session messages = marks_faults ≡ true → Stands session messages
+
+-- The rule that a message breaks, if rules are asked; the session then has the message if it breaks
+-- none.
+abbrev pub IsJudged : Bool → List Sent → Sent → Option Rule → Kept → Type 0
+IsJudged marks_faults before message rule session = (rule ≡ broken_rule marks_faults before message)
+    × StandsIf marks_faults session (before ++ kept_if rule message)
+
+module _ (marks_faults : Bool) (detail : Detail) (limits : Limits) where
+  -- Record n holds this entry, whose lines were appended.
+  pub record IsEntered (before : List Entry) (n : ℕ) (held : Held) (session : Kept)
+      (lines : List ℕ) (refusal : Option Refused) : Type 0 where
+    pub entry : Entry
+    pub is_next : IsNext marks_faults detail limits before held entry
+    pub session_is : StandsIf marks_faults session (kept (before ++ entry ∷ []))
+    pub lines_are : lines ≡ lines_of detail 1 (before ++ entry ∷ [])
+    pub refusal_is : refusal ≡ refusal_at n entry
+
+  -- The lines of record n are appended, or it is refused.
+  abbrev pub Enters : List Entry → ℕ → Held → Kept → List ℕ → Result (Option Refused) Refused
+      → Type 0
+  Enters before n held session lines (Ok refusal) =
+      IsEntered before n held session lines refusal
+  Enters before n held session lines (Err refused) =
+      RefusesHeld (Objects marks_faults detail limits before held) n refused
+
+  -- These are the lines of entries, and this is the first refusal among them.
+  pub record AreShown (entries : List Entry) (lines : List ℕ) (first : Option Refused) : Type 0
+    where
+      pub lines_are : lines ≡ lines_of detail 1 entries
+      pub first_is : first ≡ first_refusal 1 entries
+
+  module _ {R : Type 0} (source : Source R) where
+    -- All records are shown; or one stops, and if its framing is faulty those before it are.
+    abbrev pub ShowsRecords : {U : Type 0} → R → R → List ℕ → Option Refused → Result U Refused
+        → Type 0
+    ShowsRecords old new lines first (Ok done) =
+        (entries : List Entry)
+        × AcceptsAll (viewing marks_faults detail limits) source old new entries
+        × AreShown entries lines first
+    ShowsRecords old new lines first (Err refused) =
+        (stops : StopsAt (viewing marks_faults detail limits) source old new refused)
+        × (IsFraming refused → AreShown stops.before.values lines first)
+
+-- The line of a fault of the framing is appended, if faults are marked; all else is answered.
+abbrev pub Finishes : {U V : Type 0} → Bool → Result U Refused → List ℕ → List ℕ → Option Refused
+    → Option Refused → Result V Refused → Type 0
+Finishes marks_faults (Ok done) old new first last (Ok over) = (new ≡ old) × (last ≡ first)
+Finishes marks_faults (Ok done) old new first last (Err refused) = ⊥
+Finishes marks_faults (Err refused) old new first last (Ok over) = (marks_faults ≡ true)
+    × IsFraming refused × (new ≡ old ++ stop_line refused)
+    × (last ≡ or_else first (Some refused))
+Finishes marks_faults (Err refused) old new first last (Err because.Memory) = Unit {0}
+Finishes marks_faults (Err refused) old new first last (Err other) = (other ≡ refused)
+    × (marks_faults ≡ true → IsFraming refused → ⊥)

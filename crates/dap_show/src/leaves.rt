@@ -1,0 +1,163 @@
+//! The lines of the leaves of a tree.
+ghost use Rattle.std.specs.Prelude.{◌≡◌, ◌+◌, ◌<◌, ◌∷◌, ◌++◌, [], true, false, length};
+ghost use Rattle.std.specs.Prelude.{IfErr, IsErrOf, OnOk};
+ghost use Rattle.dap_difference.specs.Shown.{path_of};
+ghost use Rattle.dap_show.specs.Leaves.{has_parts, item_lines, leaf_line, leaf_lines, member_lines};
+ghost use Rattle.dap_tree.specs.Doc.{all_in_range, items_in_range, members_in_range};
+ghost use Rattle.dap_tree.specs.View.{items_view, members_view, view};
+
+use dap_difference::{Step, push_path};
+use dap_tree::{Tree, write_tree_to};
+use std::alloc::{AllocError, Global};
+use std::collections::BTreeMap;
+
+/// Why lines were not appended.
+#[derive(Clone, Copy, Debug, PartialEq, Eq, Drop)]
+pub enum LeafFault {
+    /// The text would be longer than its limit.
+    Full,
+    /// An allocation failed.
+    Memory,
+}
+
+/// Appends the line of a leaf.
+fn push_line(
+    alloc: Global,
+    path: &[Step<'_>],
+    leaf: &Tree,
+    out: &mut Vec<u8>,
+) -> Result<(), AllocError>
+    requires leaf { has_parts (view leaf.now) ≡ false }
+    requires in_range { all_in_range (view leaf.now) ≡ true }
+    ensures { OnOk result
+        (out.new.items ≡ out.old.items ++ leaf_line (path_of path.now) (view leaf.now)) }
+{
+    out.extend_from_slice(b"  ")?;
+    push_path(alloc, path, out)?;
+    out.extend_from_slice(b" ")?;
+    if write_tree_to(alloc, leaf, out).is_err() {
+        return Err(AllocError);
+    }
+    out.extend_from_slice(b"\n")
+}
+
+/// Appends the line of a leaf, if the text stays within the limit.
+fn push_leaf(
+    alloc: Global,
+    path: &[Step<'_>],
+    leaf: &Tree,
+    limit: u64,
+    out: &mut Vec<u8>,
+) -> Result<(), LeafFault>
+    requires leaf { has_parts (view leaf.now) ≡ false }
+    requires in_range { all_in_range (view leaf.now) ≡ true }
+    ensures lines { OnOk result
+        (out.new.items ≡ out.old.items ++ leaf_line (path_of path.now) (view leaf.now)) }
+    ensures full { IsErrOf result LeafFault.Full → limit
+        < length out.old.items + length (leaf_line (path_of path.now) (view leaf.now)) }
+{
+    if push_line(alloc, path, leaf, out).is_err() {
+        return Err(LeafFault::Memory);
+    }
+    if limit < out.len() as u64 {
+        return Err(LeafFault::Full);
+    }
+    Ok(())
+}
+
+/// Adds a step to a path.
+fn push_step<'t>(path: &mut Vec<Step<'t>>, step: Step<'t>) -> Result<(), LeafFault>
+    ensures pushed { OnOk result (path.new.items ≡ path.old.items ++ step.entry ∷ []) }
+    ensures memory { IfErr result (λ fault. fault ≡ LeafFault.Memory) }
+{
+    match path.push(step) {
+        Ok(()) => Ok(()),
+        Err(_) => Err(LeafFault::Memory),
+    }
+}
+
+/// Appends the lines of the leaves of a tree that is at a path, unless the text would be longer
+/// than the limit. The path is the same afterwards.
+#[cycle(push_leaves)]
+pub fn push_leaves<'t>(
+    alloc: Global,
+    tree: &'t Tree,
+    path: &mut Vec<Step<'t>>,
+    limit: u64,
+    out: &mut Vec<u8>,
+) -> Result<(), LeafFault>
+    requires { all_in_range (view tree.now) ≡ true }
+    ensures lines { OnOk result
+        (out.new.items ≡ out.old.items ++ leaf_lines (path_of path.old.items) (view tree.now)) }
+    ensures path { OnOk result (path.new.items ≡ path.old.items) }
+    ensures full { IsErrOf result LeafFault.Full → limit
+        < length out.old.items + length (leaf_lines (path_of path.old.items) (view tree.now)) }
+{
+    match tree {
+        Tree::List(items) => {
+            if items.is_empty() {
+                return push_leaf(alloc, path.as_slice(), tree, limit, out);
+            }
+            push_items(alloc, items, path, limit, out)
+        }
+        Tree::Object(members) => {
+            if members.is_empty() {
+                return push_leaf(alloc, path.as_slice(), tree, limit, out);
+            }
+            push_members(alloc, members, path, limit, out)
+        }
+        Tree::Null | Tree::Bool(_) | Tree::Whole(_) | Tree::Text(_) | Tree::Id(..) => {
+            push_leaf(alloc, path.as_slice(), tree, limit, out)
+        }
+    }
+}
+
+#[cycle(push_leaves)]
+fn push_items<'t>(
+    alloc: Global,
+    items: &'t Vec<Tree>,
+    path: &mut Vec<Step<'t>>,
+    limit: u64,
+    out: &mut Vec<u8>,
+) -> Result<(), LeafFault>
+    requires { items_in_range (items_view items.now.items) ≡ true }
+    ensures lines { OnOk result (out.new.items ≡ out.old.items
+        ++ item_lines (path_of path.old.items) 0 (items_view items.now.items)) }
+    ensures path { OnOk result (path.new.items ≡ path.old.items) }
+    ensures full { IsErrOf result LeafFault.Full → limit < length out.old.items
+        + length (item_lines (path_of path.old.items) 0 (items_view items.now.items)) }
+{
+    for (place, item) in items.iter().enumerate() {
+        push_step(path, Step::Item(place))?;
+        if let Err(fault) = push_leaves(alloc, item, path, limit, out) {
+            return Err(fault);
+        }
+        path.pop();
+    }
+    Ok(())
+}
+
+#[cycle(push_leaves)]
+fn push_members<'t>(
+    alloc: Global,
+    members: &'t BTreeMap<String, Tree>,
+    path: &mut Vec<Step<'t>>,
+    limit: u64,
+    out: &mut Vec<u8>,
+) -> Result<(), LeafFault>
+    requires { members_in_range (members_view members.now.entries) ≡ true }
+    ensures lines { OnOk result (out.new.items ≡ out.old.items
+        ++ member_lines (path_of path.old.items) (members_view members.now.entries)) }
+    ensures path { OnOk result (path.new.items ≡ path.old.items) }
+    ensures full { IsErrOf result LeafFault.Full → limit < length out.old.items
+        + length (member_lines (path_of path.old.items) (members_view members.now.entries)) }
+{
+    for (name, member) in members.iter() {
+        push_step(path, Step::Member(name.as_str()))?;
+        if let Err(fault) = push_leaves(alloc, member, path, limit, out) {
+            return Err(fault);
+        }
+        path.pop();
+    }
+    Ok(())
+}

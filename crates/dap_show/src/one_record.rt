@@ -1,0 +1,139 @@
+//! Prints the content of one record.
+ghost use Rattle.std.specs.Prelude.{◌≡◌, ◌+◌, ◌<◌, ◌≤◌, ◌^◌, IfOk, true};
+ghost use Rattle.dap_input.specs.ItemReading.{StandsForRecord};
+ghost use Rattle.dap_input.specs.Limits.{AreSound};
+ghost use Rattle.dap_input.specs.RecordSteps.{IsAtStart};
+ghost use Rattle.dap_show.specs.OneRecord.{ShowsRecord, content_text};
+ghost use Rattle.dap_show.specs.OneRecordSteps.{Finds, TextIsMade};
+ghost use Rattle.dap_tree.specs.Doc.{all_in_range};
+ghost use Rattle.dap_tree.specs.View.{view};
+
+use crate::indented::push_indented;
+use dap_device::{Sink, Source, write_and_flush};
+use dap_input::{Limits, Records, Refused};
+use dap_recording::{Record, RecordReader};
+use dap_tree::{Tree, TreeFault, read_tree};
+use std::alloc::{AllocError, Global};
+
+/// Whether the record was there.
+#[derive(Clone, Copy, Debug, PartialEq, Eq)]
+pub enum RecordShown {
+    /// Its content was written.
+    Shown,
+    /// The recording has only so many records. The number 0 is missing in every recording.
+    Missing(u64),
+}
+
+/// The record that was sought, or how many records there are.
+#[derive(Drop)]
+enum Found {
+    Whole(Record),
+    Missing(u64),
+}
+
+/// Reads records to the one of this number.
+fn find_record<R: Source>(
+    records: &mut Records<RecordReader>,
+    reader: &mut R,
+    limits: Limits,
+    number: u64,
+) -> Result<Found, Refused>
+    requires sound { AreSound limits }
+    requires start { IsAtStart (StandsForRecord limits.frame) limits.input records.old }
+    requires given { R.given reader.old < 2 ^ 62 }
+    requires failures { R.failures reader.old < 2 ^ 62 }
+    ensures { Finds limits R.Source reader.old reader.new number result }
+{
+    'each: loop {
+        let at = records.number();
+        let Some(whole) = records.next(reader)? else {
+            return Ok(Found::Missing(at - 1));
+        };
+        if at == number {
+            return Ok(Found::Whole(whole));
+        }
+        records.recycle(whole);
+    }
+}
+
+/// The indented text of a tree, with the LF at its end.
+fn indented_text(alloc: Global, tree: &Tree) -> Result<Vec<u8>, AllocError>
+    requires { all_in_range (view tree.now) ≡ true }
+    ensures { IfOk result (λ text. text.items ≡ content_text (view tree.now)) }
+{
+    let mut text = Vec::new(alloc);
+    let mut margin = Vec::new(alloc);
+    push_indented(alloc, tree, &mut margin, &mut text)?;
+    text.extend_from_slice(b"\n")?;
+    Ok(text)
+}
+
+/// The indented text of the content of the record of that number.
+fn text_of(alloc: Global, number: u64, content: &[u8]) -> Result<Vec<u8>, Refused>
+    ensures { TextIsMade number content.now result }
+{
+    let tree = match read_tree(alloc, content) {
+        Ok(tree) => tree,
+        Err(TreeFault::Json) => return Err(Refused::Json(number)),
+        Err(TreeFault::Fraction) => return Err(Refused::Fraction(number)),
+        Err(TreeFault::Memory) => return Err(Refused::Memory),
+    };
+    match indented_text(alloc, &tree) {
+        Ok(text) => Ok(text),
+        Err(_) => Err(Refused::Memory),
+    }
+}
+
+/// Writes the content of the record of that number as indented JSON, counted from 1.
+///
+/// The text has two spaces for each level, and a line for each scalar and for each bracket of an
+/// array or object with parts; members are in the byte order of their names. LF ends it. Records
+/// before this one need only be framed, and what comes after it is not looked at: at most 65,536
+/// bytes past it are read.
+///
+/// # Errors
+///
+/// `InputTooLong` or `Record`: this record or one before it is not framed.
+/// `Json` or `Fraction`: the content of this record is no JSON, or has a number that is not an
+/// integer from -2^63 to 2^64 - 1.
+/// `ReadFault`: the reader failed before the end of this record.
+/// `WriteFault`: the writer failed.
+/// `Memory`: an allocation failed.
+pub fn show_record<R: Source, W: Sink>(
+    alloc: Global,
+    reader: &mut R,
+    writer: &mut W,
+    limits: Limits,
+    number: u64,
+) -> Result<RecordShown, Refused>
+    requires limits { AreSound limits }
+    requires given { R.given reader.old < 2 ^ 62 }
+    requires read_failures { R.failures reader.old < 2 ^ 62 }
+    requires write_failures { W.failures writer.old < 2 ^ 62 }
+
+    // The text of the record's content goes out and is flushed. If there is no such record, or a
+    // refusal, nothing goes out.
+    ensures answer { ShowsRecord limits R.Source W.Sink number reader.old reader.new writer.old
+        writer.new result }
+
+    // It takes at most one byte past the limit.
+    ensures taken { R.given reader.new ≤ R.given reader.old + limits.input + 1 }
+{
+    let record_reader = RecordReader::new(alloc, limits.frame);
+    let Ok(mut records) = Records::new(alloc, record_reader, limits.input) else {
+        return Err(Refused::Memory);
+    };
+    let whole = match find_record(&mut records, reader, limits, number) {
+        Ok(Found::Whole(whole)) => whole,
+        Ok(Found::Missing(count)) => return Ok(RecordShown::Missing(count)),
+        Err(refused) => return Err(refused),
+    };
+    let text = match text_of(alloc, number, whole.content.as_slice()) {
+        Ok(text) => text,
+        Err(refused) => return Err(refused),
+    };
+    match write_and_flush(writer, text.as_slice()) {
+        Ok(()) => Ok(RecordShown::Shown),
+        Err(_) => Err(Refused::WriteFault),
+    }
+}

@@ -1,0 +1,237 @@
+//! Prints recordings with the leaves of their contents, and with their faults.
+ghost use Rattle.std.specs.Prelude.{◌≡◌, ◌+◌, ◌<◌, ◌≤◌, ◌^◌, ◌++◌, ◌↔◌, [], None, true};
+ghost use Rattle.std.specs.Prelude.{IsTrue, OnOk};
+ghost use Rattle.dap_input.specs.ItemReading.{StandsForRecord};
+ghost use Rattle.dap_input.specs.Limits.{AreSound};
+ghost use Rattle.dap_input.specs.RecordSteps.{IsAtStart};
+ghost use Rattle.dap_show.specs.Viewing.{IsFraming, ShowsInput, ViewsInput, or_else, stop_line};
+ghost use Rattle.dap_show.specs.ViewingSteps.{Finishes, ShowsRecords};
+
+use crate::detail::{Detail, View};
+use crate::entries::append_entry;
+use crate::fault_words::push_stop;
+use dap_device::{Sink, Source, write_and_flush};
+use dap_input::{Limits, Records, Refused};
+use dap_recording::RecordReader;
+use dap_session::Session;
+use dap_tree::Scratch;
+use std::alloc::{AllocError, Global};
+
+/// Notes a refusal, if none is noted.
+fn note(first: &mut Option<Refused>, refusal: Option<Refused>)
+    ensures { first.new ≡ or_else first.old refusal }
+{
+    if first.is_none() {
+        *first = refusal;
+    }
+}
+
+/// Appends the lines of all records, and notes the first refusal that marks one.
+fn view_records<R: Source>(
+    alloc: Global,
+    view: View,
+    limits: Limits,
+    records: &mut Records<RecordReader>,
+    reader: &mut R,
+    lines: &mut Vec<u8>,
+    first: &mut Option<Refused>,
+) -> Result<(), Refused>
+    requires sound { AreSound limits }
+    requires start { IsAtStart (StandsForRecord limits.frame) limits.input records.old }
+    requires lines { lines.old.items ≡ [] }
+    requires first { first.old ≡ None }
+    requires given { R.given reader.old < 2 ^ 62 }
+    requires failures { R.failures reader.old < 2 ^ 62 }
+    ensures { ShowsRecords view.marks_faults view.detail limits R.Source reader.old reader.new
+        lines.new.items first.new result }
+{
+    let mut session = Session::new(alloc);
+    let mut scratch = Scratch::new(alloc);
+    'each: loop {
+        let number = records.number();
+        let Some(whole) = records.next(reader)? else {
+            return Ok(());
+        };
+        let refusal = append_entry(
+            alloc,
+            view,
+            limits,
+            number,
+            &whole,
+            &mut session,
+            &mut scratch,
+            lines,
+        )?;
+        note(first, refusal);
+        records.recycle(whole);
+    }
+}
+
+/// Whether a refusal is a fault of the framing.
+fn is_framing(refused: Refused) -> bool
+    ensures { IsTrue result ↔ IsFraming refused }
+{
+    matches!(refused, Refused::Record(..) | Refused::InputTooLong(_))
+}
+
+/// Appends the line of a fault of the framing.
+fn append_stop(alloc: Global, refused: Refused, lines: &mut Vec<u8>) -> Result<(), AllocError>
+    ensures { OnOk result (lines.new.items ≡ lines.old.items ++ stop_line refused) }
+{
+    let mut text = String::new(alloc);
+    push_stop(&mut text, refused)?;
+    lines.extend_from_slice(text.as_bytes())
+}
+
+/// Appends the line of a fault of the framing, if faults are marked. All other refusals are
+/// returned.
+fn finish(
+    alloc: Global,
+    marks_faults: bool,
+    stopped: Result<(), Refused>,
+    lines: &mut Vec<u8>,
+    first: &mut Option<Refused>,
+) -> Result<(), Refused>
+    ensures { Finishes marks_faults stopped lines.old.items lines.new.items first.old first.new
+        result }
+{
+    let Err(refused) = stopped else {
+        return Ok(());
+    };
+    if !marks_faults || !is_framing(refused) {
+        return Err(refused);
+    }
+    if append_stop(alloc, refused, lines).is_err() {
+        return Err(Refused::Memory);
+    }
+    note(first, Some(refused));
+    Ok(())
+}
+
+/// Prints an input.
+fn view_input<R: Source, W: Sink>(
+    alloc: Global,
+    reader: &mut R,
+    writer: &mut W,
+    limits: Limits,
+    view: View,
+) -> Result<Option<Refused>, Refused>
+    requires limits { AreSound limits }
+    requires given { R.given reader.old < 2 ^ 62 }
+    requires read_failures { R.failures reader.old < 2 ^ 62 }
+    requires write_failures { W.failures writer.old < 2 ^ 62 }
+    ensures answer { ViewsInput view.marks_faults view.detail limits R.Source W.Sink reader.old
+        reader.new writer.old writer.new result }
+    ensures taken { R.given reader.new ≤ R.given reader.old + limits.input + 1 }
+{
+    let record_reader = RecordReader::new(alloc, limits.frame);
+    let Ok(mut records) = Records::new(alloc, record_reader, limits.input) else {
+        return Err(Refused::Memory);
+    };
+    let mut lines = Vec::new(alloc);
+    let mut first = None;
+    let stopped = view_records(
+        alloc,
+        view,
+        limits,
+        &mut records,
+        reader,
+        &mut lines,
+        &mut first,
+    );
+    if let Err(refused) = finish(alloc, view.marks_faults, stopped, &mut lines, &mut first) {
+        return Err(refused);
+    }
+    match write_and_flush(writer, lines.as_slice()) {
+        Ok(()) => Ok(first),
+        Err(_) => Err(Refused::WriteFault),
+    }
+}
+
+/// Reads a recording and writes it in lines, for a reader.
+///
+/// With [`Detail::Lists`] the lines are those of [`show`](crate::show). With [`Detail::Leaves`]
+/// there is, in the place of the lines of frames, scopes and variables, a line for each leaf of the
+/// content: two spaces, the path as `diff` writes it, a space, and the whole value as canonical
+/// JSON. The rules of a session are not asked.
+///
+/// It reads its input up to its end or its first refusal, then writes, and flushes last: nothing is
+/// written if the input is refused. One record is held at a time, and the lines that are made.
+/// Records are counted from 1.
+///
+/// # Errors
+///
+/// The first refusal of the input: `InputTooLong`, `Record`, `Json`, `Fraction`, `Message`; or
+/// `Grew`: the lines of leaves are longer than `limits.input`.
+/// `ReadFault`: the reader failed before a refusal.
+/// `WriteFault`: the writer failed.
+/// `Memory`: an allocation failed.
+pub fn show_with<R: Source, W: Sink>(
+    alloc: Global,
+    reader: &mut R,
+    writer: &mut W,
+    limits: Limits,
+    detail: Detail,
+) -> Result<(), Refused>
+    requires limits { AreSound limits }
+    requires given { R.given reader.old < 2 ^ 62 }
+    requires read_failures { R.failures reader.old < 2 ^ 62 }
+    requires write_failures { W.failures writer.old < 2 ^ 62 }
+
+    // The lines of all records go out and are flushed, or the first refusal is returned and nothing
+    // goes out. A fault of a device is returned if and only if that device failed.
+    ensures answer { ShowsInput detail limits R.Source W.Sink reader.old reader.new writer.old
+        writer.new result }
+
+    // It takes at most one byte past the limit.
+    ensures taken { R.given reader.new ≤ R.given reader.old + limits.input + 1 }
+{
+    let view = View {
+        detail,
+        marks_faults: false,
+    };
+    match view_input(alloc, reader, writer, limits, view) {
+        Ok(_) => Ok(()),
+        Err(refused) => Err(refused),
+    }
+}
+
+/// Does what [`show_with`] does, and goes on after records with faults, which it marks. Returns the
+/// first of their refusals.
+///
+/// A message that breaks a rule of the session has the line `  fault: RULE` under its first line.
+/// Each message is judged after the messages before it that break none. A record that holds no
+/// message has the line `N < fault: FAULT` alone, in the words of the line of its refusal. After a
+/// fault of the framing the start of the next record is not known, so the line `N fault: FAULT` of
+/// that record is the last one.
+///
+/// # Errors
+///
+/// `Grew`, `ReadFault`, `WriteFault` and `Memory`, as [`show_with`].
+pub fn show_faulty<R: Source, W: Sink>(
+    alloc: Global,
+    reader: &mut R,
+    writer: &mut W,
+    limits: Limits,
+    detail: Detail,
+) -> Result<Option<Refused>, Refused>
+    requires limits { AreSound limits }
+    requires given { R.given reader.old < 2 ^ 62 }
+    requires read_failures { R.failures reader.old < 2 ^ 62 }
+    requires write_failures { W.failures writer.old < 2 ^ 62 }
+
+    // The lines of all records, or of those before a fault of the framing and its own line, go out
+    // and are flushed. Else nothing goes out. A fault of a device is returned if and only if that
+    // device failed.
+    ensures answer { ViewsInput true detail limits R.Source W.Sink reader.old reader.new
+        writer.old writer.new result }
+
+    // It takes at most one byte past the limit.
+    ensures taken { R.given reader.new ≤ R.given reader.old + limits.input + 1 }
+{
+    let view = View {
+        detail,
+        marks_faults: true,
+    };
+    view_input(alloc, reader, writer, limits, view)
+}
