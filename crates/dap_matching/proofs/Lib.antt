@@ -1,0 +1,4 @@
+pub mod Differing
+pub mod ProperNumbers
+pub mod ReadRecords
+pub mod RecordTexts

@@ -1,0 +1,4 @@
+pub mod Lines
+pub mod Matching
+pub mod Numbers
+pub mod Run

@@ -1,0 +1,31 @@
+-- What the program prints of all differences of two recordings. Source: own.
+use Rattle.std.specs.Prelude.{ℕ, List, Result}
+use Rattle.dap_compare.specs.declared.verdict.CompareRefused.{CompareRefused}
+use Rattle.dap_device.specs.declared.device.Source.{Ghosts as Source}
+use Rattle.dap_device.specs.declared.device.Sink.{Ghosts as Sink}
+use Rattle.dap_rename.specs.declared.mode.Mode.{Mode}
+use Rattle.dap_input.specs.declared.limits.Limits.{Limits}
+use Rattle.dap_runs.specs.ComparingRun.{ComparisonIsTold, same_line}
+use Rattle.dap_matching.specs.Matching.{DiffersAll}
+use Rattle.dap_matching.specs.declared.answer.AllDifferences.{AllDifferences}
+use Rattle.dap_matching.specs.declared.answer.AllDifferences.TheVariants.{Same, Differ}
+
+-- The output of the program: the line `same`, or the lines of the differences.
+abbrev pub all_text : AllDifferences → List ℕ
+all_text Same = same_line
+all_text (Differ lines) = lines.items
+
+-- The status of the program: same or different.
+abbrev pub all_status : AllDifferences → ℕ
+all_status Same = 0
+all_status (Differ lines) = 1
+
+-- The result for the two readers is printed, or the refusal of one is reported.
+pub record AllIsTold {R S W E : Type 0} (source_a : Source R) (source_b : Source S)
+    (sink : Sink W) (errors : Sink E) (limits : Limits) (mode : Mode) (old_a new_a : R) (old_b new_b
+    : S)
+    (before after : W) (silent spoken : E) (status : ℕ) : Type 0 where
+  pub answer : Result AllDifferences CompareRefused
+  pub differs : DiffersAll source_a source_b limits mode old_a new_a old_b new_b answer
+  pub tells : ComparisonIsTold sink errors all_text all_status answer before after silent spoken
+      status

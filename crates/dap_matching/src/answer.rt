@@ -1,0 +1,10 @@
+//! The result of comparing all records of two recordings.
+
+/// All differences of two recordings.
+#[derive(Debug, Drop)]
+pub enum AllDifferences {
+    /// The recordings are the same except for their ids.
+    Same,
+    /// The recordings differ, and these lines report how.
+    Differ { lines: Vec<u8> },
+}

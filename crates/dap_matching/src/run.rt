@@ -1,0 +1,128 @@
+//! Compares all records of two inputs, and prints all differences: lines and a status.
+ghost use Rattle.std.specs.Prelude.{◌≡◌, ◌+◌, ◌<◌, ◌≤◌, ◌^◌};
+ghost use Rattle.dap_device.specs.Written.{HasSentAll};
+ghost use Rattle.dap_input.specs.Limits.{AreSound};
+ghost use Rattle.dap_normal.specs.NameTables.{AreReady};
+ghost use Rattle.dap_matching.specs.Run.{AllIsTold, all_status, all_text};
+
+use crate::answer::AllDifferences;
+use crate::diffing::diff_all_with;
+use dap_device::{DeviceFault, Sink, Source, write_and_flush};
+use dap_input::{Limits, Refused};
+use dap_normal::index_tables;
+use dap_rename::{Mode, NameTable, Tables};
+use dap_runs::{DIFFERENT, DONE, FAULT, refusal_status, same_line, tell, tell_of_input};
+use std::alloc::Global;
+
+/// Writes all lines and flushes.
+fn print<W: Sink>(writer: &mut W, found: &AllDifferences) -> Result<(), DeviceFault>
+    requires { W.failures writer.old < 2 ^ 62 }
+    ensures { HasSentAll W.Sink writer.old writer.new result (all_text found.now) }
+{
+    match found {
+        AllDifferences::Same => write_and_flush(writer, same_line().as_bytes()),
+        AllDifferences::Differ { lines } => write_and_flush(writer, lines.as_slice()),
+    }
+}
+
+/// Returns the status of the program if both inputs are accepted.
+fn status(found: &AllDifferences) -> u8
+    ensures { result ≡ all_status found.now }
+{
+    match found {
+        AllDifferences::Same => DONE,
+        AllDifferences::Differ { .. } => DIFFERENT,
+    }
+}
+
+/// Compares all records of two recordings, prints all differences, and returns the status of the
+/// program. A refusal is reported on `errors`, in one line.
+///
+/// The output is `same` if the recordings are the same, and the lines of
+/// [`diff_all`](crate::diff_all) otherwise.
+///
+/// The status is 0 if they are the same, 1 if they differ, 2 if an input is refused, 4 if a device
+/// failed and 5 if an allocation failed.
+pub fn run_diff_all<A: Source, B: Source, W: Sink, E: Sink>(
+    alloc: Global,
+    reader_a: &mut A,
+    reader_b: &mut B,
+    writer: &mut W,
+    errors: &mut E,
+    limits: Limits,
+    mode: Mode,
+) -> u8
+    requires limits { AreSound limits }
+    requires given_a { A.given reader_a.old < 2 ^ 62 }
+    requires given_b { B.given reader_b.old < 2 ^ 62 }
+    requires failures_a { A.failures reader_a.old < 2 ^ 62 }
+    requires failures_b { B.failures reader_b.old < 2 ^ 62 }
+    requires write_failures { W.failures writer.old < 2 ^ 62 }
+    requires error_failures { E.failures errors.old < 2 ^ 62 }
+
+    // The lines are written and flushed, or the refusal or the failed writer is reported; the
+    // status is the one for that.
+    ensures told { AllIsTold A.Source B.Source W.Sink E.Sink limits mode reader_a.old reader_a.new
+        reader_b.old reader_b.new writer.old writer.new errors.old errors.new result }
+
+    // At most one byte past the limit is taken of each input.
+    ensures taken_a { A.given reader_a.new ≤ A.given reader_a.old + limits.input + 1 }
+    ensures taken_b { B.given reader_b.new ≤ B.given reader_b.old + limits.input + 1 }
+{
+    run_diff_all_with(
+        alloc,
+        reader_a,
+        reader_b,
+        writer,
+        errors,
+        limits,
+        index_tables(alloc, limits),
+        index_tables(alloc, limits),
+        mode,
+    )
+}
+
+/// Does what [`run_diff_all`] does, with these tables for the ids of A and of B. The tables must be
+/// empty, each with the limit `limits.ids`.
+pub fn run_diff_all_with<A: Source, B: Source, W: Sink, E: Sink, T: NameTable + Drop>(
+    alloc: Global,
+    reader_a: &mut A,
+    reader_b: &mut B,
+    writer: &mut W,
+    errors: &mut E,
+    limits: Limits,
+    tables_a: Tables<T>,
+    tables_b: Tables<T>,
+    mode: Mode,
+) -> u8
+    requires limits { AreSound limits }
+    requires tables_a { AreReady T.numbers T.limit limits tables_a }
+    requires tables_b { AreReady T.numbers T.limit limits tables_b }
+    requires given_a { A.given reader_a.old < 2 ^ 62 }
+    requires given_b { B.given reader_b.old < 2 ^ 62 }
+    requires failures_a { A.failures reader_a.old < 2 ^ 62 }
+    requires failures_b { B.failures reader_b.old < 2 ^ 62 }
+    requires write_failures { W.failures writer.old < 2 ^ 62 }
+    requires error_failures { E.failures errors.old < 2 ^ 62 }
+
+    // The clauses of `run_diff_all`, whatever the tables are.
+    ensures told { AllIsTold A.Source B.Source W.Sink E.Sink limits mode reader_a.old reader_a.new
+        reader_b.old reader_b.new writer.old writer.new errors.old errors.new result }
+    ensures taken_a { A.given reader_a.new ≤ A.given reader_a.old + limits.input + 1 }
+    ensures taken_b { B.given reader_b.new ≤ B.given reader_b.old + limits.input + 1 }
+{
+    let found = match diff_all_with(alloc, reader_a, reader_b, limits, tables_a, tables_b, mode) {
+        Ok(found) => found,
+        Err(refused) => {
+            tell_of_input(errors, refused);
+            return refusal_status(refused);
+        }
+    };
+    match print(writer, &found) {
+        Ok(()) => status(&found),
+        Err(_) => {
+            tell(errors, Refused::WriteFault);
+            FAULT
+        }
+    }
+}
