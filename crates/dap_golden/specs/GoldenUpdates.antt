@@ -64,25 +64,29 @@ module _ {F : Type 0} (file : Replaceable F) (old new : F) where
   abbrev pub HasFailed : Type 0
   HasFailed = file.failures new ≡ file.failures old + 1
 
+  -- Nothing failed, and the golden file is as before.
+  abbrev pub IsOnlyRead : Type 0
+  IsOnlyRead = (file.failures new ≡ file.failures old) × IsKept
+
   -- The golden file is compared with the text.
   abbrev pub Compares : Limits → Mode → GoldenText → Result GoldenDone GoldenStop → Type 0
   Compares limits mode text (Ok (done.Compared verdict)) = (golden : List ℕ) × Had (Some golden)
-      × IsGoldenVerdict limits mode golden text.bytes.items verdict × IsKept
-  Compares limits mode text (Err stop.Missing) = Had None × IsKept
+      × IsGoldenVerdict limits mode golden text.bytes.items verdict × IsOnlyRead
+  Compares limits mode text (Err stop.Missing) = Had None × IsOnlyRead
   Compares limits mode text (Err stop.GoldenUnread) = HasFailed × IsKept
   Compares limits mode text (Err stop.GoldenTooLong) =
-      (file.is_known old → IsLonger limits.input (file.target old)) × IsKept
+      (file.is_known old → IsLonger limits.input (file.target old)) × IsOnlyRead
   Compares limits mode text (Err (stop.Golden refused)) = (golden : List ℕ) × Had (Some golden)
-      × IsRefusedFile limits mode golden text.bytes.items refused × IsKept
-  Compares limits mode text (Err stop.Memory) = IsKept
+      × IsRefusedFile limits mode golden text.bytes.items refused × IsOnlyRead
+  Compares limits mode text (Err stop.Memory) = IsOnlyRead
   Compares limits mode text _ = ⊥
 
   -- Whether the golden file has these bytes.
   abbrev pub Finds : List ℕ → Result Bool GoldenStop → Type 0
-  Finds bytes (Ok true) = Had (Some bytes) × IsKept
-  Finds bytes (Ok false) = (file.is_known old → file.target old ≢ Some bytes) × IsKept
+  Finds bytes (Ok true) = Had (Some bytes) × IsOnlyRead
+  Finds bytes (Ok false) = (file.is_known old → file.target old ≢ Some bytes) × IsOnlyRead
   Finds bytes (Err stop.GoldenUnread) = HasFailed × IsKept
-  Finds bytes (Err stop.Memory) = IsKept
+  Finds bytes (Err stop.Memory) = IsOnlyRead
   Finds bytes _ = ⊥
 
   -- The golden file had other content, and now it has this text and nothing else, also after a
@@ -93,12 +97,12 @@ module _ {F : Type 0} (file : Replaceable F) (old new : F) where
 
   -- The golden file is given the text, unless it has it.
   abbrev pub Updates : GoldenText → Result GoldenDone GoldenStop → Type 0
-  Updates text (Ok done.Unchanged) = Had (Some text.bytes.items) × IsKept
+  Updates text (Ok done.Unchanged) = Had (Some text.bytes.items) × IsOnlyRead
   Updates text (Ok (done.Written records)) = (records ≡ text.records) × IsWritten text.bytes.items
   Updates text (Err stop.GoldenUnread) = HasFailed × IsKept
   Updates text (Err (stop.Unwritten fault)) =
       file.is_known old → HasFailedAt file fault.step old new text.bytes.items
-  Updates text (Err stop.Memory) = IsKept
+  Updates text (Err stop.Memory) = IsOnlyRead
   Updates text _ = ⊥
 
 -- ---- both
