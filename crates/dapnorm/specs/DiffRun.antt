@@ -8,7 +8,7 @@ use Rattle.dap_diff.specs.declared.answer.Diff.{Diff}
 use Rattle.dap_diff.specs.declared.answer.Diff.TheVariants.{Same, Differ}
 use Rattle.dap_rename.specs.declared.mode.Mode.{Mode}
 use Rattle.dap_input.specs.declared.limits.Limits.{Limits}
-use Rattle.dapnorm.specs.ComparingRun.{ComparisonIsTold, differ_line, same_line}
+use Rattle.dap_runs.specs.ComparingRun.{ComparisonIsTold, differ_line, same_line}
 
 -- the first line, as `compare` has it, and the lines behind it that tell how they differ
 abbrev pub first_line : Diff → List ℕ

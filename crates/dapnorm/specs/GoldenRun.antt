@@ -18,9 +18,9 @@ use Rattle.dap_golden.specs.declared.updates.GoldenStop.TheVariants as stop
 use Rattle.dap_input.specs.declared.limits.Limits.{Limits}
 use Rattle.dap_input.specs.declared.refused.Refused.TheVariants.{WriteFault}
 use Rattle.dap_mask.specs.Mask.{Mask}
-use Rattle.dapnorm.specs.ComparingRun.{differ_line, same_line}
-use Rattle.dapnorm.specs.FaultLine.{fault_line, refused_text}
-use Rattle.dapnorm.specs.Run.{HasSent, refused_status}
+use Rattle.dap_runs.specs.ComparingRun.{differ_line, same_line}
+use Rattle.dap_runs.specs.FaultLine.{fault_line, refused_text}
+use Rattle.dap_runs.specs.Reporting.{HasSent}
 use Rattle.dapnorm.specs.declared.golden_run.GoldenRun.{GoldenRun}
 
 -- ---- what was done

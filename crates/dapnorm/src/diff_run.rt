@@ -5,15 +5,13 @@ ghost use Rattle.dap_device.specs.Written.{HasSentAll};
 ghost use Rattle.dap_input.specs.Limits.{AreSound};
 ghost use Rattle.dap_normal.specs.NameTables.{AreReady};
 
-use crate::compare_run::{differ_line, refusal_status, same_line};
-use crate::fault_line::{LINE, tell, tell_of_input};
-use crate::status::{DIFFERENT, DONE, FAULT};
 use arrayvec::ArrayString;
 use dap_device::{DeviceFault, Sink, Source, write_all};
 use dap_diff::{Diff, diff_with};
 use dap_input::{Limits, Refused};
 use dap_normal::index_tables;
 use dap_rename::{Mode, NameTable, Tables};
+use dap_runs::{DIFFERENT, DONE, FAULT, LINE, differ_line, refusal_status, same_line, tell, tell_of_input};
 use std::alloc::Global;
 
 /// The first line, with its LF.

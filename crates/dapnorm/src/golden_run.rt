@@ -8,12 +8,8 @@ ghost use Rattle.dap_input.specs.Limits.{AreSound};
 ghost use Rattle.dapnorm.specs.GoldenRun.{GoldenIsReported, done_status, done_text, golden_line};
 ghost use Rattle.dapnorm.specs.GoldenRun.{stop_line, stop_reason, stop_status, stop_subject};
 ghost use Rattle.dapnorm.specs.GoldenRun.{stop_words, verdict_text};
-ghost use Rattle.dapnorm.specs.Run.{HasSent};
+ghost use Rattle.dap_runs.specs.Reporting.{HasSent};
 
-use crate::compare_run::{differ_line, same_line};
-use crate::fault_line::{LINE, refused_text, tell};
-use crate::parts::{report_parts, send_parts};
-use crate::status::{DIFFERENT, DONE, FAULT, MEMORY, REFUSED};
 use arrayvec::ArrayString;
 use dap_device::{DeviceFault, Sink, Source, write_and_flush};
 use dap_file::Replaceable;
@@ -22,6 +18,7 @@ use dap_golden::{
 };
 use dap_input::{Limits, Refused};
 use dap_mask::MaskRules;
+use dap_runs::{DIFFERENT, DONE, FAULT, LINE, MEMORY, REFUSED, differ_line, refused_text, report_parts, same_line, send_parts, tell};
 use itoa::Buffer;
 use std::alloc::Global;
 

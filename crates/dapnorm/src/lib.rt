@@ -1,21 +1,14 @@
 //! Engines over frames and recordings of the Debug Adapter Protocol.
 #![tactic(auto)]
 
-mod compare_run;
 mod diff_run;
-mod fault_line;
 mod golden_run;
 pub mod laws;
-mod mask_run;
-mod parts;
-mod rows_run;
 mod run_job;
-mod saving;
-mod status;
+mod view_run;
 
-pub use compare_run::{run_compare, run_compare_with};
 pub use dap_command_line::{Job, UsageFault, job};
-pub use dap_commands::{Action, Command, Golden, command};
+pub use dap_commands::{Action, Command, DiffAll, Golden, Show, command};
 pub use dap_compact::compact;
 pub use dap_compare::{CompareRefused, Verdict, Which, compare, compare_with};
 pub use dap_device::{
@@ -36,11 +29,15 @@ pub use dap_normal::{
 };
 pub use dap_recording::{RecordCause, RecorderFault, TraceCause};
 pub use dap_rename::{IndexNames, Mode, NameTable, Pair, Renaming, Tables};
+pub use dap_runs::{
+    RulesRefused, read_rules, report_rules, run_compare, run_compare_with, run_mask, save,
+};
 pub use dap_session::Rule;
-pub use dap_show::show;
+pub use dap_show::{
+    Detail, RecordShown, ShowRequest, show, show_faulty, show_record, show_with,
+};
 pub use dap_trace::record;
 pub use diff_run::{run_diff, run_diff_with};
 pub use golden_run::{GoldenRun, run_golden};
-pub use mask_run::{RulesRefused, read_rules, report_rules, run_mask};
 pub use run_job::{run_stream, run_stream_with, run_usage};
-pub use saving::save;
+pub use view_run::run_view;

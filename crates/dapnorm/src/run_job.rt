@@ -9,15 +9,14 @@ ghost use Rattle.dap_input.specs.Refusals.{IsRefused};
 ghost use Rattle.dap_normal.specs.NameTables.{AreReady};
 ghost use Rattle.dap_normal.specs.Streaming.{Streams};
 ghost use Rattle.dap_rows.specs.RowLines.{lines_of};
-ghost use Rattle.dapnorm.specs.RowsRun.{TellsRows};
-ghost use Rattle.dapnorm.specs.Run.{Answered, CheckIsPrinted, CheckIsTold, IsTold};
-ghost use Rattle.dapnorm.specs.Run.{TellsUsage, accepted_line, status_of};
+ghost use Rattle.dap_runs.specs.RowsRun.{TellsRows};
+ghost use Rattle.dap_runs.specs.Reporting.{Answered, IsTold};
+ghost use Rattle.dapnorm.specs.Run.{CheckIsPrinted, CheckIsTold};
+ghost use Rattle.dap_runs.specs.Reporting.{status_of};
+ghost use Rattle.dapnorm.specs.Run.{TellsUsage, accepted_line};
 ghost use Rattle.dap_show.specs.Showing.{IsShownBy, showing};
 ghost use Rattle.dap_trace.specs.TracingRun.{RecordsTrace};
 
-use crate::fault_line::{LINE, send, tell};
-use crate::rows_run::tell_rows;
-use crate::status::{DONE, FAULT, MEMORY, USAGE, refused_status};
 use arrayvec::ArrayString;
 use dap_command_line::{Job, UsageFault};
 use dap_compact::compact;
@@ -25,32 +24,11 @@ use dap_device::{Sink, Source, write_and_flush};
 use dap_input::{Limits, Refused};
 use dap_normal::{Checked, check_with, index_tables, normalise_with};
 use dap_rename::{NameTable, Tables};
+use dap_runs::{DONE, FAULT, LINE, MEMORY, USAGE, send, tell, tell_answer, tell_rows};
 use dap_show::show;
 use dap_trace::record;
 use itoa::Buffer;
 use std::alloc::Global;
-
-/// The status of the program for an engine's answer.
-fn status(answer: Result<(), Refused>) -> u8
-    ensures { result ≡ status_of answer }
-{
-    match answer {
-        Ok(()) => DONE,
-        Err(refused) => refused_status(refused),
-    }
-}
-
-/// Tells a refusal in one line, and answers the program's status.
-pub(crate) fn tell_answer<E: Sink>(errors: &mut E, answer: Result<(), Refused>) -> u8
-    requires { E.failures errors.old < 2 ^ 63 }
-    ensures told { IsTold E.Sink errors.old errors.new answer }
-    ensures status { result ≡ status_of answer }
-{
-    if let Err(refused) = answer {
-        tell(errors, refused);
-    }
-    status(answer)
-}
 
 /// The line of an accepted recording, with its LF. It takes no memory.
 fn accepted_line(checked: &Checked) -> ArrayString<LINE>

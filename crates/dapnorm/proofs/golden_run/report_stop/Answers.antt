@@ -1,6 +1,6 @@
 use Rattle.std.proofs.Common.{subst}
-use Rattle.dapnorm.specs.GoldenRun.{golden_line, stop_reason, stop_subject, stop_words}
-use Rattle.dapnorm.specs.Run.{HasSent}
+use Rattle.dapnorm.specs.GoldenRun.{golden_line, stop_subject, stop_words}
+use Rattle.dap_runs.specs.Reporting.{HasSent}
 use Rattle.dapnorm.proofs.golden_run.report_stop.Goals as goal
 
 pub returns : goal.returns

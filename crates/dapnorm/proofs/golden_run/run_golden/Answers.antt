@@ -2,8 +2,7 @@ use Rattle.std.proofs.Common.{◌≡◌, ◌∙◌, ap, sym, subst, Option, Some
 use Rattle.std.specs.Option.{option_map}
 use Rattle.dap_mask.specs.KeptRules.{mask_of}
 use Rattle.dapnorm.specs.GoldenRun.{stop_line}
-use Rattle.dapnorm.specs.Run.{HasSent}
-use Rattle.dapnorm.specs.declared.golden_run.GoldenRun.{GoldenRun}
+use Rattle.dap_runs.specs.Reporting.{HasSent}
 use Rattle.dapnorm.proofs.golden_run.run_golden.Goals as goal
 
 some_of_map : {A B : Type 0} (f : A → B) (x : Option A) → is_some (option_map f x) ≡ is_some x

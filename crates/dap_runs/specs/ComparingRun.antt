@@ -1,0 +1,92 @@
+-- What the program tells of comparing. Source: own.
+use Rattle.std.specs.Prelude.{◌≡◌, ◌⊎◌, ℕ, List, [], ◌++◌, Result, Ok, Err, codes, decimal}
+use Rattle.std.specs.Prelude.{Bool, true, false, cond}
+use Rattle.std.specs.Fmt.{signed_decimal}
+use Rattle.std.specs.List.{flat_map}
+use Rattle.dap_device.specs.declared.device.Source.{Ghosts as Source}
+use Rattle.dap_device.specs.declared.device.Sink.{Ghosts as Sink}
+use Rattle.dap_tree.specs.Sorts.{sort_word}
+use Rattle.dap_tree.specs.declared.sort.Sort.{Sort}
+use Rattle.dap_tree.specs.declared.sort.Sort.TheVariants.{Frame, Reference}
+use Rattle.dap_rename.specs.declared.mode.Mode.{Mode}
+use Rattle.dap_rename.specs.declared.mode.Mode.TheVariants.{PerStop}
+use Rattle.dap_rename.specs.declared.pair.Pair.{Pair}
+use Rattle.dap_rename.specs.Renaming.{pairs_of}
+use Rattle.dap_input.specs.declared.limits.Limits.{Limits}
+use Rattle.dap_compare.specs.declared.verdict.CompareRefused.{CompareRefused}
+use Rattle.dap_compare.specs.declared.verdict.CompareRefused.TheVariants.{Input, Memory}
+use Rattle.dap_compare.specs.declared.verdict.Verdict.{Verdict}
+use Rattle.dap_compare.specs.declared.verdict.Verdict.TheVariants.{Same, Differ}
+use Rattle.dap_input.specs.declared.refused.Refused.TheVariants.{WriteFault}
+use Rattle.dap_device.specs.Written.{AllSent, FrontWritten}
+use Rattle.dap_runs.specs.FaultLine.{compare_refused_text, fault_line, refused_text}
+use Rattle.dap_runs.specs.Reporting.{HasSent, refused_status}
+use Rattle.dap_compare.specs.Verdicts.{Compares}
+
+-- Where the names of the sort begin again, the line of a pair tells its stop.
+abbrev pub tells_stop : Mode → Sort → Bool
+tells_stop PerStop Frame = true
+tells_stop PerStop Reference = true
+tells_stop mode sort = false
+
+-- the line of a pair: the sort, perhaps with the stops behind which its class begins, and the two
+-- numbers
+abbrev pub pair_line : Mode → Pair → List ℕ
+pair_line mode pair =
+    sort_word pair.sort
+    ++ cond (tells_stop mode pair.sort) (codes "@" ++ decimal pair.stop) [] ++ codes " "
+    ++ signed_decimal pair.from ++ codes " " ++ signed_decimal pair.to ++ codes "\n"
+
+-- the line that two recordings are the same, and the line that they differ at this record
+abbrev pub same_line : List ℕ
+same_line = codes "same\n"
+
+abbrev pub differ_line : ℕ → List ℕ
+differ_line number = codes "differ " ++ decimal number ++ codes "\n"
+
+-- the first line of a verdict, and the pairs whose lines stand behind it
+abbrev pub first_line : Verdict → List ℕ
+first_line (Same renaming) = same_line
+first_line (Differ number) = differ_line number
+
+abbrev pub pairs_in : Verdict → List Pair
+pairs_in (Same renaming) = pairs_of renaming
+pairs_in (Differ number) = []
+
+-- what the program prints of a verdict
+abbrev pub verdict_text : Mode → Verdict → List ℕ
+verdict_text mode verdict = first_line verdict ++ flat_map (pair_line mode) (pairs_in verdict)
+
+-- the status of the program: same, different, or what the refusal of an input asks for
+abbrev pub verdict_status : Verdict → ℕ
+verdict_status (Same renaming) = 0
+verdict_status (Differ number) = 1
+
+abbrev pub refusal_status : CompareRefused → ℕ
+refusal_status (Input which refused) = refused_status refused
+refusal_status Memory = 5
+
+module _ {W E V : Type 0} (sink : Sink W) (errors : Sink E) (text : V → List ℕ)
+    (status_for : V → ℕ) where
+  -- The text of an answer goes out and is flushed, and the status is that of it; or a front of the
+  -- text goes out and the writer fails, and that is told. Of a refusal nothing goes out, and it is
+  -- told.
+  abbrev pub ComparisonIsTold : Result V CompareRefused → W → W → E → E → ℕ → Type 0
+  ComparisonIsTold (Ok answer) before after old new status =
+      (AllSent sink before after (text answer) × (new ≡ old) × (status ≡ status_for answer))
+      ⊎ (FrontWritten sink before after (text answer)
+      × HasSent errors old new (fault_line (refused_text WriteFault)) × (status ≡ 4))
+  ComparisonIsTold (Err because) before after old new status = (after ≡ before)
+      × HasSent errors old new (fault_line (compare_refused_text because))
+      × (status ≡ refusal_status because)
+
+-- What `compare` answers of the readers is printed or told.
+pub record CompareIsTold {R S W E : Type 0} (source_a : Source R) (source_b : Source S)
+    (sink : Sink W) (errors : Sink E) (limits : Limits) (mode : Mode) (old_a new_a : R) (old_b new_b
+    : S)
+    (before after : W) (silent spoken : E) (status : ℕ) : Type 0 where
+  pub answer : Result Verdict CompareRefused
+  pub compares : Compares source_a source_b limits mode old_a new_a old_b new_b answer
+  pub tells : ComparisonIsTold sink errors (verdict_text mode) verdict_status answer before after
+      silent
+      spoken status

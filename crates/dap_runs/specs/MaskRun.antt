@@ -1,0 +1,119 @@
+-- What the program does and tells where it masks a recording by the rules of a file. Source: own.
+use Rattle.std.specs.Prelude.{◌≡◌, ◌≢◌, ℕ, ◌++◌, List, Result, Ok, Err, codes, decimal}
+use Rattle.dap_device.specs.Reading.{HasCome}
+use Rattle.dap_device.specs.declared.device.Sink.{Ghosts as Sink}
+use Rattle.dap_device.specs.declared.device.Source.{Ghosts as Source}
+use Rattle.dap_device.specs.declared.reading.Stop.{Stop}
+use Rattle.dap_device.specs.declared.reading.Stop.TheVariants.{Failed}
+use Rattle.dap_input.specs.Streaming.{Streams}
+use Rattle.dap_input.specs.declared.limits.Limits.{Limits}
+use Rattle.dap_input.specs.declared.refused.Refused.TheVariants.{Memory}
+use Rattle.dap_mask.specs.KeptRules.{mask_of}
+use Rattle.dap_mask.specs.Mask.{Mask}
+use Rattle.dap_mask.specs.RulesFile.{rules_said}
+use Rattle.dap_mask.specs.declared.fault.RulesCause.{RulesCause}
+use Rattle.dap_mask.specs.declared.fault.RulesCause.TheVariants as cause
+use Rattle.dap_mask.specs.declared.fault.RulesFault.{RulesFault}
+use Rattle.dap_mask.specs.declared.mask_rules.MaskRules.{MaskRules}
+use Rattle.dap_mask_input.specs.MaskedRecordings.{IsMaskedTo, Masks}
+use Rattle.dap_mask_input.specs.Masking.{masking}
+use Rattle.dap_runs.specs.FaultLine.{fault_line, refused_text}
+use Rattle.dap_runs.specs.Reporting.{Answered, HasSent, IsTold}
+use Rattle.dap_runs.specs.declared.mask_run.RulesRefused.{RulesRefused}
+use Rattle.dap_runs.specs.declared.mask_run.RulesRefused.TheVariants as refused
+
+-- ---- the rules
+
+-- What became of the file of rules: it says a mask or a fault; it could not be read; or memory was
+-- wanting.
+pub data RulesOutcome : Type 0 where
+  said : Result Mask RulesFault → RulesOutcome
+  unread : RulesOutcome
+  no_memory : RulesOutcome
+
+abbrev pub outcome_of : Result MaskRules RulesRefused → RulesOutcome
+outcome_of (Ok rules) = said (Ok (mask_of rules))
+outcome_of (Err refused.Unread) = unread
+outcome_of (Err (refused.Line fault)) = said (Err fault)
+outcome_of (Err refused.Memory) = no_memory
+
+-- The file says this, by all of its bytes or by the first 65,537 of them.
+pub record Says {F : Type 0} (source : Source F) (old new : F)
+    (what : Result Mask RulesFault) : Type 0 where
+  pub bytes : List ℕ
+  pub stop : Stop
+  pub came : HasCome source old new 65536 bytes stop
+  pub whole : stop ≢ Failed
+  pub says : rules_said bytes ≡ what
+
+-- The file could not be read to its end.
+pub record IsUnread {F : Type 0} (source : Source F) (old new : F) : Type 0 where
+  pub bytes : List ℕ
+  pub came : HasCome source old new 65536 bytes Failed
+
+abbrev pub ReadsRules : {F : Type 0} → Source F → F → F → RulesOutcome → Type 0
+ReadsRules source old new (said what) = Says source old new what
+ReadsRules source old new unread = IsUnread source old new
+ReadsRules source old new no_memory = Unit {0}
+
+-- ---- what is told
+
+abbrev pub cause_word : RulesCause → List ℕ
+cause_word cause.TooLong = codes "TooLong"
+cause_word cause.NotUtf8 = codes "NotUtf8"
+cause_word cause.BadRule = codes "BadRule"
+cause_word cause.TooMany = codes "TooMany"
+cause_word cause.BadPlace = codes "BadPlace"
+cause_word cause.Repeated = codes "Repeated"
+cause_word cause.DigitsBehindHex = codes "DigitsBehindHex"
+cause_word cause.Memory = codes "Memory"
+
+-- the line of a file of rules that is refused
+abbrev pub rules_line : RulesFault → List ℕ
+rules_line fault =
+    codes "dapnorm: rules: line " ++ decimal fault.line ++ codes ": " ++ cause_word fault.cause
+    ++ codes "\n"
+
+-- the line of a file of rules that could not be read
+abbrev pub rules_unread : List ℕ
+rules_unread = codes "dapnorm: rules: read fault\n"
+
+-- the line that reports why there are no rules
+abbrev pub rules_refused_line : RulesRefused → List ℕ
+rules_refused_line refused.Unread = rules_unread
+rules_refused_line (refused.Line fault) = rules_line fault
+rules_refused_line refused.Memory = fault_line (refused_text Memory)
+
+-- the status then: the file could not be read, it is rejected, or an allocation failed
+abbrev pub rules_refused_status : RulesRefused → ℕ
+rules_refused_status refused.Unread = 4
+rules_refused_status (refused.Line fault) = 2
+rules_refused_status refused.Memory = 5
+
+module _ {R W E : Type 0} (source : Source R) (sink : Sink W) (errors : Sink E) (limits : Limits)
+    (old new : R) (before after : W) (silent spoken : E) (status : ℕ) where
+  -- Nothing is read of the recording and nothing written; this line is told, with this status.
+  pub record TellsAlone (line : List ℕ) (wanted : ℕ) : Type 0 where
+    pub unread : new ≡ old
+    pub unwritten : after ≡ before
+    pub sent : HasSent errors silent spoken line
+    pub status_is : status ≡ wanted
+
+  -- By a mask the recording is masked, and a refusal of it is told.
+  abbrev pub TellsMask : RulesOutcome → Type 0
+  TellsMask (said (Ok mask)) =
+      Answered (Streams (masking limits mask) (Masks limits mask) (IsMaskedTo limits mask) source
+      sink old new before after)
+      (IsTold errors silent spoken) status
+  TellsMask (said (Err fault)) = TellsAlone (rules_line fault) 2
+  TellsMask unread = TellsAlone rules_unread 4
+  TellsMask no_memory = TellsAlone (fault_line (refused_text Memory)) 5
+
+-- The rules are read, and by what became of them the recording is masked, or they are told to be
+-- wrong.
+pub record MaskIsTold {F R W E : Type 0} (file : Source F) (source : Source R) (sink : Sink W)
+    (errors : Sink E) (limits : Limits) (old_rules new_rules : F) (old new : R) (before after : W)
+    (silent spoken : E) (status : ℕ) : Type 0 where
+  pub outcome : RulesOutcome
+  pub reads : ReadsRules file old_rules new_rules outcome
+  pub tells : TellsMask source sink errors limits old new before after silent spoken status outcome

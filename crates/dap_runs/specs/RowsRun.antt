@@ -1,0 +1,29 @@
+-- What the program tells of rows of the profile. Source: own.
+use Rattle.std.specs.Prelude.{◌≡◌, ◌⊎◌, ℕ, List, [], Result, Ok, Err, codes}
+use Rattle.dap_device.specs.declared.device.Sink.{Ghosts as Sink}
+use Rattle.dap_device.specs.Written.{AllSent, FrontWritten}
+use Rattle.dap_input.specs.declared.refused.Refused.{Refused}
+use Rattle.dap_input.specs.declared.refused.Refused.TheVariants.{WriteFault, Memory}
+use Rattle.dap_runs.specs.Reporting.{Answered, HasSent, IsTold}
+
+-- what is told where no row has the number
+abbrev pub no_row : List ℕ
+no_row = codes "error: no row has this number: dapnorm rows prints them all\n"
+
+-- The lines go out and are flushed, or a front of them and the writer fails, or nothing for want of
+-- memory.
+abbrev pub RowsArePrinted : {W : Type 0} → Sink W → List ℕ → W → W → Result (Unit {0}) Refused
+    → Type 0
+RowsArePrinted sink lines before after (Ok done) = AllSent sink before after lines
+RowsArePrinted sink lines before after (Err WriteFault) = FrontWritten sink before after lines
+RowsArePrinted sink lines before after (Err Memory) = after ≡ before
+RowsArePrinted sink lines before after (Err refused) = ⊥
+
+-- Where there are lines they are printed, and what is refused is told. Where there is none that is
+-- told as a mistake of the user, if memory does not want.
+abbrev pub TellsRows : {W E : Type 0} → Sink W → Sink E → List ℕ → W → W → E → E → ℕ → Type 0
+TellsRows sink errors lines before after old new status =
+    Answered (λ answer. (lines ≡ [] → answer ≡ Err Memory)
+    × RowsArePrinted sink lines before after answer)
+    (IsTold errors old new) status
+    ⊎ ((lines ≡ []) × (status ≡ 3) × (after ≡ before) × HasSent errors old new no_row)

@@ -1,0 +1,26 @@
+-- What the program does with an output that goes to a file. Source: own.
+use Rattle.std.specs.Prelude.{◌≡◌, ◌⊎◌, ℕ, ◌++◌, List, codes}
+use Rattle.dap_device.specs.declared.device.Sink.{Ghosts as Sink}
+use Rattle.dap_file.specs.Replacing.{HasFailedAt, HasReplaced}
+use Rattle.dap_file.specs.declared.file.Replaceable.{Ghosts as Replaceable}
+use Rattle.dap_file.specs.declared.replacing.ReplaceFault.{ReplaceFault}
+use Rattle.dap_runs.specs.FaultLine.{fault_line}
+use Rattle.dap_runs.specs.Reporting.{HasSent}
+
+-- the line about a file of this name that could not be written
+abbrev pub unsaved_line : List ℕ → List ℕ
+unsaved_line name = fault_line (name ++ codes ": write fault")
+
+module _ {F E : Type 0} (file : Replaceable F) (errors : Sink E) (name bytes : List ℕ) where
+  -- A step failed, and that is reported.
+  pub record IsUnsaved (old new : F) (silent spoken : E) (status : ℕ) : Type 0 where
+    pub fault : ReplaceFault
+    pub failed : file.is_known old → HasFailedAt file fault.step old new bytes
+    pub reported : HasSent errors silent spoken (unsaved_line name)
+    pub status_is : status ≡ 4
+
+  -- The file has the bytes, or that it has not is reported.
+  abbrev pub Saves : F → F → E → E → ℕ → Type 0
+  Saves old new silent spoken status =
+      ((file.is_known old → HasReplaced file new bytes) × (spoken ≡ silent) × (status ≡ 0))
+      ⊎ IsUnsaved old new silent spoken status

@@ -1,0 +1,230 @@
+//! Compares two inputs, and tells of it what the program tells: lines and a status.
+ghost use Rattle.std.specs.Prelude.{◌≡◌, ◌+◌, ◌<◌, ◌≤◌, ◌^◌};
+ghost use Rattle.std.specs.List.{flat_map};
+ghost use Rattle.dap_runs.specs.ComparingRun.{CompareIsTold, differ_line, first_line, pair_line};
+ghost use Rattle.dap_runs.specs.ComparingRun.{pairs_in, refusal_status, same_line, tells_stop};
+ghost use Rattle.dap_runs.specs.ComparingRun.{verdict_status, verdict_text};
+ghost use Rattle.dap_device.specs.Written.{HasSentAll, HasWrittenAll};
+ghost use Rattle.dap_input.specs.Limits.{AreSound};
+ghost use Rattle.dap_normal.specs.NameTables.{AreReady};
+
+use crate::fault_line::{LINE, tell, tell_of_input};
+use crate::status::{DIFFERENT, DONE, FAULT, MEMORY, refused_status};
+use arrayvec::ArrayString;
+use dap_compare::{CompareRefused, Verdict, compare_with};
+use dap_device::{DeviceFault, Sink, Source, write_all};
+use dap_input::{Limits, Refused};
+use dap_normal::index_tables;
+use dap_rename::{Mode, NameTable, Pair, Tables};
+use dap_tree::Sort;
+use itoa::Buffer;
+use std::alloc::Global;
+
+/// The line of a pair, with its LF.
+fn line_of(mode: Mode, pair: Pair) -> ArrayString<LINE>
+    ensures { result.bytes ≡ pair_line mode pair }
+{
+    let mut number = Buffer::new();
+    let mut line = ArrayString::new();
+    line.push_str(pair.sort.word());
+    if tells_stop(mode, pair.sort) {
+        line.push_str("@");
+        line.push_str(number.format(pair.stop));
+    }
+    line.push_str(" ");
+    line.push_str(number.format(pair.from));
+    line.push_str(" ");
+    line.push_str(number.format(pair.to));
+    line.push_str("\n");
+    line
+}
+
+/// Whether the line of a pair of this sort tells its stop: where the names of the sort begin again.
+fn tells_stop(mode: Mode, sort: Sort) -> bool
+    ensures { result ≡ tells_stop mode sort }
+{
+    match (mode, sort) {
+        (Mode::PerStop, Sort::Frame | Sort::Reference) => true,
+        _ => false,
+    }
+}
+
+/// The line that two recordings are the same, with its LF.
+pub fn same_line() -> ArrayString<LINE>
+    ensures { result.bytes ≡ same_line }
+{
+    let mut line = ArrayString::new();
+    line.push_str("same\n");
+    line
+}
+
+/// The line that two recordings differ at this record, with its LF.
+pub fn differ_line(number: u64) -> ArrayString<LINE>
+    ensures { result.bytes ≡ differ_line number }
+{
+    let mut digits = Buffer::new();
+    let mut line = ArrayString::new();
+    line.push_str("differ ");
+    line.push_str(digits.format(number));
+    line.push_str("\n");
+    line
+}
+
+/// The first line of a verdict, with its LF.
+fn first_line_of(verdict: &Verdict) -> ArrayString<LINE>
+    ensures { result.bytes ≡ first_line verdict.now }
+{
+    match verdict {
+        Verdict::Same(_) => same_line(),
+        Verdict::Differ(record) => differ_line(*record),
+    }
+}
+
+/// The pairs of a verdict that has some.
+fn pairs(verdict: &Verdict) -> &[Pair]
+    ensures { result.now ≡ pairs_in verdict.now }
+{
+    match verdict {
+        Verdict::Same(renaming) => renaming.pairs(),
+        Verdict::Differ(_) => &[],
+    }
+}
+
+/// Sends the lines of pairs out.
+fn write_pairs<W: Sink>(writer: &mut W, mode: Mode, pairs: &[Pair]) -> Result<(), DeviceFault>
+    requires { W.failures writer.old < 2 ^ 63 }
+    ensures { HasWrittenAll W.Sink writer.old writer.new result
+        (flat_map (pair_line mode) pairs.now) }
+{
+    for pair in pairs {
+        write_all(writer, line_of(mode, *pair).as_bytes())?;
+    }
+    Ok(())
+}
+
+/// Sends the lines of a verdict out and flushes.
+fn print<W: Sink>(writer: &mut W, mode: Mode, verdict: &Verdict) -> Result<(), DeviceFault>
+    requires { W.failures writer.old < 2 ^ 62 }
+    ensures { HasSentAll W.Sink writer.old writer.new result (verdict_text mode verdict.now) }
+{
+    write_all(writer, first_line_of(verdict).as_bytes())?;
+    write_pairs(writer, mode, pairs(verdict))?;
+    writer.flush()
+}
+
+/// The status of the program for a verdict.
+fn status(verdict: &Verdict) -> u8
+    ensures { result ≡ verdict_status verdict.now }
+{
+    match verdict {
+        Verdict::Same(_) => DONE,
+        Verdict::Differ(_) => DIFFERENT,
+    }
+}
+
+/// The status of the program where the inputs were not compared to the end.
+pub fn refusal_status(refused: CompareRefused) -> u8
+    ensures { result ≡ refusal_status refused }
+{
+    match refused {
+        CompareRefused::Input(_, refused) => refused_status(refused),
+        CompareRefused::Memory => MEMORY,
+    }
+}
+
+/// Compares two recordings, and answers the program's status. What is wrong is told on `errors`, in
+/// one line.
+///
+/// Of recordings that are the same `same` goes to `writer`, and then a line for each pair of ids,
+/// `W FROM TO`, where W is `client-seq`, `adapter-seq`, `frame`, `reference`, `thread` or
+/// `breakpoint`; with [`Mode::PerStop`] it is `frame@K` or `reference@K` in the place of `frame`
+/// and `reference`, for the ids behind K stops. Of others `differ K` goes there, with the number of
+/// the first record where they differ.
+///
+/// The status is 0 where they are the same, 1 where they differ, 2 where an input is refused, 4
+/// where a device failed and 5 for want of memory.
+pub fn run_compare<A: Source, B: Source, W: Sink, E: Sink>(
+    alloc: Global,
+    reader_a: &mut A,
+    reader_b: &mut B,
+    writer: &mut W,
+    errors: &mut E,
+    limits: Limits,
+    mode: Mode,
+) -> u8
+    requires limits { AreSound limits }
+    requires given_a { A.given reader_a.old < 2 ^ 62 }
+    requires given_b { B.given reader_b.old < 2 ^ 62 }
+    requires failures_a { A.failures reader_a.old < 2 ^ 62 }
+    requires failures_b { B.failures reader_b.old < 2 ^ 62 }
+    requires write_failures { W.failures writer.old < 2 ^ 62 }
+    requires error_failures { E.failures errors.old < 2 ^ 62 }
+
+    // The output is the lines of the verdict, flushed, a refusal is told, and so is a writer that
+    // failed; and the status is that of what was answered or told.
+    ensures told { CompareIsTold A.Source B.Source W.Sink E.Sink limits mode
+        reader_a.old reader_a.new reader_b.old reader_b.new writer.old writer.new
+        errors.old errors.new result }
+
+    // It takes at most one byte past the limit of each.
+    ensures taken_a { A.given reader_a.new ≤ A.given reader_a.old + limits.input + 1 }
+    ensures taken_b { B.given reader_b.new ≤ B.given reader_b.old + limits.input + 1 }
+{
+    run_compare_with(
+        alloc,
+        reader_a,
+        reader_b,
+        writer,
+        errors,
+        limits,
+        index_tables(alloc, limits),
+        index_tables(alloc, limits),
+        mode,
+    )
+}
+
+/// Does what [`run_compare`] does, with these tables for the names of the ids of A and of B. They
+/// have to be empty, each with the limit `limits.ids`.
+pub fn run_compare_with<A: Source, B: Source, W: Sink, E: Sink, T: NameTable + Drop>(
+    alloc: Global,
+    reader_a: &mut A,
+    reader_b: &mut B,
+    writer: &mut W,
+    errors: &mut E,
+    limits: Limits,
+    tables_a: Tables<T>,
+    tables_b: Tables<T>,
+    mode: Mode,
+) -> u8
+    requires limits { AreSound limits }
+    requires tables_a { AreReady T.numbers T.limit limits tables_a }
+    requires tables_b { AreReady T.numbers T.limit limits tables_b }
+    requires given_a { A.given reader_a.old < 2 ^ 62 }
+    requires given_b { B.given reader_b.old < 2 ^ 62 }
+    requires failures_a { A.failures reader_a.old < 2 ^ 62 }
+    requires failures_b { B.failures reader_b.old < 2 ^ 62 }
+    requires write_failures { W.failures writer.old < 2 ^ 62 }
+    requires error_failures { E.failures errors.old < 2 ^ 62 }
+
+    // What `run_compare` promises, whatever the tables are.
+    ensures told { CompareIsTold A.Source B.Source W.Sink E.Sink limits mode
+        reader_a.old reader_a.new reader_b.old reader_b.new writer.old writer.new
+        errors.old errors.new result }
+    ensures taken_a { A.given reader_a.new ≤ A.given reader_a.old + limits.input + 1 }
+    ensures taken_b { B.given reader_b.new ≤ B.given reader_b.old + limits.input + 1 }
+{
+    let verdict = match compare_with(alloc, reader_a, reader_b, limits, tables_a, tables_b, mode) {
+        Ok(verdict) => verdict,
+        Err(refused) => {
+            tell_of_input(errors, refused);
+            return refusal_status(refused);
+        }
+    };
+    match print(writer, mode, &verdict) {
+        Ok(()) => status(&verdict),
+        Err(_) => {
+            tell(errors, Refused::WriteFault);
+            FAULT
+        }
+    }
+}

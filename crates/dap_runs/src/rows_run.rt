@@ -1,0 +1,52 @@
+//! Prints rows of the profile.
+ghost use Rattle.std.specs.Prelude.{◌<◌, ◌^◌, option_map};
+ghost use Rattle.dap_runs.specs.RowsRun.{RowsArePrinted, TellsRows};
+ghost use Rattle.dap_rows.specs.RowLines.{lines_of};
+
+use crate::fault_line::{send, tell_answer};
+use crate::status::USAGE;
+use dap_device::{Sink, write_and_flush};
+use dap_input::Refused;
+use dap_rows::row_lines;
+use std::alloc::Global;
+
+/// What is told where no row has the number.
+const NO_ROW: &str = "error: no row has this number: dapnorm rows prints them all\n";
+
+/// Prints the rows of the profile, or the one whose number this text writes, and answers the
+/// program's status. What is wrong is told on `errors`, in one line.
+///
+/// The status is 0 where they were printed, 3 where no row has the number, 4 where the writer
+/// failed and 5 for want of memory.
+pub fn tell_rows<W: Sink, E: Sink>(
+    alloc: Global,
+    number: Option<&str>,
+    writer: &mut W,
+    errors: &mut E,
+) -> u8
+    requires write_failures { W.failures writer.old < 2 ^ 62 }
+    requires error_failures { E.failures errors.old < 2 ^ 62 }
+    ensures { TellsRows W.Sink E.Sink
+        (lines_of (option_map (λ s. s.now) number.entry)) writer.old writer.new errors.old
+        errors.new result }
+{
+    let Ok(lines) = row_lines(alloc, number) else {
+        return tell_answer(errors, Err(Refused::Memory));
+    };
+    if lines.is_empty() {
+        send(errors, NO_ROW);
+        return USAGE;
+    }
+    let answer = print_lines(writer, lines.as_str());
+    tell_answer(errors, answer)
+}
+
+fn print_lines<W: Sink>(writer: &mut W, lines: &str) -> Result<(), Refused>
+    requires { W.failures writer.old < 2 ^ 62 }
+    ensures { RowsArePrinted W.Sink lines.now writer.old writer.new result }
+{
+    match write_and_flush(writer, lines.as_bytes()) {
+        Ok(()) => Ok(()),
+        Err(_) => Err(Refused::WriteFault),
+    }
+}

@@ -1,0 +1,47 @@
+//! Saves an output in a file.
+ghost use Rattle.std.specs.Prelude.{◌≡◌, ◌<◌, ◌^◌, None};
+ghost use Rattle.dap_file.specs.Crash.{LeavesOnly};
+ghost use Rattle.dap_file.specs.Replacing.{IsOldOrNew};
+ghost use Rattle.dap_runs.specs.Reporting.{HasSent};
+ghost use Rattle.dap_runs.specs.Saving.{Saves, unsaved_line};
+
+use crate::parts::report_parts;
+use crate::status::{DONE, FAULT};
+use dap_device::Sink;
+use dap_file::{Replaceable, replace};
+
+/// Reports that a file could not be written, in one line. A failure to write it is not reported.
+fn report_unsaved<E: Sink>(errors: &mut E, name: &str)
+    requires { E.failures errors.old < 2 ^ 62 }
+    ensures { HasSent E.Sink errors.old errors.new (unsaved_line name.now) }
+{
+    report_parts(errors, &[b"dapnorm: ", name.as_bytes(), b": write fault\n"]);
+}
+
+/// Replaces the content of a file by these bytes, as [`replace`] describes, and returns the status
+/// of the program. A failure is reported on `errors`, in one line with the name of the file.
+///
+/// The status is 0 if the file was replaced, and 4 if not.
+pub fn save<F: Replaceable, E: Sink>(file: &mut F, name: &str, bytes: &[u8], errors: &mut E) -> u8
+    requires few { F.failures file.old < 2 ^ 62 }
+    requires none { F.is_known file.old → F.temporary file.old ≡ None }
+    requires error_failures { E.failures errors.old < 2 ^ 62 }
+
+    // The file has the bytes, or the line says that it has not.
+    ensures saved { Saves F.Replaceable E.Sink name.now bytes.now file.old file.new errors.old
+        errors.new result }
+
+    // A crash, the end of the process or a loss of power at any moment leaves what it could have
+    // left before, or the bytes, whole.
+    ensures any_moment { F.is_known file.old
+        → LeavesOnly F.moment F.left_since (IsOldOrNew F.Replaceable file.old bytes.now)
+        file.old file.new }
+{
+    match replace(file, bytes) {
+        Ok(()) => DONE,
+        Err(_) => {
+            report_unsaved(errors, name);
+            FAULT
+        }
+    }
+}

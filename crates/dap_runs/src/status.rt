@@ -1,0 +1,44 @@
+//! The statuses that the program ends with.
+ghost use Rattle.std.specs.Prelude.{◌≡◌};
+ghost use Rattle.dap_runs.specs.Reporting.{refused_status, status_of};
+
+use dap_input::Refused;
+
+/// The job was done: written, accepted, or the same.
+pub const DONE: u8 = 0;
+
+/// Two recordings differ.
+pub const DIFFERENT: u8 = 1;
+
+/// An input is refused.
+pub const REFUSED: u8 = 2;
+
+/// The words name no job.
+pub const USAGE: u8 = 3;
+
+/// A device failed.
+pub const FAULT: u8 = 4;
+
+/// Memory was wanting.
+pub const MEMORY: u8 = 5;
+
+/// The status of the program for a refusal.
+pub fn refused_status(refused: Refused) -> u8
+    ensures { result ≡ refused_status refused }
+{
+    match refused {
+        Refused::ReadFault | Refused::WriteFault => FAULT,
+        Refused::Memory => MEMORY,
+        _ => REFUSED,
+    }
+}
+
+/// The status of the program for an engine's answer.
+pub(crate) fn status(answer: Result<(), Refused>) -> u8
+    ensures { result ≡ status_of answer }
+{
+    match answer {
+        Ok(()) => DONE,
+        Err(refused) => refused_status(refused),
+    }
+}

@@ -1,0 +1,54 @@
+-- What the program prints and reports of a recording that it shows. Source: own.
+use Rattle.std.specs.Prelude.{◌≡◌, ℕ, ◌++◌, true, List, Option, Some, None, Result, Ok, Err, codes}
+use Rattle.std.specs.Prelude.{decimal}
+use Rattle.dap_device.specs.declared.device.Sink.{Ghosts as Sink}
+use Rattle.dap_device.specs.declared.device.Source.{Ghosts as Source}
+use Rattle.dap_input.specs.declared.limits.Limits.{Limits}
+use Rattle.dap_input.specs.declared.refused.Refused.{Refused}
+use Rattle.dap_show.specs.OneRecord.{ShowsRecord}
+use Rattle.dap_show.specs.Viewing.{ViewsInput}
+use Rattle.dap_show.specs.declared.detail.Detail.{Detail}
+use Rattle.dap_show.specs.declared.one_record.RecordShown.{RecordShown}
+use Rattle.dap_show.specs.declared.one_record.RecordShown.TheVariants.{Shown, Missing}
+use Rattle.dap_runs.specs.FaultLine.{fault_line, refused_text}
+use Rattle.dap_runs.specs.Reporting.{HasSent, IsTold, refused_status, status_of}
+
+-- the first refusal of an answer: one that is marked, or one that is returned
+abbrev pub first_of : Result (Option Refused) Refused → Result (Unit {0}) Refused
+first_of (Ok None) = Ok tt
+first_of (Ok (Some refused)) = Err refused
+first_of (Err refused) = Err refused
+
+-- the line about a record that a recording does not have
+abbrev pub no_record_line : ℕ → ℕ → List ℕ
+no_record_line number count =
+    codes "dapnorm: no record " ++ decimal number ++ codes ": the recording has " ++ decimal count
+    ++ codes "\n"
+
+-- What is reported of a record, with the status: nothing if it was printed; that it is missing; or
+-- a refusal.
+abbrev pub RecordReports : {E : Type 0} → Sink E → ℕ → E → E → ℕ → Result RecordShown Refused
+    → Type 0
+RecordReports errors number silent spoken status (Ok Shown) = (spoken ≡ silent) × (status ≡ 0)
+RecordReports errors number silent spoken status (Ok (Missing count)) =
+    HasSent errors silent spoken (no_record_line number count) × (status ≡ 2)
+RecordReports errors number silent spoken status (Err refused) =
+    HasSent errors silent spoken (fault_line (refused_text refused))
+    × (status ≡ refused_status refused)
+
+module _ {R W E : Type 0} (source : Source R) (sink : Sink W) (errors : Sink E) (limits : Limits)
+  where
+    -- The input is shown with its faults, and the first refusal is reported.
+    pub record FaultyIsReported (detail : Detail) (old new : R) (before after : W)
+        (silent spoken : E) (status : ℕ) : Type 0 where
+      pub answer : Result (Option Refused) Refused
+      pub views : ViewsInput true detail limits source sink old new before after answer
+      pub tells : IsTold errors silent spoken (first_of answer)
+      pub status_is : status ≡ status_of (first_of answer)
+
+    -- A record is shown, or it is reported why not.
+    pub record RecordIsReported (number : ℕ) (old new : R) (before after : W) (silent spoken : E)
+        (status : ℕ) : Type 0 where
+      pub answer : Result RecordShown Refused
+      pub shows : ShowsRecord limits source sink number old new before after answer
+      pub reports : RecordReports errors number silent spoken status answer
