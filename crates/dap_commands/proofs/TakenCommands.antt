@@ -13,14 +13,13 @@ use Rattle.clap.specs.Simple.{built_leaf, inherited, marked_built, rows_at, subc
 use Rattle.clap.specs.Simple.{with_leaf_noted}
 use Rattle.clap.specs.Takes.{built_takes, default_passes, entered_passes, level_passes}
 use Rattle.clap.specs.Takes.{settle_passes, takes, walk_passes}
-use Rattle.clap.specs.Walk.{Row, Text, answers_to, first_of, nothing_held, rows_after}
+use Rattle.clap.specs.Walk.{Text, answers_to, first_of, nothing_held, rows_after}
 use Rattle.clap.specs.Walk.{stop_after, walk, walk_from}
 use Rattle.clap.proofs.WalkLemmas.{both}
-use Rattle.dap_command_line.specs.CommandLine.{Told as ToldJob, asks_per_stop, over_files}
 use Rattle.dap_command_line.specs.CommandLine.{two_files}
 use Rattle.dap_command_line.specs.CommandLine as line
-use Rattle.dap_commands.specs.Commands.{command_named, command_of, golden_keeper, masker}
-use Rattle.dap_commands.specs.Commands.{of_two_files, program, with_files}
+use Rattle.dap_commands.specs.Commands.{command_named, command_of, comparer, differ}
+use Rattle.dap_commands.specs.Commands.{golden_keeper, masker, program, with_files}
 use Rattle.dap_commands.proofs.EnteredSubcommand.{IsNotHelp, walk_meets}
 use Rattle.dap_commands.proofs.Found.{found_in}
 use Rattle.dap_commands.proofs.NoFault.{no_fault-takes}
@@ -34,14 +33,12 @@ mapped : {X Y : Type 0} (f : X → Y) (o : Option X) → is_some o ≡ true
 mapped f None some = some
 mapped f (Some x) some = refl
 
--- a job over two files that are both given
-both_files : (job : Text → Text → Bool → ToldJob) (given : List Row) (a b : Option Text)
-    → is_some a ≡ true → is_some b ≡ true
-    → is_some (option_map (λ files. job files.0 files.1 (asks_per_stop given)) (two_files a b))
-    ≡ true
-both_files job given None b some other = absurd (true≢false (sym some))
-both_files job given (Some a) None some other = absurd (true≢false (sym other))
-both_files job given (Some a) (Some b) some other = refl
+-- a function of two files that are both given
+both_files : {Y : Type 0} (f : Text × Text → Y) (a b : Option Text) → is_some a ≡ true
+    → is_some b ≡ true → is_some (option_map f (two_files a b)) ≡ true
+both_files f None b some other = absurd (true≢false (sym some))
+both_files f (Some a) None some other = absurd (true≢false (sym other))
+both_files f (Some a) (Some b) some other = refl
 
 -- The subcommand, met by a word that is not `help`, names a command if its level passes.
 abbrev NamesCommand : Shape → Type 0
@@ -83,17 +80,23 @@ mask_names word words met not_help passes =
     mapped (with_files rows) _ (mapped line.mask (first_of (codes "RULES") rows)
     (both (is_some (first_of (codes "RULES") rows)) _ need).0)
 
-both_given : (job : Text → Text → Bool → ToldJob) (name : Text) (words : List Text)
-    → level_passes (as_built (of_two_files name)) [] nothing_held words false ≡ true
-    → let rows = rows_after (as_built (of_two_files name)).rules [] words in
-    is_some (option_map (with_files rows) (over_files job rows)) ≡ true
-both_given job name words passes =
-    let rows = rows_after (as_built (of_two_files name)).rules [] words in
-    let need = level_has_required (as_built (of_two_files name)) words refl passes in
+compare_names : NamesCommand (as_built comparer)
+compare_names word words met not_help passes =
+    let rows = rows_after (as_built comparer).rules [] words in
+    let need = level_has_required (as_built comparer) words refl passes in
     let a = first_of (codes "A") rows in
     let b = first_of (codes "B") rows in
     let two = both (is_some a) _ need in
-    mapped (with_files rows) _ (both_files job rows a b two.0 (both (is_some b) _ two.1).0)
+    mapped (with_files rows) _ (both_files _ a b two.0 (both (is_some b) _ two.1).0)
+
+diff_names : NamesCommand (as_built differ)
+diff_names word words met not_help passes =
+    let rows = rows_after (as_built differ).rules [] words in
+    let need = level_has_required (as_built differ) words refl passes in
+    let a = first_of (codes "A") rows in
+    let b = first_of (codes "B") rows in
+    let two = both (is_some a) _ need in
+    both_files _ a b two.0 (both (is_some b) _ two.1).0
 
 each_names : AllByRecursion NamesCommand app.subs
 each_names = (
@@ -105,9 +108,9 @@ each_names = (
       (
         λ word words met not_help passes. refl,
         (
-          λ word words met not_help passes. both_given line.compare (codes "compare") words passes,
+          compare_names,
           (
-            λ word words met not_help passes. both_given line.diff (codes "diff") words passes,
+            diff_names,
             (
               λ word words met not_help passes. refl,
               (

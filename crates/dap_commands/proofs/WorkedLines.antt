@@ -3,7 +3,7 @@ use Rattle.std.proofs.Common.{◌≡◌, refl, true, false, [], ◌∷◌, Some,
 use Rattle.clap.specs.Words.{subcommand_of}
 use Rattle.clap.proofs.OnLiterals.{clap_on_literals}
 use Rattle.dap_command_line.specs.CommandLine as line
-use Rattle.dap_commands.specs.Commands.{command_named, golden, job, program}
+use Rattle.dap_commands.specs.Commands.{command_named, diff_all, golden, job, program, view}
 
 -- `-` is a file
 dash_is_input : command_named (subcommand_of program
@@ -12,6 +12,7 @@ dash_is_input : command_named (subcommand_of program
       action = job (line.check false false);
       input = Some (codes "-");
       output = None;
+      explain = false;
     })
 unfolding clap_on_literals
 dash_is_input = refl
@@ -23,6 +24,7 @@ mask_with_files : command_named (subcommand_of program (codes "dapnorm" ∷ code
       action = job (line.mask (codes "rules"));
       input = Some (codes "in");
       output = Some (codes "out");
+      explain = false;
     })
 unfolding clap_on_literals
 mask_with_files = refl
@@ -33,6 +35,41 @@ golden_with_options : command_named (subcommand_of program (codes "dapnorm" ∷ 
       action = golden (codes "file") (Some (codes "rules")) false false true;
       input = None;
       output = None;
+      explain = true;
     })
 unfolding clap_on_literals
 golden_with_options = refl
+
+show_with_options : command_named (subcommand_of program (codes "dapnorm" ∷ codes "show"
+    ∷ codes "--faulty" ∷ codes "--record=3" ∷ codes "in" ∷ codes "--explain" ∷ []))
+    ≡ Some (record {
+      action = view false true (Some (codes "3"));
+      input = Some (codes "in");
+      output = None;
+      explain = true;
+    })
+unfolding clap_on_literals
+show_with_options = refl
+
+-- without options of its own, `show` is a job
+show_alone : command_named (subcommand_of program (codes "dapnorm" ∷ codes "show" ∷ codes "in"
+    ∷ []))
+    ≡ Some (record {
+      action = job line.show;
+      input = Some (codes "in");
+      output = None;
+      explain = false;
+    })
+unfolding clap_on_literals
+show_alone = refl
+
+diff_with_options : command_named (subcommand_of program (codes "dapnorm" ∷ codes "diff"
+    ∷ codes "a" ∷ codes "--all" ∷ codes "b" ∷ []))
+    ≡ Some (record {
+      action = diff_all (codes "a") (codes "b") false;
+      input = None;
+      output = None;
+      explain = false;
+    })
+unfolding clap_on_literals
+diff_with_options = refl

@@ -1,5 +1,5 @@
 -- The program's command line, as `clap` reads it, and the command that it names. Source: own.
-use Rattle.std.specs.Prelude.{◌≡◌, Bool, true, false, List, [], ◌∷◌, Option, Some, None, codes}
+use Rattle.std.specs.Prelude.{◌≡◌, ◌||◌, Bool, true, false, is_some, List, [], ◌∷◌, Option, Some, None, codes}
 use Rattle.std.specs.Prelude.{if◌then◌else◌, option_map, option_and_then}
 use Rattle.std.specs.Str.{bytes_eq}
 use Rattle.clap.specs.Words.{App, IsAmong, Kinds, Row, Rule, Shape, Text, app_of, first_of}
@@ -48,28 +48,49 @@ output_file = record (option (codes "output")) { short = Some 111 }
 abbrev pub subcommand : Text → List Rule → Shape
 subcommand name rules = record (new_shape name) { rules = rules }
 
--- `record`, `show` and `compact`
+-- the flag `--explain`
+abbrev pub explain_flag : Rule
+explain_flag = flag (codes "explain")
+
+-- `record` and `compact`
 abbrev pub stream : Text → Shape
-stream name = subcommand name (input_file ∷ output_file ∷ [])
+stream name = subcommand name (explain_flag ∷ input_file ∷ output_file ∷ [])
+
+-- `show`
+abbrev pub viewer : Shape
+viewer =
+    subcommand (codes "show") (flag (codes "full") ∷ flag (codes "faulty")
+    ∷ option (codes "record") ∷ explain_flag ∷ input_file ∷ output_file ∷ [])
 
 -- `normalise`
 abbrev pub normaliser : Shape
 normaliser =
-    subcommand (codes "normalise") (flag (codes "per-stop") ∷ input_file ∷ output_file ∷ [])
+    subcommand (codes "normalise") (flag (codes "per-stop") ∷ explain_flag ∷ input_file
+    ∷ output_file ∷ [])
 
 -- `mask`
 abbrev pub masker : Shape
-masker = subcommand (codes "mask") (file (codes "RULES") ∷ input_file ∷ output_file ∷ [])
+masker =
+    subcommand (codes "mask") (file (codes "RULES") ∷ explain_flag ∷ input_file ∷ output_file ∷ [])
 
 -- `check`
 abbrev pub checker : Shape
 checker =
-    subcommand (codes "check") (flag (codes "complete") ∷ flag (codes "per-stop") ∷ input_file ∷ [])
+    subcommand (codes "check") (flag (codes "complete") ∷ flag (codes "per-stop") ∷ explain_flag
+    ∷ input_file ∷ [])
+
+-- a subcommand of two files, with these arguments after the ones of all such subcommands
+abbrev pub of_two_files : Text → List Rule → Shape
+of_two_files name rules =
+    subcommand name (file (codes "A") ∷ file (codes "B") ∷ flag (codes "per-stop") ∷ explain_flag
+    ∷ rules)
 
 -- `compare` and `diff`
-abbrev pub of_two_files : Text → Shape
-of_two_files name =
-    subcommand name (file (codes "A") ∷ file (codes "B") ∷ flag (codes "per-stop") ∷ [])
+abbrev pub comparer : Shape
+comparer = of_two_files (codes "compare") []
+
+abbrev pub differ : Shape
+differ = of_two_files (codes "diff") (flag (codes "all") ∷ [])
 
 -- `rows`
 abbrev pub row_printer : Shape
@@ -91,7 +112,7 @@ program = record {
     subcommand_required = true;
   };
   subs = golden_keeper ∷ stream (codes "record") ∷ checker ∷ normaliser
-      ∷ of_two_files (codes "compare") ∷ of_two_files (codes "diff") ∷ stream (codes "show")
+      ∷ comparer ∷ differ ∷ viewer
       ∷ masker ∷ stream (codes "compact") ∷ row_printer ∷ [];
 }
 
@@ -107,10 +128,13 @@ pub record IsSubcommand (shape : Shape) (command : Definition) : Type 0 where
 
 -- ---- commands by their texts
 
--- an action by the texts of its arguments: a job, or the golden file, the file of the rules,
--- `--per-stop`, `--open` and `--update`
+-- an action by the texts of its arguments: a job; two files, and whether ids are numbered anew after
+-- each stop; `--full`, `--faulty` and the number after
+-- `--record`; or the golden file, the file of the rules, `--per-stop`, `--open` and `--update`
 pub data ToldAction : Type 0 where
   job : ToldJob → ToldAction
+  diff_all : Text → Text → Bool → ToldAction
+  view : Bool → Bool → Option Text → ToldAction
   golden : Text → Option Text → Bool → Bool → Bool → ToldAction
 
 -- a command by the texts of its arguments
@@ -118,9 +142,12 @@ pub record Told : Type 0 where
   pub action : ToldAction
   pub input : Option Text
   pub output : Option Text
+  pub explain : Bool
 
 abbrev pub told_action : Action → ToldAction
 told_action (action.Job j) = job (told_job j)
+told_action (action.DiffAll d) = diff_all d.a.now d.b.now d.per_stop
+told_action (action.Show v) = view v.full v.faulty (text_in v.record)
 told_action (action.Golden g) =
     golden g.golden.now (text_in g.rules) g.per_stop g.open g.update
 
@@ -129,6 +156,7 @@ told command = record {
   action = told_action command.action;
   input = text_in command.input;
   output = text_in command.output;
+  explain = command.explain;
 }
 
 -- ---- the command that the arguments name
@@ -145,27 +173,71 @@ abbrev pub writes_output : ToldJob → Bool
 writes_output (line.check complete per_stop) = false
 writes_output one = reads_input one
 
+-- a flag was given
+abbrev pub has_flag : Text → List Row → Bool
+has_flag name given = is_set (first_of name given)
+
 -- a job with its files
 abbrev pub with_files : List Row → ToldJob → Told
 with_files given one = record {
   action = job one;
   input = if reads_input one then first_of (codes "FILE") given else None;
   output = if writes_output one then first_of (codes "output") given else None;
+  explain = has_flag (codes "explain") given;
 }
 
--- the command of `golden`
+-- what `diff` prints of two files: all differences, or the first
+abbrev pub diff_action : List Row → Text × Text → ToldAction
+diff_action given files =
+    if has_flag (codes "all") given then diff_all files.0 files.1 (asks_per_stop given)
+    else job (line.diff files.0 files.1 (asks_per_stop given))
+
+-- the command of `diff`
+abbrev pub diff_of : List Row → Option Told
+diff_of given = option_map (λ files. record {
+  action = diff_action given files;
+  input = None;
+  output = None;
+  explain = has_flag (codes "explain") given;
+}) (line.two_files (first_of (codes "A") given) (first_of (codes "B") given))
+
+-- `show` was given an option of its own
+abbrev pub asks_view : List Row → Bool
+asks_view given =
+    has_flag (codes "full") given || has_flag (codes "faulty") given
+    || is_some (first_of (codes "record") given)
+
+-- what `show` prints: the lines of each record, unless another view is requested
+abbrev pub show_action : List Row → ToldAction
+show_action given =
+    if asks_view given then view (has_flag (codes "full") given) (has_flag (codes "faulty") given)
+    (first_of (codes "record") given) else job line.show
+
+-- the command of `show`
+abbrev pub show_of : List Row → Told
+show_of given = record {
+  action = show_action given;
+  input = first_of (codes "FILE") given;
+  output = first_of (codes "output") given;
+  explain = has_flag (codes "explain") given;
+}
+
+-- the command of `golden`, which explains without being asked
 abbrev pub golden_of : List Row → Option Told
 golden_of given = option_map (λ name. record {
   action = golden name (first_of (codes "rules") given) (asks_per_stop given)
-      (is_set (first_of (codes "open") given)) (is_set (first_of (codes "update") given));
+      (has_flag (codes "open") given) (has_flag (codes "update") given);
   input = first_of (codes "INPUT") given;
   output = None;
+  explain = true;
 }) (first_of (codes "GOLDEN") given)
 
 -- the command of a subcommand with the arguments that it was given
 abbrev pub command_of : Text → List Row → Option Told
 command_of name given =
     if bytes_eq name (codes "golden") then golden_of given
+    else if bytes_eq name (codes "show") then Some (show_of given)
+    else if bytes_eq name (codes "diff") then diff_of given
     else option_map (with_files given) (job_of name given)
 
 abbrev pub command_named : Option (Text × List Row) → Option Told

@@ -15,6 +15,8 @@ pub struct Command<'a> {
     /// The file of the output. `None` is standard output. `check`, `compare`, `diff`, `rows` and
     /// `golden` have `None`.
     pub output: Option<&'a str>,
+    /// Whether a refusal is explained in further lines. `golden` explains without the flag.
+    pub explain: bool,
 }
 
 /// What the program is to do.
@@ -22,8 +24,34 @@ pub struct Command<'a> {
 pub enum Action<'a> {
     /// One of the jobs.
     Job(Job<'a>),
+    /// Print all differences of two recordings.
+    DiffAll(DiffAll<'a>),
+    /// Print a recording in another way than the job `show`.
+    Show(Show<'a>),
     /// Make, renew or compare a golden file.
     Golden(Golden<'a>),
+}
+
+/// The recordings of which `diff` prints all differences.
+#[derive(Clone, Copy, Debug, PartialEq, Eq)]
+pub struct DiffAll<'a> {
+    /// The file of the first recording.
+    pub a: &'a str,
+    /// The file of the second recording.
+    pub b: &'a str,
+    /// Whether frame ids and references are numbered from 1 again after each stop.
+    pub per_stop: bool,
+}
+
+/// How `show` prints a recording, if it has one of these options.
+#[derive(Clone, Copy, Debug, PartialEq, Eq)]
+pub struct Show<'a> {
+    /// Print each value of each record.
+    pub full: bool,
+    /// Go on after a record that is refused, and mark it.
+    pub faulty: bool,
+    /// The number of the record whose content is printed alone, as it was given.
+    pub record: Option<&'a str>,
 }
 
 /// What `golden` does, and how.
@@ -42,15 +70,27 @@ pub struct Golden<'a> {
     pub update: bool,
 }
 
+/// The mode in which ids are numbered.
+fn mode_for(per_stop: bool) -> Mode
+    ensures { result ≡ mode_for per_stop }
+{
+    if per_stop { Mode::PerStop } else { Mode::Whole }
+}
+
+impl DiffAll<'_> {
+    /// The mode in which the ids of the recordings are numbered.
+    pub fn mode(&self) -> Mode
+        ensures { result ≡ mode_for self.now.per_stop }
+    {
+        mode_for(self.per_stop)
+    }
+}
+
 impl Golden<'_> {
     /// The mode in which the ids of the session are numbered.
     pub fn mode(&self) -> Mode
         ensures { result ≡ mode_for self.now.per_stop }
     {
-        if self.per_stop {
-            Mode::PerStop
-        } else {
-            Mode::Whole
-        }
+        mode_for(self.per_stop)
     }
 }

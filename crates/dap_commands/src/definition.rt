@@ -2,11 +2,10 @@
 ghost use Rattle.std.specs.Prelude.{[], ◌≡◌, codes, IfOk};
 ghost use Rattle.clap.specs.Words.{Shape, app_of, with_subcommand};
 ghost use Rattle.dap_command_line.specs.CommandLine.{bare, file};
-ghost use Rattle.dap_commands.specs.Commands.{IsArgument, IsSubcommand, checker, flag};
-ghost use Rattle.dap_commands.specs.Commands.{golden_keeper, input_file, masker, normaliser};
-ghost use Rattle.dap_commands.specs.Commands.{of_two_files};
-ghost use Rattle.dap_commands.specs.Commands.{option, optional, output_file, program, row_printer};
-ghost use Rattle.dap_commands.specs.Commands.{stream, subcommand};
+ghost use Rattle.dap_commands.specs.Commands.{IsArgument, IsSubcommand, checker, comparer, differ};
+ghost use Rattle.dap_commands.specs.Commands.{explain_flag, flag, golden_keeper, input_file, masker, normaliser};
+ghost use Rattle.dap_commands.specs.Commands.{of_two_files, option, optional, output_file, program};
+ghost use Rattle.dap_commands.specs.Commands.{row_printer, stream, subcommand, viewer};
 
 use clap::{Arg, ArgAction, Command};
 use std::alloc::{AllocError, Global};
@@ -90,6 +89,17 @@ fn per_stop_flag<'a>(alloc: Global) -> Arg<'a>
     )
 }
 
+/// The flag `--explain`.
+fn explain_flag<'a>(alloc: Global) -> Arg<'a>
+    ensures { IsArgument explain_flag result }
+{
+    flag(
+        alloc,
+        "explain",
+        "Explains a refusal in further lines; holds the whole input",
+    )
+}
+
 /// A subcommand that has no argument yet.
 fn subcommand<'a>(alloc: Global, name: &'a str, about: &'a str, example: &'a str) -> Command<'a>
     ensures { IsSubcommand (subcommand name.entry.now []) result }
@@ -107,6 +117,7 @@ fn stream_command<'a>(
     ensures { IfOk result (IsSubcommand (stream name.entry.now)) }
 {
     subcommand(alloc, name, about, example)
+        .arg(explain_flag(alloc))?
         .arg(input_file(alloc))?
         .arg(output_file(alloc))
 }
@@ -125,14 +136,33 @@ fn record_command<'a>(alloc: Global) -> Result<Command<'a>, AllocError>
 
 /// The subcommand `show`.
 fn show_command<'a>(alloc: Global) -> Result<Command<'a>, AllocError>
-    ensures { IfOk result (IsSubcommand (stream (codes "show"))) }
+    ensures { IfOk result (IsSubcommand viewer) }
 {
-    stream_command(
+    subcommand(
         alloc,
         "show",
         "Prints the records of a recording, a line for each",
         "Example: dapnorm show session.rec",
     )
+    .arg(flag(
+        alloc,
+        "full",
+        "Prints each value of each record, in a line with its path",
+    ))?
+    .arg(flag(
+        alloc,
+        "faulty",
+        "Goes on after a record that is refused, and marks it",
+    ))?
+    .arg(option(
+        alloc,
+        "record",
+        "N",
+        "Prints the content of record N alone, as indented JSON",
+    ))?
+    .arg(explain_flag(alloc))?
+    .arg(input_file(alloc))?
+    .arg(output_file(alloc))
 }
 
 /// The subcommand `compact`.
@@ -158,6 +188,7 @@ fn normalise_command<'a>(alloc: Global) -> Result<Command<'a>, AllocError>
         "Example: dapnorm normalise session.rec -o session.normal",
     )
     .arg(per_stop_flag(alloc))?
+    .arg(explain_flag(alloc))?
     .arg(input_file(alloc))?
     .arg(output_file(alloc))
 }
@@ -173,6 +204,7 @@ fn mask_command<'a>(alloc: Global) -> Result<Command<'a>, AllocError>
         "Example: dapnorm mask lldb.mask session.rec -o session.masked",
     )
     .arg(file(alloc, "RULES", RULES))?
+    .arg(explain_flag(alloc))?
     .arg(input_file(alloc))?
     .arg(output_file(alloc))
 }
@@ -193,27 +225,29 @@ fn check_command<'a>(alloc: Global) -> Result<Command<'a>, AllocError>
         "Rejects a recording in which some request has no response",
     ))?
     .arg(per_stop_flag(alloc))?
+    .arg(explain_flag(alloc))?
     .arg(input_file(alloc))
 }
 
-/// A subcommand of two files.
+/// A subcommand of two files, with the arguments of all such subcommands.
 fn two_files_command<'a>(
     alloc: Global,
     name: &'a str,
     about: &'a str,
     example: &'a str,
 ) -> Result<Command<'a>, AllocError>
-    ensures { IfOk result (IsSubcommand (of_two_files name.entry.now)) }
+    ensures { IfOk result (IsSubcommand (of_two_files name.entry.now [])) }
 {
     subcommand(alloc, name, about, example)
         .arg(file(alloc, "A", "The file of the first recording"))?
         .arg(file(alloc, "B", "The file of the second recording"))?
-        .arg(per_stop_flag(alloc))
+        .arg(per_stop_flag(alloc))?
+        .arg(explain_flag(alloc))
 }
 
 /// The subcommand `compare`.
 fn compare_command<'a>(alloc: Global) -> Result<Command<'a>, AllocError>
-    ensures { IfOk result (IsSubcommand (of_two_files (codes "compare"))) }
+    ensures { IfOk result (IsSubcommand comparer) }
 {
     two_files_command(
         alloc,
@@ -225,14 +259,19 @@ fn compare_command<'a>(alloc: Global) -> Result<Command<'a>, AllocError>
 
 /// The subcommand `diff`.
 fn diff_command<'a>(alloc: Global) -> Result<Command<'a>, AllocError>
-    ensures { IfOk result (IsSubcommand (of_two_files (codes "diff"))) }
+    ensures { IfOk result (IsSubcommand differ) }
 {
     two_files_command(
         alloc,
         "diff",
         "Prints what differs at the first record at which the recordings of two files differ",
         "Example: dapnorm diff session.golden session.rec",
-    )
+    )?
+    .arg(flag(
+        alloc,
+        "all",
+        "Matches the records of both files, and prints all differences",
+    ))
 }
 
 /// The subcommand `rows`.

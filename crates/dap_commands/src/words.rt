@@ -9,11 +9,13 @@ ghost use Rattle.dap_command_line.specs.CommandLine.{is_set, job_of, mask, over_
 ghost use Rattle.dap_command_line.specs.CommandLine.{texts_in, two_files};
 ghost use Rattle.dap_command_line.specs.CommandLine.{told as told_job};
 ghost use Rattle.dap_command_line.specs.declared.jobs.UsageFault.TheVariants.{Memory};
-ghost use Rattle.dap_commands.specs.Commands.{IsFaultFor, command_named, command_of, given};
-ghost use Rattle.dap_commands.specs.Commands.{golden_of, program, reads_input, told, with_files};
+ghost use Rattle.dap_commands.specs.Commands.{IsFaultFor, command_named, command_of, diff_action};
+ghost use Rattle.dap_commands.specs.Commands.{diff_of, given};
+ghost use Rattle.dap_commands.specs.Commands.{golden_of, has_flag, program, reads_input};
+ghost use Rattle.dap_commands.specs.Commands.{show_action, show_of, told, told_action, with_files};
 ghost use Rattle.dap_commands.specs.Commands.{writes_output};
 
-use crate::commands::{Action, Command, Golden};
+use crate::commands::{Action, Command, DiffAll, Golden, Show};
 use crate::definition;
 use clap::error::ErrorKind;
 use clap::{ArgMatches, Error};
@@ -39,7 +41,7 @@ fn is_set(value: Option<&str>) -> bool
 
 /// Whether a flag was given.
 fn has_flag(rows: &ArgMatches<'_>, id: &str) -> bool
-    ensures { result ≡ is_set (first_of id.now (given rows.now)) }
+    ensures { result ≡ has_flag id.now (given rows.now) }
 {
     is_set(value_of(rows, id))
 }
@@ -148,6 +150,60 @@ fn with_files<'a>(job: Job<'a>, rows: &ArgMatches<'a>) -> Command<'a>
         action: Action::Job(job),
         input: value_if(reads_input(&job), rows, "FILE"),
         output: value_if(writes_output(&job), rows, "output"),
+        explain: has_flag(rows, "explain"),
+    }
+}
+
+/// What `diff` prints of two files.
+fn diff_action<'a>(rows: &ArgMatches<'a>, a: &'a str, b: &'a str) -> Action<'a>
+    ensures { told_action result ≡ diff_action (given rows.now) (a.entry.now, b.entry.now) }
+{
+    let per_stop = has_flag(rows, "per-stop");
+    if has_flag(rows, "all") {
+        Action::DiffAll(DiffAll { a, b, per_stop })
+    } else {
+        Action::Job(Job::Diff { a, b, per_stop })
+    }
+}
+
+/// The command of `diff`.
+fn diff_by<'a>(rows: &ArgMatches<'a>) -> Option<Command<'a>>
+    ensures { option_map told result ≡ diff_of (given rows.now) }
+{
+    let (a, b) = two_files(rows)?;
+    Some(Command {
+        action: diff_action(rows, a, b),
+        input: None,
+        output: None,
+        explain: has_flag(rows, "explain"),
+    })
+}
+
+/// What `show` prints.
+fn show_action<'a>(rows: &ArgMatches<'a>) -> Action<'a>
+    ensures { told_action result ≡ show_action (given rows.now) }
+{
+    let options = Show {
+        full: has_flag(rows, "full"),
+        faulty: has_flag(rows, "faulty"),
+        record: value_of(rows, "record"),
+    };
+    if options.full || options.faulty || options.record.is_some() {
+        Action::Show(options)
+    } else {
+        Action::Job(Job::Show)
+    }
+}
+
+/// The command of `show`.
+fn show_by<'a>(rows: &ArgMatches<'a>) -> Command<'a>
+    ensures { told result ≡ show_of (given rows.now) }
+{
+    Command {
+        action: show_action(rows),
+        input: value_of(rows, "FILE"),
+        output: value_of(rows, "output"),
+        explain: has_flag(rows, "explain"),
     }
 }
 
@@ -166,6 +222,7 @@ fn golden_by<'a>(rows: &ArgMatches<'a>) -> Option<Command<'a>>
         action: Action::Golden(golden),
         input: value_of(rows, "INPUT"),
         output: None,
+        explain: true,
     })
 }
 
@@ -175,6 +232,12 @@ fn command_by<'a>(name: &str, rows: &ArgMatches<'a>) -> Option<Command<'a>>
 {
     if name == "golden" {
         return golden_by(rows);
+    }
+    if name == "show" {
+        return Some(show_by(rows));
+    }
+    if name == "diff" {
+        return diff_by(rows);
     }
     let job = job_by(name, rows)?;
     Some(with_files(job, rows))

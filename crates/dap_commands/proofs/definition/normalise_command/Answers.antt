@@ -4,5 +4,6 @@ use Rattle.dap_commands.proofs.definition.normalise_command.Goals as goal
 pub returns : goal.returns
 returns c =
     let per_stop = added c.in_ok-arg.ensures c.per_stop_flag.ensures c.subcommand.ensures in
-    let input = added c.in_ok-arg-2.ensures c.input_file.ensures per_stop in
-    added_last c.arg-3.result c.arg-3.ensures c.output_file.ensures input
+    let explain = added c.in_ok-arg-2.ensures c.explain_flag.ensures per_stop in
+    let input = added c.in_ok-arg-3.ensures c.input_file.ensures explain in
+    added_last c.arg-4.result c.arg-4.ensures c.output_file.ensures input

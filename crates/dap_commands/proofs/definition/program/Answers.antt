@@ -1,7 +1,7 @@
 use Rattle.std.proofs.Common.{ap, codes, ◌∙◌}
 use Rattle.clap.specs.Words.{with_subcommand}
-use Rattle.dap_commands.specs.Commands.{checker, golden_keeper, masker, normaliser, of_two_files}
-use Rattle.dap_commands.specs.Commands.{row_printer, stream}
+use Rattle.dap_commands.specs.Commands.{checker, comparer, differ, golden_keeper, masker, normaliser}
+use Rattle.dap_commands.specs.Commands.{row_printer, stream, viewer}
 use Rattle.dap_commands.proofs.DefinitionLemmas.{with_last}
 use Rattle.dap_commands.proofs.definition.program.Goals as goal
 
@@ -16,12 +16,12 @@ returns c =
     let normalise = c.in_ok-normalise.ensures normaliser c.normalise_command.ensures
     ∙ ap (λ a. with_subcommand a normaliser) check in
     let compare =
-    c.in_ok-compare.ensures (of_two_files (codes "compare")) c.compare_command.ensures
-    ∙ ap (λ a. with_subcommand a (of_two_files (codes "compare"))) normalise in
-    let diff = c.in_ok-diff.ensures (of_two_files (codes "diff")) c.diff_command.ensures
-    ∙ ap (λ a. with_subcommand a (of_two_files (codes "diff"))) compare in
-    let show = c.in_ok-show.ensures (stream (codes "show")) c.show_command.ensures
-    ∙ ap (λ a. with_subcommand a (stream (codes "show"))) diff in
+    c.in_ok-compare.ensures comparer c.compare_command.ensures
+    ∙ ap (λ a. with_subcommand a comparer) normalise in
+    let diff = c.in_ok-diff.ensures differ c.diff_command.ensures
+    ∙ ap (λ a. with_subcommand a differ) compare in
+    let show = c.in_ok-show.ensures viewer c.show_command.ensures
+    ∙ ap (λ a. with_subcommand a viewer) diff in
     let mask = c.in_ok-mask.ensures masker c.mask_command.ensures
     ∙ ap (λ a. with_subcommand a masker) show in
     let compact = c.in_ok-compact.ensures (stream (codes "compact")) c.compact_command.ensures

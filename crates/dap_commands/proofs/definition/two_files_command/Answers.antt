@@ -5,4 +5,5 @@ pub returns : goal.returns
 returns c =
     let a = added c.in_ok-arg.ensures c.file.ensures c.subcommand.ensures in
     let b = added c.in_ok-arg-2.ensures c.file-2.ensures a in
-    added_last c.arg-3.result c.arg-3.ensures c.per_stop_flag.ensures b
+    let per_stop = added c.in_ok-arg-3.ensures c.per_stop_flag.ensures b in
+    added_last c.arg-4.result c.arg-4.ensures c.explain_flag.ensures per_stop
