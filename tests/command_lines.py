@@ -16,6 +16,8 @@ FILES = {
     "session.trace": TRACE, "configured.rec": recording(CONFIGURED), "normal": recording([*NORMAL_STOPS, FRAME % (2, 3, 5)]),
 }
 ACCEPTED, INCOMPLETE = (0, b"accepted records=3 open=1,0\n", b""), (2, b"", b"dapnorm: incomplete: 1 client, 0 adapter\n")
+FULL = b'1 < event "initialized" seq=2\n  event "initialized"\n  seq 2\n  type "event"\n'
+REFUSED = b"dapnorm: record 1: NotInitialized\n"
 ROW = b"62 response stackTrace body.stackFrames[].id needed frame\n"
 
 # Words, an input, and the status, the output and the errors of the job that the words name. No other job has this answer to the input.
@@ -47,6 +49,11 @@ JOBS = [
     (["compare", "-", "b.rec"], COMPARED["a stale frame"][0], (1, b"differ 8\n", b"")),
     (["diff", "a.rec", "-"], COMPARED["a stale frame"][1], (1, DIFFERENCES["a stale frame"], b"")),
     (["golden", "normal", "b.rec"], b"", (0, b"same\n", b"")),
+    (["show", "--record", "1"], recording([INITIALIZED]), (0, b'{\n  "event": "initialized",\n  "seq": 2,\n  "type": "event"\n}\n', b"")),
+    (["show", "--full", "-"], recording([INITIALIZED]), (0, FULL, b"")),
+    (["show", "--faulty"], recording([INITIALIZED]), (2, b'1 < event "initialized" seq=2\n  fault: NotInitialized\n', REFUSED)),
+    (["show", "--faulty", "--full"], recording([INITIALIZED]), (2, FULL.replace(b"  event", b"  fault: NotInitialized\n  event"), REFUSED)),
+    (["show", "--explain", "--record=2"], recording([INITIALIZED]), (2, b"", b"dapnorm: no record 2: the recording has 1\n")),
 ]
 
 # No subcommand, wrong ones, and words that a subcommand does not take.
@@ -54,7 +61,9 @@ NO_JOBS = [
     [], ["compacted"], ["compact", "a", "b"], ["check", "--complete", "--complete"], ["compact", "--complete"], ["check", "a", "b"],
     ["compare", "a.rec"], ["mask"], ["--per-stop"], ["show", "--per-stop"], ["normalise", "--per-stop", "--per-stop"], ["check", "-o", "a"],
     ["golden"], ["golden", "a", "b", "c"], ["golden", "a", "-o", "b"], ["golden", "--rules"], ["normalise", "-o"], ["rows", "-o", "a"],
-    ["mask", "--rules", "lldb.mask"], ["compare", "-", "-"],
+    ["mask", "--rules", "lldb.mask"], ["compare", "-", "-"], ["show", "--record"], ["show", "--record", "0"], ["show", "--record", "x"],
+    ["show", "--record", "1", "--full"], ["show", "--faulty", "--record", "1"], ["show", "--full", "--full"], ["golden", "--explain", "a"],
+    ["rows", "--explain"], ["normalise", "--full"], ["check", "--record", "1"],
 ]
 
 # Words that request help or the version, and a part of the text that is printed.

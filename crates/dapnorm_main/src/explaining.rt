@@ -1,49 +1,18 @@
-//! Explains refusals in lines for people, after the line of the refusal.
+//! Prints explanations on standard error, after the line of a refusal.
 use crate::LIMITS;
-use crate::files::find_file;
-use dap_explain::{explain, explain_masked, explain_rules};
-use dapnorm::{
-    GoldenRefused, MaskRules, Refused, Replaceable, RulesFault, apply_rules, recording_of,
-};
+use dap_explain::{explain, explain_rules};
+use dap_explanations::explain_mask;
+use dap_file::find_file;
+use dap_runs::send;
+use dapnorm::{Refused, Replaceable, RulesFault, StdSink};
 use std::alloc::AllocError;
 use std::fs;
 use std::hash::RandomState;
-use std::io::Write;
 
 /// Prints an explanation. One that could not be made, or cannot be printed, is left out.
-fn print(rt: &HostRuntime, text: Result<String, AllocError>) {
+pub fn print(rt: &HostRuntime, text: Result<String, AllocError>) {
     if let Ok(text) = text {
-        let _ = rt.stderr().write_all(text.as_bytes());
-    }
-}
-
-/// Explains why an input has no golden text.
-pub fn explain_input(
-    rt: &HostRuntime,
-    input: &[u8],
-    rules: Option<&MaskRules>,
-    refused: GoldenRefused,
-) {
-    let alloc = rt.alloc();
-    if let GoldenRefused::Trace(why) = refused {
-        return print(rt, explain(alloc, input, why, LIMITS));
-    }
-    let Ok(recording) = recording_of(alloc, input, LIMITS) else {
-        return;
-    };
-    match (refused, rules) {
-        (GoldenRefused::Mask(why), Some(rules)) => {
-            print(
-                rt,
-                explain_masked(alloc, recording.as_slice(), rules, why, LIMITS),
-            );
-        }
-        (GoldenRefused::Session(why), _) => {
-            if let Ok(masked) = apply_rules(alloc, recording, rules, LIMITS) {
-                print(rt, explain(alloc, masked.as_slice(), why, LIMITS));
-            }
-        }
-        _ => {}
+        send(&mut StdSink::new(rt.stderr()), text.as_str());
     }
 }
 
@@ -57,9 +26,17 @@ pub fn explain_file(rt: &HostRuntime, name: &str, refused: Refused, hasher: Rand
     }
 }
 
-/// Explains why a line of a file of rules is rejected.
+/// Explains why a line of a file of rules is rejected. The file is read again.
 pub fn explain_rules_of(rt: &HostRuntime, name: &str, fault: RulesFault) {
     if let Ok(rules) = fs::read(rt, name) {
         print(rt, explain_rules(rt.alloc(), rules.as_slice(), fault));
+    }
+}
+
+/// Explains why a file of rules is rejected, or why the rules cannot mask an input. The file is
+/// read again.
+pub fn explain_mask_of(rt: &HostRuntime, name: &str, input: &[u8]) {
+    if let Ok(rules) = fs::read(rt, name) {
+        print(rt, explain_mask(rt.alloc(), rules.as_slice(), input, LIMITS));
     }
 }

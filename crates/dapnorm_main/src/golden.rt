@@ -1,18 +1,22 @@
 //! Compares a session with its golden file, or makes or renews the golden file.
-use crate::explaining::{explain_file, explain_input, explain_rules_of};
-use crate::files::{
-    find_file, is_standard, open_input, report_reason, report_unopened, report_unwritten,
-    shows_closed_input,
-};
-use crate::{FAULT, LIMITS, USAGE, report_unread, report_usage};
+ghost use Rattle.std.specs.Prelude.{◌≡◌};
+
+use crate::explaining::{explain_file, explain_rules_of, print};
+use crate::reports::{report_failure, report_reason, report_unopened, report_unwritten};
+use crate::{FAULT, LIMITS, REFUSED, USAGE, report_unread, report_usage};
+use dap_explanations::explain_golden;
+use dap_file::{FileAt, find_file, is_standard, open_input, shows_closed_input};
 use dapnorm::{
-    FileAt, Golden, GoldenRequest, GoldenStop, MaskRules, MemorySource, RulesRefused, StdSink,
+    Golden, GoldenRequest, GoldenStop, MaskRules, MemorySource, RulesRefused, StdSink,
     StdSource, Stop, UsageFault, read_all, read_rules, report_rules, run_golden,
 };
 use std::fs;
 use std::hash::RandomState;
 use std::io::Error;
 use std::os::unix::fs::MetadataExt;
+
+/// What is reported of rules for the order, by which `golden` cannot compare yet.
+const SWAPS: &str = "dapnorm: rules: swap lines are not supported yet";
 
 /// Reads the rules of a file, and reports why it has none.
 fn rules_of(rt: &HostRuntime, name: &str, is_input_standard: bool) -> Result<MaskRules, u8> {
@@ -24,6 +28,10 @@ fn rules_of(rt: &HostRuntime, name: &str, is_input_standard: bool) -> Result<Mas
         return Err(report_unread(rt));
     }
     match read_rules(rt.alloc(), &mut StdSource::new(file)) {
+        Ok(rules) if !rules.swaps().is_empty() => {
+            let _ = eprintln!(rt; "{SWAPS}");
+            Err(REFUSED)
+        }
         Ok(rules) => Ok(rules),
         Err(refused) => {
             let status = report_rules(&mut StdSink::new(rt.stderr()), refused);
@@ -65,7 +73,9 @@ fn explain_stop(
     hasher: RandomState,
 ) {
     match stop {
-        GoldenStop::Input(refused) => explain_input(rt, input, rules, refused),
+        GoldenStop::Input(refused) => {
+            print(rt, explain_golden(rt.alloc(), input, rules, refused, LIMITS));
+        }
         GoldenStop::Golden(refused) => explain_file(rt, name, refused, hasher),
         GoldenStop::GoldenUnread | GoldenStop::Unwritten(_) => {
             if let Some(reason) = file.reason() {
@@ -76,19 +86,17 @@ fn explain_stop(
     }
 }
 
-/// Compares a session with its golden file, or makes or renews the golden file.
-fn run_over(
+/// Compares a session with the golden file that was found, or makes or renews the golden file.
+fn run_with(
     rt: &HostRuntime,
     golden: &Golden<'_>,
     rules: Option<&MaskRules>,
     input: &[u8],
+    file: &mut FileAt<'_, HostRuntime>,
     hasher: RandomState,
-) -> u8 {
-    let name = golden.golden;
-    let mut file = match find_file(rt, name, hasher) {
-        Ok(file) => file,
-        Err(error) => return report_unusable(rt, golden, &error),
-    };
+) -> u8
+    requires { file.old.failures ≡ 0 }
+{
     let request = GoldenRequest {
         update: golden.update,
         allow_open: golden.open,
@@ -98,17 +106,31 @@ fn run_over(
         rt.alloc(),
         &mut MemorySource::new(input),
         rules,
-        &mut file,
-        name,
+        file,
+        golden.golden,
         request,
         &mut StdSink::new(rt.stdout()),
         &mut StdSink::new(rt.stderr()),
         LIMITS,
     );
     if let Some(stop) = run.stop {
-        explain_stop(rt, stop, input, rules, &file, name, hasher);
+        explain_stop(rt, stop, input, rules, file, golden.golden, hasher);
     }
     run.status
+}
+
+/// Compares a session with its golden file, or makes or renews the golden file.
+fn run_over(
+    rt: &HostRuntime,
+    golden: &Golden<'_>,
+    rules: Option<&MaskRules>,
+    input: &[u8],
+    hasher: RandomState,
+) -> u8 {
+    match find_file(rt, golden.golden, hasher) {
+        Ok(mut file) => run_with(rt, golden, rules, input, &mut file, hasher),
+        Err(error) => report_unusable(rt, golden, &error),
+    }
 }
 
 /// Reads the whole input, so that a refusal can be explained, and goes on with it.
@@ -119,15 +141,16 @@ fn run_on_input(
     input: Option<&str>,
     hasher: RandomState,
 ) -> u8 {
-    let reader = match open_input(rt, input) {
+    let mut reader = match open_input(rt, input, false) {
         Ok(reader) => reader,
         Err(error) => return report_unopened(rt, "golden: ", input, &error),
     };
-    let Ok(read) = read_all(rt.alloc(), &mut StdSource::new(reader), LIMITS.input) else {
+    let Ok(read) = read_all(rt.alloc(), &mut StdSource::new(&mut reader), LIMITS.input) else {
         return report_usage(rt, &UsageFault::Memory);
     };
     if let Stop::Failed = read.stop {
         let _ = eprintln!(rt; "dapnorm: golden: read fault");
+        report_failure(rt, input, &reader);
         return FAULT;
     }
     run_over(rt, golden, rules, read.bytes.as_slice(), hasher)

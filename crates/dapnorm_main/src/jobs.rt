@@ -1,14 +1,15 @@
 //! Does the jobs of the command line, over their files.
 ghost use Rattle.std.specs.Prelude.{◌≡◌, ◌<◌, ◌^◌, IfSome};
 
-use crate::files::{
-    Input, Output, find_file, is_standard, open_input, open_output, report_reason, report_unopened,
-    report_unwritten, shows_closed_input,
-};
-use crate::{LIMITS, USAGE, report_unread, report_usage, tables};
+use crate::comparing::{Printed, compare_files};
+use crate::explaining::{explain_mask_of, print};
+use crate::reports::{report_failure, report_reason, report_unopened, report_unwritten};
+use crate::{LIMITS, REFUSED, Setting, report_unread, report_usage, tables};
+use dap_explanations::{explain_job, explain_view};
+use dap_file::{KeptInput, Output, find_file, open_input, open_output, shows_closed_input};
 use dapnorm::{
-    Job, MemorySink, Mode, Sink, StdSink, StdSource, TextSink, UsageFault, run_compare_with,
-    run_diff_with, run_mask, run_stream_with, save,
+    Job, MemorySink, ShowRequest, Sink, StdSink, StdSource, TextSink, UsageFault, run_mask,
+    run_stream_with, run_view, save,
 };
 use std::fs;
 use std::hash::RandomState;
@@ -16,9 +17,6 @@ use std::io::{self, Write};
 
 /// The length of the longest line that a job reports, and more.
 const LINE: usize = 256;
-
-/// What is reported if both inputs of a comparison are standard input.
-const TWO_STANDARD: &str = "error: only one of A and B can be standard input";
 
 /// What a job writes whose output goes to a file. The file is written only if the job succeeds.
 #[derive(Drop)]
@@ -69,21 +67,32 @@ fn save_text(rt: &HostRuntime, name: &str, text: &[u8], hasher: RandomState) -> 
     status
 }
 
+/// What is done over one input.
+#[derive(Clone, Copy)]
+pub enum Task<'a> {
+    Job(Job<'a>),
+    Show(ShowRequest),
+}
+
 /// Masks an input by the rules of a file. A file that gets the number of the standard input shows
 /// that this is closed: a read fault of the input.
 fn mask_into<W: Sink, E: Sink>(
     rt: &HostRuntime,
     rules: &str,
-    input: Input,
+    input: &mut KeptInput,
     writer: &mut W,
     errors: &mut E,
+    explain: bool,
 ) -> u8
     requires write_failures { W.failures writer.old < 2 ^ 62 }
     requires error_failures { E.failures errors.old < 2 ^ 62 }
 {
     let file = match fs::open(rt, rules) {
         Ok(file) => file,
-        Err(error) => return report_unopened(rt, "rules: ", None, &error),
+        Err(error) => {
+            let name = if explain { Some(rules) } else { None };
+            return report_unopened(rt, "rules: ", name, &error);
+        }
     };
     if input.is_standard() && shows_closed_input(&file) {
         return report_unread(rt);
@@ -93,153 +102,143 @@ fn mask_into<W: Sink, E: Sink>(
     run_mask(rt.alloc(), &mut file, &mut reader, writer, errors, LIMITS)
 }
 
-/// Does a job over one input, with its output and its errors.
+/// Does a task over one input, with its output and its errors.
 fn run_into<W: Sink, E: Sink>(
     rt: &HostRuntime,
-    job: &Job<'_>,
-    input: Input,
+    task: Task<'_>,
+    input: &mut KeptInput,
     writer: &mut W,
     errors: &mut E,
-    hasher: RandomState,
+    setting: Setting,
 ) -> u8
-    requires no_compare { (a b per_stop : _) → job.now ≡ Job.Compare a b per_stop → ⊥ }
-    requires no_diff { (a b per_stop : _) → job.now ≡ Job.Diff a b per_stop → ⊥ }
+    requires no_compare { (a b per_stop : _) → task ≡ Task.Job (Job.Compare a b per_stop) → ⊥ }
+    requires no_diff { (a b per_stop : _) → task ≡ Task.Job (Job.Diff a b per_stop) → ⊥ }
     requires write_failures { W.failures writer.old < 2 ^ 62 }
     requires error_failures { E.failures errors.old < 2 ^ 62 }
 {
-    match *job {
-        Job::Mask { rules } => mask_into(rt, rules, input, writer, errors),
-        _ => {
+    match task {
+        Task::Job(Job::Mask { rules }) => {
+            mask_into(rt, rules, input, writer, errors, setting.explain)
+        }
+        Task::Job(job) => {
             let mut reader = StdSource::new(input);
-            let tables = tables(rt.alloc(), LIMITS, hasher);
-            run_stream_with(rt.alloc(), job, &mut reader, writer, errors, LIMITS, tables)
+            let tables = tables(rt.alloc(), LIMITS, setting.hasher);
+            run_stream_with(rt.alloc(), &job, &mut reader, writer, errors, LIMITS, tables)
+        }
+        Task::Show(request) => {
+            let mut reader = StdSource::new(input);
+            run_view(rt.alloc(), request, &mut reader, writer, errors, LIMITS)
         }
     }
 }
 
-/// Does a job whose output goes to a file.
+/// Does a task whose output goes to a file.
 fn run_into_file(
     rt: &HostRuntime,
-    job: &Job<'_>,
-    input: Input,
+    task: Task<'_>,
+    input: &mut KeptInput,
     name: &str,
-    hasher: RandomState,
+    setting: Setting,
 ) -> u8
-    requires no_compare { (a b per_stop : _) → job.now ≡ Job.Compare a b per_stop → ⊥ }
-    requires no_diff { (a b per_stop : _) → job.now ≡ Job.Diff a b per_stop → ⊥ }
+    requires no_compare { (a b per_stop : _) → task ≡ Task.Job (Job.Compare a b per_stop) → ⊥ }
+    requires no_diff { (a b per_stop : _) → task ≡ Task.Job (Job.Diff a b per_stop) → ⊥ }
 {
     let Some(mut held) = Held::new(rt) else {
         return report_usage(rt, &UsageFault::Memory);
     };
-    let status = run_into(rt, job, input, &mut held.text, &mut held.errors, hasher);
-    held.finish(rt, name, status, hasher)
+    let status = run_into(rt, task, input, &mut held.text, &mut held.errors, setting);
+    held.finish(rt, name, status, setting.hasher)
 }
 
-/// Does a job over one input.
-fn run_over_input(
+/// Does a task over an input, and writes its output to a file, a device or standard output.
+fn run_to_output(
     rt: &HostRuntime,
-    job: &Job<'_>,
-    input: Option<&str>,
+    task: Task<'_>,
+    input: &mut KeptInput,
     output: Option<&str>,
-    hasher: RandomState,
+    setting: Setting,
 ) -> u8
-    requires no_compare { (a b per_stop : _) → job.now ≡ Job.Compare a b per_stop → ⊥ }
-    requires no_diff { (a b per_stop : _) → job.now ≡ Job.Diff a b per_stop → ⊥ }
+    requires no_compare { (a b per_stop : _) → task ≡ Task.Job (Job.Compare a b per_stop) → ⊥ }
+    requires no_diff { (a b per_stop : _) → task ≡ Task.Job (Job.Diff a b per_stop) → ⊥ }
 {
-    let reader = match open_input(rt, input) {
-        Ok(reader) => reader,
-        Err(error) => return report_unopened(rt, "", input, &error),
-    };
     let mut errors = StdSink::new(rt.stderr());
-    match open_output(rt, output, hasher) {
+    match open_output(rt, output, setting.hasher) {
         Ok(Output::Standard) => {
             let mut writer = StdSink::new(rt.stdout());
-            run_into(rt, job, reader, &mut writer, &mut errors, hasher)
+            run_into(rt, task, input, &mut writer, &mut errors, setting)
         }
         Ok(Output::Device(device)) => {
             let mut writer = StdSink::new(device);
-            run_into(rt, job, reader, &mut writer, &mut errors, hasher)
+            run_into(rt, task, input, &mut writer, &mut errors, setting)
         }
-        Ok(Output::File(name)) => run_into_file(rt, job, reader, name, hasher),
+        Ok(Output::File(name)) => run_into_file(rt, task, input, name, setting),
         Err(error) => report_unwritten(rt, "", output.unwrap_or("-"), &error),
     }
 }
 
-/// Opens one of two inputs that are compared.
-fn open_side(rt: &HostRuntime, words: &str, name: &str) -> Result<Input, u8> {
-    match open_input(rt, Some(name)) {
-        Ok(input) => Ok(input),
-        Err(error) => Err(report_unopened(rt, words, None, &error)),
+/// Explains why a task refused an input.
+fn explain_refusal(rt: &HostRuntime, task: Task<'_>, input: &[u8], hasher: RandomState) {
+    match task {
+        Task::Job(Job::Mask { rules }) => explain_mask_of(rt, rules, input),
+        Task::Job(job) => print(rt, explain_job(rt.alloc(), &job, input, LIMITS, hasher)),
+        Task::Show(request) => print(rt, explain_view(rt.alloc(), request, input, LIMITS)),
     }
 }
 
-/// Opens two inputs that are compared.
-fn open_both(rt: &HostRuntime, a: &str, b: &str) -> Result<(Input, Input), u8> {
-    if is_standard(a) && is_standard(b) {
-        let _ = eprintln!(rt; "{TWO_STANDARD}");
-        return Err(USAGE);
+/// Explains why a task ended with this status.
+fn explain(
+    rt: &HostRuntime,
+    task: Task<'_>,
+    name: Option<&str>,
+    input: &KeptInput,
+    status: u8,
+    setting: Setting,
+) {
+    report_failure(rt, name, input);
+    if let Some(bytes) = input.bytes()
+        && status == REFUSED
+    {
+        explain_refusal(rt, task, bytes, setting.hasher);
     }
-    Ok((open_side(rt, "A: ", a)?, open_side(rt, "B: ", b)?))
 }
 
-/// Compares the recordings of two files.
-fn compare_files(rt: &HostRuntime, a: &str, b: &str, mode: Mode, hasher: RandomState) -> u8 {
-    let (input_a, input_b) = match open_both(rt, a, b) {
-        Ok(inputs) => inputs,
-        Err(status) => return status,
+/// Does a task over one input.
+pub fn run_over_input(
+    rt: &HostRuntime,
+    task: Task<'_>,
+    input: Option<&str>,
+    output: Option<&str>,
+    setting: Setting,
+) -> u8
+    requires no_compare { (a b per_stop : _) → task ≡ Task.Job (Job.Compare a b per_stop) → ⊥ }
+    requires no_diff { (a b per_stop : _) → task ≡ Task.Job (Job.Diff a b per_stop) → ⊥ }
+{
+    let mut reader = match open_input(rt, input, setting.explain) {
+        Ok(reader) => reader,
+        Err(error) => return report_unopened(rt, "", input, &error),
     };
-    let mut reader_a = StdSource::new(input_a);
-    let mut reader_b = StdSource::new(input_b);
-    let mut writer = StdSink::new(rt.stdout());
-    let mut errors = StdSink::new(rt.stderr());
-    run_compare_with(
-        rt.alloc(),
-        &mut reader_a,
-        &mut reader_b,
-        &mut writer,
-        &mut errors,
-        LIMITS,
-        tables(rt.alloc(), LIMITS, hasher),
-        tables(rt.alloc(), LIMITS, hasher),
-        mode,
-    )
-}
-
-/// Prints how the recordings of two files differ.
-fn diff_files(rt: &HostRuntime, a: &str, b: &str, mode: Mode, hasher: RandomState) -> u8 {
-    let (input_a, input_b) = match open_both(rt, a, b) {
-        Ok(inputs) => inputs,
-        Err(status) => return status,
-    };
-    let mut reader_a = StdSource::new(input_a);
-    let mut reader_b = StdSource::new(input_b);
-    let mut writer = StdSink::new(rt.stdout());
-    let mut errors = StdSink::new(rt.stderr());
-    run_diff_with(
-        rt.alloc(),
-        &mut reader_a,
-        &mut reader_b,
-        &mut writer,
-        &mut errors,
-        LIMITS,
-        tables(rt.alloc(), LIMITS, hasher),
-        tables(rt.alloc(), LIMITS, hasher),
-        mode,
-    )
+    let status = run_to_output(rt, task, &mut reader, output, setting);
+    if setting.explain {
+        explain(rt, task, input, &reader, status, setting);
+    }
+    status
 }
 
 /// Does a job with these files of its input and its output.
 pub fn run_job(
     rt: &HostRuntime,
-    job: &Job<'_>,
+    job: Job<'_>,
     input: Option<&str>,
     output: Option<&str>,
-    hasher: RandomState,
+    setting: Setting,
 ) -> u8 {
-    let mode = job.mode();
-    match *job {
-        Job::Compare { a, b, .. } => compare_files(rt, a, b, mode, hasher),
-        Job::Diff { a, b, .. } => diff_files(rt, a, b, mode, hasher),
-        _ => run_over_input(rt, job, input, output, hasher),
+    match job {
+        Job::Compare { a, b, .. } => {
+            compare_files(rt, a, b, job.mode(), Printed::Verdict, setting)
+        }
+        Job::Diff { a, b, .. } => {
+            compare_files(rt, a, b, job.mode(), Printed::FirstDifference, setting)
+        }
+        _ => run_over_input(rt, Task::Job(job), input, output, setting),
     }
 }

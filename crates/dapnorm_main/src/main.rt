@@ -6,13 +6,17 @@ ghost use Rattle.dap_rename.specs.IndexNames.{index_limit, index_numbers};
 ghost use Rattle.dapnorm.specs.Limits.{AreSound};
 ghost use Rattle.dapnorm.specs.NameTables.{AreReady};
 
+mod comparing;
 mod explaining;
-mod files;
 mod golden;
 mod jobs;
+mod reports;
+mod showing;
 
+use crate::comparing::{Printed, compare_files};
 use crate::golden::keep_golden;
 use crate::jobs::run_job;
+use crate::showing::show_recording;
 use dap_frame::FrameLimits;
 use dapnorm::{Action, IndexNames, Limits, StdSink, Tables, UsageFault, command, run_usage};
 use std::alloc::Global;
@@ -31,6 +35,9 @@ const LIMITS: Limits = Limits {
     input: 4_294_967_296,
 };
 
+/// The status if an input is refused.
+const REFUSED: u8 = 2;
+
 /// The status if the arguments are wrong.
 const USAGE: u8 = 3;
 
@@ -39,6 +46,24 @@ const FAULT: u8 = 4;
 
 /// What is reported of an argument that cannot be read as text.
 const NOT_UTF_8: &str = "error: an argument is not valid UTF-8\n";
+
+/// How a command is run.
+#[derive(Clone, Copy)]
+pub struct Setting {
+    /// Whether refusals are explained in further lines.
+    explain: bool,
+    /// Random words for tables and for the names of temporary files.
+    hasher: RandomState,
+}
+
+/// Returns whether the environment requests explanations: `DAPNORM_EXPLAIN` has a value that is
+/// not `0`.
+fn requests_explanations(rt: &HostRuntime) -> bool {
+    match env::var(rt, "DAPNORM_EXPLAIN") {
+        Ok(value) => !value.is_empty() && value.as_str() != "0",
+        Err(_) => false,
+    }
+}
 
 /// Returns tables for the ids of a recording. They hash by these random words, so that nobody can
 /// choose ids whose hashes collide.
@@ -72,8 +97,21 @@ fn run_words(rt: &HostRuntime, alloc: Global, words: &[String]) -> u8 {
     let Ok(hasher) = RandomState::new(rt) else {
         return report_unread(rt);
     };
+    let setting = Setting {
+        explain: command.explain || requests_explanations(rt),
+        hasher,
+    };
     match command.action {
-        Action::Job(job) => run_job(rt, &job, command.input, command.output, hasher),
+        Action::Job(job) => run_job(rt, job, command.input, command.output, setting),
+        Action::DiffAll(files) => compare_files(
+            rt,
+            files.a,
+            files.b,
+            files.mode(),
+            Printed::AllDifferences,
+            setting,
+        ),
+        Action::Show(show) => show_recording(rt, show, command.input, command.output, setting),
         Action::Golden(golden) => keep_golden(rt, &golden, command.input, hasher),
     }
 }

@@ -1,0 +1,64 @@
+//! Explains why an input has no golden text.
+ghost use Rattle.dap_input.specs.Limits.{AreSound};
+
+use dap_explain::{explain, explain_masked};
+use dap_golden::{GoldenRefused, apply_rules, recording_of};
+use dap_input::{Limits, Refused};
+use dap_mask::MaskRules;
+use std::alloc::{AllocError, Global};
+
+/// Explains why an input has no golden text. The recording that was refused is made again. The
+/// text is empty if the session has no records, or if an allocation failed.
+pub fn explain_golden(
+    alloc: Global,
+    input: &[u8],
+    rules: Option<&MaskRules>,
+    refused: GoldenRefused,
+    limits: Limits,
+) -> Result<String, AllocError>
+    requires { AreSound limits }
+{
+    match refused {
+        GoldenRefused::Trace(why) => explain(alloc, input, why, limits),
+        GoldenRefused::Mask(why) => explain_rules_on(alloc, input, rules, why, limits),
+        GoldenRefused::Session(why) => explain_session(alloc, input, rules, why, limits),
+        GoldenRefused::NoRecords | GoldenRefused::Memory => Ok(String::new(alloc)),
+    }
+}
+
+/// Explains why rules cannot mask the recording of an input.
+fn explain_rules_on(
+    alloc: Global,
+    input: &[u8],
+    rules: Option<&MaskRules>,
+    why: Refused,
+    limits: Limits,
+) -> Result<String, AllocError>
+    requires { AreSound limits }
+{
+    match (recording_of(alloc, input, limits), rules) {
+        (Ok(recording), Some(rules)) => {
+            explain_masked(alloc, recording.as_slice(), rules, why, limits)
+        }
+        _ => Ok(String::new(alloc)),
+    }
+}
+
+/// Explains why the masked recording of an input is refused.
+fn explain_session(
+    alloc: Global,
+    input: &[u8],
+    rules: Option<&MaskRules>,
+    why: Refused,
+    limits: Limits,
+) -> Result<String, AllocError>
+    requires { AreSound limits }
+{
+    let Ok(recording) = recording_of(alloc, input, limits) else {
+        return Ok(String::new(alloc));
+    };
+    match apply_rules(alloc, recording, rules, limits) {
+        Ok(masked) => explain(alloc, masked.as_slice(), why, limits),
+        Err(_) => Ok(String::new(alloc)),
+    }
+}

@@ -1,0 +1,81 @@
+//! Explains why a job over one input refused it.
+ghost use Rattle.dap_input.specs.Limits.{AreSound};
+ghost use Rattle.dap_normal.specs.NameTables.{AreReady};
+ghost use Rattle.dap_rename.specs.IndexNames.{index_limit, index_numbers};
+
+use dap_command_line::Job;
+use dap_compact::compact;
+use dap_device::{MemorySource, StdSink};
+use dap_explain::explain;
+use dap_input::{Limits, Refused};
+use dap_normal::{check_with, normalise_with};
+use dap_rename::{IndexNames, Tables};
+use dap_show::show;
+use dap_trace::record;
+use std::alloc::{AllocError, Global};
+use std::hash::RandomState;
+use std::io;
+
+/// Explains why `record`, `compact`, `show`, `normalise` or `check` refused an input. The job is
+/// done again to find the refusal, and its output is dropped. Of other jobs the text is empty.
+pub fn explain_job(
+    alloc: Global,
+    job: &Job<'_>,
+    input: &[u8],
+    limits: Limits,
+    hasher: RandomState,
+) -> Result<String, AllocError>
+    requires { AreSound limits }
+{
+    match refusal_of(alloc, job, input, limits, hasher) {
+        Some(refused) => explain(alloc, input, refused, limits),
+        None => Ok(String::new(alloc)),
+    }
+}
+
+/// Returns tables for the ids of a recording.
+fn tables(alloc: Global, limits: Limits, hasher: RandomState) -> Tables<IndexNames<RandomState>>
+    requires { AreSound limits }
+    ensures { AreReady index_numbers index_limit limits result }
+{
+    Tables::indexed(alloc, limits.ids, hasher)
+}
+
+/// Returns why a job refuses an input.
+fn refusal_of(
+    alloc: Global,
+    job: &Job<'_>,
+    input: &[u8],
+    limits: Limits,
+    hasher: RandomState,
+) -> Option<Refused>
+    requires { AreSound limits }
+{
+    let mode = job.mode();
+    let mut reader = MemorySource::new(input);
+    let mut writer = StdSink::new(io::sink());
+    let answer = match *job {
+        Job::Compact => compact(alloc, &mut reader, &mut writer, limits),
+        Job::Record => record(alloc, &mut reader, &mut writer, limits),
+        Job::Show => show(alloc, &mut reader, &mut writer, limits),
+        Job::Normalise { .. } => normalise_with(
+            alloc,
+            &mut reader,
+            &mut writer,
+            limits,
+            tables(alloc, limits, hasher),
+            mode,
+        ),
+        Job::Check { complete, .. } => check_with(
+            alloc,
+            &mut reader,
+            limits,
+            complete,
+            tables(alloc, limits, hasher),
+            mode,
+        )
+        .map(|_| ()),
+        _ => Ok(()),
+    };
+    answer.err()
+}

@@ -1,0 +1,111 @@
+//! The inputs of a program: files and standard input.
+use std::alloc::Global;
+use std::fs::{self, File};
+use std::io::{self, Error, Read, Stdin};
+use std::os::fd::AsRawFd;
+
+/// The operating system's number of the standard input.
+const STANDARD_INPUT_NUMBER: i32 = 0;
+
+/// An input: a file, or standard input.
+#[derive(Drop)]
+pub enum Input {
+    File(File),
+    Standard(Stdin),
+}
+
+impl Input {
+    pub fn is_standard(&self) -> bool {
+        matches!(self, Input::Standard(_))
+    }
+}
+
+impl Read for Input {
+    fn read(&mut self, buffer: &mut [u8]) -> io::Result<usize> {
+        match self {
+            Input::File(file) => file.read(buffer),
+            Input::Standard(stdin) => stdin.read(buffer),
+        }
+    }
+}
+
+/// An input, with the bytes that were read if they are kept to explain a refusal, and with the
+/// reason of the last read that failed.
+#[derive(Drop)]
+pub struct KeptInput {
+    input: Input,
+    bytes: Option<Vec<u8>>,
+    failure: Option<Error>,
+}
+
+impl KeptInput {
+    /// Nothing is read yet. The bytes are kept only if they are needed.
+    pub fn new(alloc: Global, input: Input, is_kept: bool) -> KeptInput {
+        KeptInput {
+            input,
+            bytes: if is_kept { Some(Vec::new(alloc)) } else { None },
+            failure: None,
+        }
+    }
+
+    pub fn is_standard(&self) -> bool {
+        self.input.is_standard()
+    }
+
+    /// The bytes that were read. `None` if they are not kept, or if an allocation failed.
+    pub fn bytes(&self) -> Option<&[u8]> {
+        match &self.bytes {
+            Some(bytes) => Some(bytes.as_slice()),
+            None => None,
+        }
+    }
+
+    /// The reason of the last read that failed.
+    pub fn failure(&self) -> Option<&Error> {
+        self.failure.as_ref()
+    }
+
+    /// Keeps these bytes too. If an allocation fails, no byte is kept any longer.
+    fn keep(&mut self, more: &[u8]) {
+        if let Some(bytes) = &mut self.bytes {
+            if bytes.extend_from_slice(more).is_err() {
+                self.bytes = None;
+            }
+        }
+    }
+}
+
+impl Read for KeptInput {
+    fn read(&mut self, buffer: &mut [u8]) -> io::Result<usize> {
+        match self.input.read(buffer) {
+            Ok(count) => {
+                self.keep(&buffer[..count]);
+                Ok(count)
+            }
+            Err(error) => {
+                let kind = error.kind();
+                self.failure = Some(error);
+                Err(Error::from(kind))
+            }
+        }
+    }
+}
+
+/// Returns whether this is the name of standard input or standard output.
+pub fn is_standard(name: &str) -> bool {
+    name == "-"
+}
+
+/// Opens an input. Without a name, or with `-`, it is standard input.
+pub fn open_input(rt: &HostRuntime, name: Option<&str>, is_kept: bool) -> io::Result<KeptInput> {
+    let input = match name {
+        Some(name) if !is_standard(name) => Input::File(fs::open(rt, name)?),
+        _ => Input::Standard(rt.stdin()),
+    };
+    Ok(KeptInput::new(rt.alloc(), input, is_kept))
+}
+
+/// Returns whether the system gave a file the number of the standard input, which is closed then.
+pub fn shows_closed_input(file: &File) -> bool {
+    file.as_raw_fd() == STANDARD_INPUT_NUMBER
+}

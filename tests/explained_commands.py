@@ -1,0 +1,99 @@
+"""Runs each command on inputs that it rejects, with `--explain` and with `DAPNORM_EXPLAIN`: the first line is the same as without, and lines
+for people follow it."""
+import os
+import subprocess
+import sys
+
+from golden import Folder
+from report import PROGRAM, Report
+from worked_runs import BEGUN, CONFIGURED, LAUNCH, REFUSED_LINES, RESPONSE, RULES, THREADS, frame, recording
+
+FRACTION = recording([*BEGUN, LAUNCH % "0.5"])
+ANSWERED = recording([*BEGUN, RESPONSE])
+OPEN = recording([*BEGUN, THREADS])
+PLACE = "arguments.x is 0.5"
+
+# The words of a command with the files that it reads, and parts of what follows its line.
+EXPLAINED = [
+    (["check", "fraction"], ['record 3 is > request "launch"', PLACE]),
+    (["check", "answered"], ['< response "initialize", to request 1']),
+    (["check", "--complete", "open"], ['"threads"']),
+    (["check", "--per-stop", "answered"], ["record 2"]),
+    (["normalise", "fraction"], [PLACE, "blank request launch arguments.x"]),
+    (["normalise", "--per-stop", "answered"], ["record 2"]),
+    (["show", "fraction"], [PLACE]),
+    (["compact", "frames"], ["0.5"]),
+    (["mask", "events", "fraction"], [PLACE]),
+    (["mask", "bad", "fraction"], ['"hide"']),
+    (["record", "trace"], ["6"]),
+    (["compare", "good", "fraction"], [PLACE]),
+    (["compare", "fraction", "good"], [PLACE]),
+    (["diff", "good", "answered"], ["record 2"]),
+    (["diff", "--per-stop", "answered", "good"], ["record 2"]),
+    (["check", "folder"], ["folder: Is a directory"]),
+    (["check", "none"], ["none: No such file or directory"]),
+    (["mask", "none", "good"], ["none: No such file or directory"]),
+    (["compare", "none", "good"], ["none: No such file or directory"]),
+    (["diff", "good", "folder"], ["folder: Is a directory"]),
+]
+FILES = {
+    "fraction": FRACTION, "answered": ANSWERED, "open": OPEN, "frames": frame('{"x":0.5}'), "rules": RULES, "bad": b"hide event output\n", "events": b"drop event *\n",
+    "trace": b">10\nCont", "good": recording(CONFIGURED),
+}
+
+
+def ran(folder, words, given=b"", **environment):
+    done = subprocess.run([PROGRAM, *words], input=given, capture_output=True, cwd=folder.path, timeout=60, env=environment)
+    first, _, others = done.stderr.decode().partition("\n")
+    return done.returncode, done.stdout, first, others
+
+
+def explanations(report, folder):
+    for words, parts in EXPLAINED:
+        plain = ran(folder, words)
+        explained = ran(folder, [*words, "--explain"])
+        report.check(f"{words}: the same line and status", explained[:3] == plain[:3] and plain[0] != 0, repr((plain, explained)))
+        report.check(f"{words}: lines that begin with two spaces", all(it.startswith("  ") for it in explained[3].splitlines()), explained[3])
+        for part in parts:
+            report.check(f"{words}: {part}", part in explained[3], explained[3])
+        for value, wanted in (("1", explained), ("0", plain), ("", plain)):
+            found = ran(folder, words, DAPNORM_EXPLAIN=value)
+            report.check(f"{words}: DAPNORM_EXPLAIN={value}", found == wanted, repr(found))
+
+
+def refusals(report, folder):
+    """Each refusal of a line keeps its line, and has an explanation."""
+    for name, (lines, line, told) in REFUSED_LINES.items():
+        given = recording([*lines, line])
+        plain = ran(folder, ["check"], given)
+        explained = ran(folder, ["check", "--explain"], given)
+        report.check(f"{name}: {told}", explained[:3] == plain[:3] == (2, b"", f"dapnorm: {told}") and explained[3], repr(explained))
+
+
+def successes(report, folder):
+    """A command that succeeds prints nothing more."""
+    for words in (["check", "good"], ["normalise", "good"], ["show", "good"], ["mask", "rules", "good"], ["compare", "good", "good"], ["diff", "good", "good"]):
+        report.check(f"{words}: nothing to explain", ran(folder, [*words, "--explain"]) == ran(folder, words))
+    report.check("an output file is not written", ran(folder, ["normalise", "--explain", "fraction", "-o", "out"])[0] == 2 and folder.read("out") is None)
+    report.check("standard input is named", "  standard input: " in closed(folder), closed(folder))
+
+
+def closed(folder):
+    """What is printed if standard input is a folder, which cannot be read."""
+    done = subprocess.run([PROGRAM, "check", "--explain"], stdin=os.open(folder.path, os.O_RDONLY), capture_output=True, cwd=folder.path, timeout=60)
+    return done.stderr.decode()
+
+
+def main():
+    report = Report()
+    if not report.check("the gate has built the program", os.access(PROGRAM, os.X_OK)):
+        return report.close()
+    with Folder(**FILES) as folder:
+        os.mkdir(folder.at("folder"))
+        for test in (explanations, refusals, successes):
+            test(report, folder)
+    return report.close()
+
+
+if __name__ == "__main__":
+    sys.exit(main())
