@@ -12,10 +12,12 @@ _dapnorm() {
         words='-h --help'
         case $command in
             golden) words+=' --rules --per-stop --open --update' ;;
-            check) words+=' --complete --per-stop' ;;
-            normalise) words+=' --per-stop -o --output' ;;
-            compare | diff) words+=' --per-stop' ;;
-            record | show | mask | compact) words+=' -o --output' ;;
+            check) words+=' --complete --explain --per-stop' ;;
+            normalise) words+=' --explain --per-stop -o --output' ;;
+            compare) words+=' --explain --per-stop' ;;
+            diff) words+=' --all --explain --per-stop' ;;
+            show) words+=' --explain --full --faulty --record -o --output' ;;
+            record | mask | compact) words+=' --explain -o --output' ;;
         esac
     elif [[ $command != rows ]]; then
         mapfile -t COMPREPLY < <(compgen -f -- "$word")

@@ -18,6 +18,11 @@ complete -c dapnorm -n '__fish_seen_subcommand_from golden' -l rules -r -F -d 'T
 complete -c dapnorm -n '__fish_seen_subcommand_from golden' -l open -d 'Accept a session in which some request has no response'
 complete -c dapnorm -n '__fish_seen_subcommand_from golden' -l update -d 'Write the golden file'
 complete -c dapnorm -n '__fish_seen_subcommand_from check' -l complete -d 'Reject a recording in which some request has no response'
+complete -c dapnorm -n '__fish_seen_subcommand_from diff' -l all -d 'Print all differences'
+complete -c dapnorm -n '__fish_seen_subcommand_from show' -l full -d 'Print each value of each record'
+complete -c dapnorm -n '__fish_seen_subcommand_from show' -l faulty -d 'Go on after a record that is refused'
+complete -c dapnorm -n '__fish_seen_subcommand_from show' -l record -r -d 'Print the content of one record'
+complete -c dapnorm -n '__fish_seen_subcommand_from record check normalise compare diff show mask compact' -l explain -d 'Explain a refusal in further lines'
 complete -c dapnorm -n '__fish_seen_subcommand_from golden normalise check compare diff' -l per-stop -d 'Number frame ids and references anew after each stop'
 complete -c dapnorm -n '__fish_seen_subcommand_from record normalise show mask compact' -s o -l output -r -F -d 'The file of the output'
 complete -c dapnorm -n '__fish_seen_subcommand_from golden record check normalise compare diff show mask compact' -F

@@ -6,8 +6,5 @@ cd "$(git rev-parse --show-toplevel)"
 # -text: git changes no line end, since a header ends in CR LF and counts bytes.
 line='*.golden -text diff=dapnorm'
 grep -qxF -- "$line" .gitattributes 2> /dev/null || printf '%s\n' "$line" >> .gitattributes
-# A program without --full leaves out some members: the checksum then shows that something changed. A file that is refused is shown as
-# bytes.
-git config diff.dapnorm.textconv 'shown() {
-    dapnorm show --full "$1" 2> /dev/null || { dapnorm show < "$1" 2> /dev/null && echo "checksum $(cksum < "$1")"; } || cat "$1"
-}; shown'
+# Each value is shown, so that no change is hidden. A file that is refused is shown as bytes.
+git config diff.dapnorm.textconv 'shown() { dapnorm show --full "$1" 2> /dev/null || cat "$1"; }; shown'
