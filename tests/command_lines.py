@@ -17,6 +17,7 @@ FILES = {
 }
 ACCEPTED, INCOMPLETE = (0, b"accepted records=3 open=1,0\n", b""), (2, b"", b"dapnorm: incomplete: 1 client, 0 adapter\n")
 FULL = b'1 < event "initialized" seq=2\n  event "initialized"\n  seq 2\n  type "event"\n'
+ALL = b"differ: 1 paired, 0 only in A, 0 only in B\n8/8 < response \"stackTrace\"\nA body.stackFrames[0].id 1\nB body.stackFrames[0].id 2\n"
 REFUSED = b"dapnorm: record 1: NotInitialized\n"
 ROW = b"62 response stackTrace body.stackFrames[].id needed frame\n"
 
@@ -38,6 +39,8 @@ JOBS = [
     (["compare", "a.rec", "b.rec", "--per-stop"], b"", (0, STOP_PAIRS, b"")),
     (["diff", "a.rec", "b.rec"], b"", (1, DIFFERENCES["a stale frame"], b"")),
     (["diff", "--per-stop", "a.rec", "b.rec"], b"", (0, b"same\n", b"")),
+    (["diff", "--all", "a.rec", "b.rec"], b"", (1, ALL, b"")),
+    (["diff", "a.rec", "b.rec", "--all", "--per-stop"], b"", (0, b"same\n", b"")),
     (["check", "-"], OPEN, ACCEPTED),
     (["check", "open.rec"], b"", ACCEPTED),
     (["check", "open.rec", "--complete"], b"", INCOMPLETE),
@@ -63,7 +66,7 @@ NO_JOBS = [
     ["golden"], ["golden", "a", "b", "c"], ["golden", "a", "-o", "b"], ["golden", "--rules"], ["normalise", "-o"], ["rows", "-o", "a"],
     ["mask", "--rules", "lldb.mask"], ["compare", "-", "-"], ["show", "--record"], ["show", "--record", "0"], ["show", "--record", "x"],
     ["show", "--record", "1", "--full"], ["show", "--faulty", "--record", "1"], ["show", "--full", "--full"], ["golden", "--explain", "a"],
-    ["rows", "--explain"], ["normalise", "--full"], ["check", "--record", "1"],
+    ["rows", "--explain"], ["compare", "--all", "a.rec", "b.rec"], ["diff", "--all", "a.rec"], ["diff", "--all", "-", "-"], ["normalise", "--full"], ["check", "--record", "1"],
 ]
 
 # Words that request help or the version, and a part of the text that is printed.

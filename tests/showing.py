@@ -164,12 +164,12 @@ def one_record(report):
 
 def large_contents(report):
     """Wide and deep contents."""
-    event = '<{"body":%s,"event":"x","seq":1,"type":"event"}'
+    event = '<{"body":%s,"event":"x","seq":2,"type":"event"}'
     wide = event % ("[" + ",".join(["0"] * 1_000_000) + "]")
     deep = event % ("[" * 126 + "0" + "]" * 126)
     for name, line in ("wide", wide), ("deep", deep):
-        given = recording([line])
-        for words in ["--full"], ["--faulty", "--full"], ["--record", "1"]:
+        given = recording([*BEGUN, line])
+        for words in ["--full"], ["--faulty", "--full"], ["--record", "3"]:
             begun = time.monotonic()
             status, text, errors = run(["show", *words], given)
             report.check(f"{name}: show {words[0]}", (status, errors) == (0, b"") and text, repr((status, errors)))
