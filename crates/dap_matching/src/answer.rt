@@ -1,7 +1,7 @@
 //! The result of comparing all records of two recordings.
 
 /// All differences of two recordings.
-#[derive(Debug, Drop)]
+#[derive(Drop)]
 pub enum AllDifferences {
     /// The recordings are the same except for their ids.
     Same,
