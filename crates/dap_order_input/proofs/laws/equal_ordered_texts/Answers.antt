@@ -1,0 +1,5 @@
+use Rattle.dap_order_input.proofs.OrderedTexts as texts
+use Rattle.dap_order_input.proofs.laws.equal_ordered_texts.Goals as goal
+
+pub returns : goal.returns
+returns c = texts.equal_ordered_texts

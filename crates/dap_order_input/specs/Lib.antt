@@ -1,0 +1,3 @@
+pub mod Ordering
+pub mod OrderingSteps
+pub mod Laws

@@ -1,0 +1,52 @@
+-- The text that a recording is ordered to, and the errors for which it is not ordered. Source: own,
+-- over recordings, the rules of their sessions, and the order of their messages.
+use Rattle.std.specs.Prelude.{◌≡◌, ◌⊎◌, ℕ, ◌+◌, List, [], ◌∷◌, ◌++◌, length}
+use Rattle.dap_message.specs.Message.{Sent}
+use Rattle.dap_mask.specs.Swaps.{SwapRule}
+use Rattle.dap_rename.specs.declared.mode.Mode.TheVariants.{Whole}
+use Rattle.dap_input.specs.declared.limits.Limits.{Limits}
+use Rattle.dap_input.specs.declared.refused.Refused.{Refused}
+use Rattle.dap_input.specs.declared.refused.Refused.TheVariants.{Grew, Memory}
+use Rattle.dap_input.specs.Refusals.{IsRefused}
+use Rattle.dap_normal.specs.Accepting.{Fits, IsAccepted, accepting, text}
+use Rattle.dap_swaps.specs.Order.{ordered}
+
+-- The recording is accepted, and this is the text of its messages in order: for each message the
+-- record of its canonical content. The limits allow the text, and it is accepted as these messages.
+pub record Orders (limits : Limits) (rules : List SwapRule) (bytes written : List ℕ) : Type 0 where
+  pub messages : List Sent
+  pub accepts : IsAccepted limits Whole bytes messages
+  pub text_is : written ≡ text (ordered rules messages)
+  pub fits : Fits limits (ordered rules messages)
+  pub accepted : IsAccepted limits Whole written (ordered rules messages)
+
+-- The text of the messages before this one keeps within the limits, and with the message of this
+-- number it does not.
+pub record PassesLimit (limits : Limits) (messages : List Sent) (number : ℕ) : Type 0 where
+  pub before : List Sent
+  pub message : Sent
+  pub after : List Sent
+  pub split : messages ≡ before ++ message ∷ after
+  pub number_is : number ≡ length before + 1
+  pub fits : Fits limits before
+  pub too_long : Fits limits (before ++ message ∷ []) → ⊥
+
+-- The text of the messages is not accepted within the limits: it passes a limit at the record of
+-- this number; or the limits allow it, and this is its first error.
+abbrev pub IsTextRefused : Limits → List Sent → Refused → Type 0
+IsTextRefused limits messages because =
+    ((number : ℕ) × (because ≡ Grew number) × PassesLimit limits messages number)
+    ⊎ (Fits limits messages × IsRefused (accepting limits Whole) (text messages) because)
+
+-- The recording is not ordered: this is its first error; or it is accepted, and the text of its
+-- messages in order is not.
+abbrev pub IsNotOrdered : Limits → List SwapRule → List ℕ → Refused → Type 0
+IsNotOrdered limits rules bytes because =
+    IsRefused (accepting limits Whole) bytes because
+    ⊎ ((messages : List Sent) × IsAccepted limits Whole bytes messages
+    × IsTextRefused limits (ordered rules messages) because)
+
+-- The recording is not ordered for this, or an allocation failed.
+abbrev pub RefusesToOrder : Limits → List SwapRule → List ℕ → Refused → Type 0
+RefusesToOrder limits rules bytes Memory = Unit {0}
+RefusesToOrder limits rules bytes because = IsNotOrdered limits rules bytes because

@@ -1,0 +1,127 @@
+//! Puts the records of a recording in order.
+ghost use Rattle.std.specs.Prelude.{◌≡◌, ◌+◌, ◌<◌, ◌≤◌, ◌^◌, IfErr, IfOk};
+ghost use Rattle.dap_mask.specs.Swaps.{swaps_of};
+ghost use Rattle.dap_input.specs.Engine.{Answers};
+ghost use Rattle.dap_input.specs.Limits.{AreSound};
+ghost use Rattle.dap_order_input.specs.Ordering.{IsNotOrdered, Orders, RefusesToOrder};
+ghost use Rattle.dap_order_input.specs.OrderingSteps.{IsSession, WritesInOrder, result_of_input};
+
+use crate::reading::read_messages;
+use crate::writing::text_of_places;
+use dap_device::{Sink, Source, Stop, read_all, write_and_flush};
+use dap_input::{Limits, Refused};
+use dap_mask::SwapRule;
+use dap_normal::normalise_bytes;
+use dap_recording::RecordCause;
+use dap_rename::Mode;
+use dap_swaps::put_in_order;
+use std::alloc::Global;
+
+/// Returns the text of the records of a recording in order.
+///
+/// [`put_in_order`] defines the order. Each record is written with the canonical content of its
+/// message; ids are unchanged. The recording is checked as [`check`](dap_normal::check) checks it
+/// with `Mode::Whole`, and so is the text that is returned.
+///
+/// # Errors
+///
+/// The first error of the recording. Records are counted from 1 in their order in the recording.
+///
+/// `Grew`, if the recording is accepted, but its text in order is not: the text or its normal form
+/// exceeds `limits`. This record is counted in the order of the text.
+///
+/// `Memory`: an allocation failed.
+pub fn order_bytes(
+    alloc: Global,
+    rules: &[SwapRule],
+    recording: &[u8],
+    limits: Limits,
+) -> Result<Vec<u8>, Refused>
+    requires limits { AreSound limits }
+    ensures ok { IfOk result
+        (λ text. Orders limits (swaps_of rules.now) recording.now text.items) }
+    ensures err { IfErr result (RefusesToOrder limits (swaps_of rules.now) recording.now) }
+{
+    normalise_bytes(alloc, recording, limits, Mode::Whole)?;
+    let text = text_in_order(alloc, rules, recording, limits)?;
+    normalise_bytes(alloc, text.as_slice(), limits, Mode::Whole)?;
+    Ok(text)
+}
+
+/// Returns the text of the records of a recording in order. The recording is accepted within these
+/// limits.
+fn text_in_order(
+    alloc: Global,
+    rules: &[SwapRule],
+    recording: &[u8],
+    limits: Limits,
+) -> Result<Vec<u8>, Refused>
+    requires limits { AreSound limits }
+    requires session { IsSession limits recording.now }
+    ensures { WritesInOrder limits (swaps_of rules.now) recording.now result }
+{
+    let messages = read_messages(alloc, recording, limits)?;
+    let Ok(places) = put_in_order(alloc, rules, messages.as_slice()) else {
+        return Err(Refused::Memory);
+    };
+    text_of_places(alloc, messages.as_slice(), places.as_slice(), limits)
+}
+
+/// Reads a recording and writes its records in order, as [`order_bytes`] returns them.
+///
+/// It reads its whole input, at most one byte past `limits.input`, before it writes. After an error
+/// of the input, or of its text, nothing is written. What is written is flushed.
+///
+/// # Errors
+///
+/// Those of [`order_bytes`].
+///
+/// `ReadFault`: the reader failed, and the bytes read before contain no error other than being
+/// incomplete.
+///
+/// `WriteFault`: the writer failed. A prefix of the text was written.
+pub fn order<R: Source, W: Sink>(
+    alloc: Global,
+    rules: &[SwapRule],
+    reader: &mut R,
+    writer: &mut W,
+    limits: Limits,
+) -> Result<(), Refused>
+    requires limits { AreSound limits }
+    requires given { R.given reader.old < 2 ^ 62 }
+    requires read_failures { R.failures reader.old < 2 ^ 62 }
+    requires write_failures { W.failures writer.old < 2 ^ 62 }
+
+    // The text of the input in order is written and flushed, or an error is returned and nothing
+    // is written. An error of a device is returned if and only if that device failed.
+    ensures answer { Answers R.Source W.Sink limits.input (Orders limits (swaps_of rules.now))
+        (IsNotOrdered limits (swaps_of rules.now)) reader.old reader.new writer.old writer.new
+        result }
+
+    // It reads at most one byte past the limit.
+    ensures taken { R.given reader.new ≤ R.given reader.old + limits.input + 1 }
+{
+    let Ok(input) = read_all(alloc, reader, limits.input) else {
+        return Err(Refused::Memory);
+    };
+    let text = text_of_input(
+        order_bytes(alloc, rules, input.bytes.as_slice(), limits),
+        input.stop,
+    )?;
+    match write_and_flush(writer, text.as_slice()) {
+        Ok(()) => Ok(()),
+        Err(_) => Err(Refused::WriteFault),
+    }
+}
+
+/// Returns what ordering the bytes of an input gave, or `ReadFault` if the reader failed after them
+/// and they contain no error other than being incomplete.
+fn text_of_input(ordered: Result<Vec<u8>, Refused>, stop: Stop) -> Result<Vec<u8>, Refused>
+    ensures { result ≡ result_of_input ordered stop }
+{
+    match (ordered, stop) {
+        (Ok(_), Stop::Failed) => Err(Refused::ReadFault),
+        (Err(Refused::Record(_, RecordCause::Cut)), Stop::Failed) => Err(Refused::ReadFault),
+        (ordered, _) => ordered,
+    }
+}
