@@ -31,7 +31,13 @@ fn refusal_of(alloc: Global, request: ShowRequest, input: &[u8], limits: Limits)
     let mut reader = MemorySource::new(input);
     let mut writer = StdSink::new(io::sink());
     match request {
-        ShowRequest::Lines(detail) => show_with(alloc, &mut reader, &mut writer, limits, detail).err(),
+        ShowRequest::Lines(detail) => show_with(
+            alloc,
+            &mut reader,
+            &mut writer,
+            limits,
+            detail,
+        ).err(),
         ShowRequest::Record(number) => {
             show_record(alloc, &mut reader, &mut writer, limits, number).err()
         }

@@ -11,7 +11,9 @@ use dap_diff::{Diff, diff_with};
 use dap_input::{Limits, Refused};
 use dap_normal::index_tables;
 use dap_rename::{Mode, NameTable, Tables};
-use dap_runs::{DIFFERENT, DONE, FAULT, LINE, differ_line, refusal_status, same_line, tell, tell_of_input};
+use dap_runs::{
+    DIFFERENT, DONE, FAULT, LINE, differ_line, refusal_status, same_line, tell, tell_of_input,
+};
 use std::alloc::Global;
 
 /// The first line, with its LF.

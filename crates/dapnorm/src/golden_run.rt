@@ -18,7 +18,10 @@ use dap_golden::{
 };
 use dap_input::{Limits, Refused};
 use dap_mask::MaskRules;
-use dap_runs::{DIFFERENT, DONE, FAULT, LINE, MEMORY, REFUSED, differ_line, refused_text, report_parts, same_line, send_parts, tell};
+use dap_runs::{
+    DIFFERENT, DONE, FAULT, LINE, MEMORY, REFUSED, differ_line, refused_text, report_parts,
+    same_line, send_parts, tell,
+};
 use itoa::Buffer;
 use std::alloc::Global;
 

@@ -33,9 +33,7 @@ pub use dap_runs::{
     RulesRefused, read_rules, report_rules, run_compare, run_compare_with, run_mask, save,
 };
 pub use dap_session::Rule;
-pub use dap_show::{
-    Detail, RecordShown, ShowRequest, show, show_faulty, show_record, show_with,
-};
+pub use dap_show::{Detail, RecordShown, ShowRequest, show, show_faulty, show_record, show_with};
 pub use dap_trace::record;
 pub use diff_run::{run_diff, run_diff_with};
 pub use golden_run::{GoldenRun, run_golden};

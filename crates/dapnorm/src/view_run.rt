@@ -49,11 +49,7 @@ fn tell_missing<E: Sink>(errors: &mut E, number: u64, count: u64)
 }
 
 /// Reports in one line that a record was not printed, and returns the program's status.
-fn tell_record<E: Sink>(
-    errors: &mut E,
-    number: u64,
-    answer: Result<RecordShown, Refused>,
-) -> u8
+fn tell_record<E: Sink>(errors: &mut E, number: u64, answer: Result<RecordShown, Refused>) -> u8
     requires { E.failures errors.old < 2 ^ 63 }
     ensures { RecordReports E.Sink number errors.old errors.new result answer }
 {

@@ -63,7 +63,10 @@ fn explain(
     if let (Some(a), Some(b)) = (a.bytes(), b.bytes())
         && status == REFUSED
     {
-        print(rt, explain_comparison(rt.alloc(), a, b, LIMITS, mode, setting.hasher));
+        print(
+            rt,
+            explain_comparison(rt.alloc(), a, b, LIMITS, mode, setting.hasher),
+        );
     }
 }
 

@@ -37,6 +37,9 @@ pub fn explain_rules_of(rt: &HostRuntime, name: &str, fault: RulesFault) {
 /// read again.
 pub fn explain_mask_of(rt: &HostRuntime, name: &str, input: &[u8]) {
     if let Ok(rules) = fs::read(rt, name) {
-        print(rt, explain_mask(rt.alloc(), rules.as_slice(), input, LIMITS));
+        print(
+            rt,
+            explain_mask(rt.alloc(), rules.as_slice(), input, LIMITS),
+        );
     }
 }

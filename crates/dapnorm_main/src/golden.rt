@@ -7,8 +7,8 @@ use crate::{FAULT, LIMITS, REFUSED, USAGE, report_unread, report_usage};
 use dap_explanations::explain_golden;
 use dap_file::{FileAt, find_file, is_standard, open_input, shows_closed_input};
 use dapnorm::{
-    Golden, GoldenRequest, GoldenStop, MaskRules, MemorySource, RulesRefused, StdSink,
-    StdSource, Stop, UsageFault, read_all, read_rules, report_rules, run_golden,
+    Golden, GoldenRequest, GoldenStop, MaskRules, MemorySource, RulesRefused, StdSink, StdSource,
+    Stop, UsageFault, read_all, read_rules, report_rules, run_golden,
 };
 use std::fs;
 use std::hash::RandomState;
@@ -74,7 +74,10 @@ fn explain_stop(
 ) {
     match stop {
         GoldenStop::Input(refused) => {
-            print(rt, explain_golden(rt.alloc(), input, rules, refused, LIMITS));
+            print(
+                rt,
+                explain_golden(rt.alloc(), input, rules, refused, LIMITS),
+            );
         }
         GoldenStop::Golden(refused) => explain_file(rt, name, refused, hasher),
         GoldenStop::GoldenUnread | GoldenStop::Unwritten(_) => {

@@ -123,7 +123,15 @@ fn run_into<W: Sink, E: Sink>(
         Task::Job(job) => {
             let mut reader = StdSource::new(input);
             let tables = tables(rt.alloc(), LIMITS, setting.hasher);
-            run_stream_with(rt.alloc(), &job, &mut reader, writer, errors, LIMITS, tables)
+            run_stream_with(
+                rt.alloc(),
+                &job,
+                &mut reader,
+                writer,
+                errors,
+                LIMITS,
+                tables,
+            )
         }
         Task::Show(request) => {
             let mut reader = StdSource::new(input);

@@ -18,10 +18,7 @@ fn is_out_of_memory(error: &Error) -> bool {
 /// Reports the reason of a failure of the file of this name.
 pub fn report_reason(rt: &HostRuntime, name: &str, error: &Error) {
     if let Ok(reason) = format!(in rt.alloc(); "{error}") {
-        print(
-            rt,
-            explain_unreadable(rt.alloc(), name, reason.as_str()),
-        );
+        print(rt, explain_unreadable(rt.alloc(), name, reason.as_str()));
     }
 }
 
