@@ -2,7 +2,7 @@
 
 _dapnorm() {
     local word=${COMP_WORDS[COMP_CWORD]} before=${COMP_WORDS[COMP_CWORD - 1]} command=${COMP_WORDS[1]} words=
-    local commands='golden record check normalise compare diff show mask compact rows help'
+    local commands='golden record check normalise compare diff show mask order compact rows help'
     COMPREPLY=()
     if ((COMP_CWORD == 1)); then
         words="$commands -h --help -V --version"
@@ -14,10 +14,11 @@ _dapnorm() {
             golden) words+=' --rules --per-stop --open --update' ;;
             check) words+=' --complete --explain --per-stop' ;;
             normalise) words+=' --explain --per-stop -o --output' ;;
-            compare) words+=' --explain --per-stop' ;;
-            diff) words+=' --all --explain --per-stop' ;;
+            compare) words+=' --explain --per-stop --rules' ;;
+            diff) words+=' --all --explain --per-stop --rules' ;;
             show) words+=' --explain --full --faulty --record -o --output' ;;
             record | mask | compact) words+=' --explain -o --output' ;;
+            order) words+=' -o --output' ;;
         esac
     elif [[ $command != rows ]]; then
         mapfile -t COMPREPLY < <(compgen -f -- "$word")

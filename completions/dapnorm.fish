@@ -11,10 +11,11 @@ complete -c dapnorm -n __fish_use_subcommand -a compare -d 'Report whether two r
 complete -c dapnorm -n __fish_use_subcommand -a diff -d 'Print what differs at the first record where two recordings differ'
 complete -c dapnorm -n __fish_use_subcommand -a show -d 'Print the records of a recording'
 complete -c dapnorm -n __fish_use_subcommand -a mask -d 'Remove what changes from run to run'
+complete -c dapnorm -n __fish_use_subcommand -a order -d 'Put the records of a recording in order'
 complete -c dapnorm -n __fish_use_subcommand -a compact -d 'Rewrite the contents of frames as canonical JSON'
 complete -c dapnorm -n __fish_use_subcommand -a rows -d 'Print the rows of the profile'
 complete -c dapnorm -n __fish_use_subcommand -a help -d 'Print the help of the program or of a command'
-complete -c dapnorm -n '__fish_seen_subcommand_from golden' -l rules -r -F -d 'The file of the rules'
+complete -c dapnorm -n '__fish_seen_subcommand_from golden compare diff' -l rules -r -F -d 'The file of the rules'
 complete -c dapnorm -n '__fish_seen_subcommand_from golden' -l open -d 'Accept a session in which some request has no response'
 complete -c dapnorm -n '__fish_seen_subcommand_from golden' -l update -d 'Write the golden file'
 complete -c dapnorm -n '__fish_seen_subcommand_from check' -l complete -d 'Reject a recording in which some request has no response'
@@ -24,6 +25,6 @@ complete -c dapnorm -n '__fish_seen_subcommand_from show' -l faulty -d 'Go on af
 complete -c dapnorm -n '__fish_seen_subcommand_from show' -l record -r -d 'Print the content of one record'
 complete -c dapnorm -n '__fish_seen_subcommand_from record check normalise compare diff show mask compact' -l explain -d 'Explain a refusal in further lines'
 complete -c dapnorm -n '__fish_seen_subcommand_from golden normalise check compare diff' -l per-stop -d 'Number frame ids and references anew after each stop'
-complete -c dapnorm -n '__fish_seen_subcommand_from record normalise show mask compact' -s o -l output -r -F -d 'The file of the output'
-complete -c dapnorm -n '__fish_seen_subcommand_from golden record check normalise compare diff show mask compact' -F
-complete -c dapnorm -n '__fish_seen_subcommand_from help' -a 'golden record check normalise compare diff show mask compact rows help'
+complete -c dapnorm -n '__fish_seen_subcommand_from record normalise show mask order compact' -s o -l output -r -F -d 'The file of the output'
+complete -c dapnorm -n '__fish_seen_subcommand_from golden record check normalise compare diff show mask order compact' -F
+complete -c dapnorm -n '__fish_seen_subcommand_from help' -a 'golden record check normalise compare diff show mask order compact rows help'

@@ -113,9 +113,36 @@ def variables(file, count):
         file.write(record("adapter", response(seq, seq, "variables", body={"variables": found})))
 
 
+def crossing(file, count):
+    """Responses that all pass each other."""
+    begin_session(file)
+    for seq in range(1, count + 1):
+        file.write(record("client", request(seq, "pause", {"threadId": 1})))
+    for seq in range(1, count + 1):
+        file.write(record("adapter", response(seq, count + 1 - seq, "pause")))
+
+
 # A thousand rules that apply to the same messages: only the last two name members that exist.
 RULES = "".join(f"blank response variables body.variables[].none{number}\n" for number in range(998))
 RULES += "hex response variables body.variables[].value\ndigits response variables body.variables[].name\n"
+
+
+# Two responses may change places, if they answer different requests.
+SWAPS = "swap response * response *\n"
+
+
+def in_order(recording):
+    """The recording with canonical contents, and with its responses, which are its last records, in the order of their requests."""
+    out, responses = [], {}
+    for side, _, content in records(recording):
+        message = json.loads(content)
+        content = canonical(message)
+        text = b"%sContent-Length: %d\r\n\r\n%s\n" % (MARKERS[side], len(content), content)
+        if message.get("request_seq"):
+            responses[message["request_seq"]] = text
+        else:
+            out.append(text)
+    return b"".join(out + [responses[seq] for seq in sorted(responses)])
 
 
 def masked(recording):
@@ -164,15 +191,16 @@ CASES = [
     Case("check", open_requests, 50_000, accepted), Case("normalise", long_headers, 2_000, normalised),
     Case("compact", deep_frames, 20_000, compacted), Case("record", small_pieces, 20_000, recorded),
     Case("mask", variables, 100, masked), Case("compare", frames, 30, compared_with_itself),
+    Case("order", crossing, 25_000, in_order),
 ]
 
 
 def words_of(command, path, folder):
     """The arguments of the program, with the files that the command requires."""
-    if command == "mask":
+    if command in ("mask", "order"):
         rules = os.path.join(folder, "rules")
         with open(rules, "w", encoding="utf-8") as file:
-            file.write(RULES)
+            file.write(RULES if command == "mask" else SWAPS)
         return [command, rules]
     return [command, path, path] if command == "compare" else [command]
 

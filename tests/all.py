@@ -69,6 +69,7 @@ def main():
             ("recordings shown", "showing.py"),
             ("the words of command lines", "command_lines.py"),
             ("golden files", "golden.py"),
+            ("commands that apply rules", "ruled.py"),
             ("inputs and outputs in files", "files.py"),
             ("all differences of recordings", "matching.py"),
             ("explanations of refusals", "explaining.py"),

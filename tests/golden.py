@@ -15,7 +15,6 @@ from worked_runs import (
 SAME, UNCHANGED = (0, b"same\n"), (0, b"unchanged\n")
 NOT_NORMAL = b"the session is the same, but the golden file is not in normal form: --update rewrites it\n"
 CONFIGURATION = recording(CONFIGURED)
-SWAP = b"swap response continue event stopped\n"
 NORMAL = recording(NORMAL_CONFIGURED)
 
 
@@ -158,7 +157,7 @@ def rules(report):
     blank = b"blank event stopped body.reason\nblank request launch arguments.x\n"
     session = [*BEGUN, LAUNCH % "0.5", STOPPED]
     normal = recording([INITIALIZE, FILLED, LAUNCH % "0", STOPPED.replace("step", "")])
-    with Folder(session=recording(session), rules=blank, bad=b"blank event stopped\n", drop=b"drop event *\n", swap=SWAP) as folder:
+    with Folder(session=recording(session), rules=blank, bad=b"blank event stopped\n", drop=b"drop event *\n") as folder:
         made = folder.run("golden", "--open", "--rules", "rules", "--update", "g", "session")
         report.check("a golden file by rules", made == wrote(session) and folder.read("g") == normal, repr(made))
         report.check("the session is held to it by rules", folder.run("golden", "--open", "--rules", "rules", "g", "session") == (*SAME, b""))
@@ -166,7 +165,7 @@ def rules(report):
         report.check("without the rules it is refused", answer == (2, b"", golden_refusal("record 3: Fraction")), repr(answer))
         answer = folder.run("golden", "--rules", "rules", "g", "session")
         report.check("an open request after the rules", answer == (2, b"", golden_refusal("after the rules: incomplete: 1 client, 0 adapter")), repr(answer))
-        refused = [("bad", "rules: line 1: BadRule"), ("none", "rules: read fault"), ("swap", "rules: swap lines are not supported yet")]
+        refused = [("bad", "rules: line 1: BadRule"), ("none", "rules: read fault")]
         for words, told in [(["--rules", name], told) for name, told in refused]:
             status, output, errors = folder.run("golden", "--open", *words, "--update", "g", "session")
             wanted = (4 if "fault" in told else 2, b"", refusal(told))

@@ -134,7 +134,7 @@ def figures_of(scratch, name):
 
 
 # The commands that the benchmarks measure, and options that they reject.
-MEASURED = {"bench": "check compact compare normalise record show", "costs": "check compact compare mask normalise record"}
+MEASURED = {"bench": "check compact compare normalise record show", "costs": "check compact compare mask normalise order record"}
 WRONG_OPTIONS = [
     ("--size", "smal", "invalid choice"), ("--program", "nothing", "is not a program"), ("--json", "no/such", "does not exist"),
 ]

@@ -19,7 +19,7 @@ use Rattle.clap.proofs.WalkLemmas.{both}
 use Rattle.dap_command_line.specs.CommandLine.{two_files}
 use Rattle.dap_command_line.specs.CommandLine as line
 use Rattle.dap_commands.specs.Commands.{command_named, command_of, comparer, differ}
-use Rattle.dap_commands.specs.Commands.{golden_keeper, masker, program, with_files}
+use Rattle.dap_commands.specs.Commands.{golden_keeper, masker, orderer, program, with_files}
 use Rattle.dap_commands.proofs.EnteredSubcommand.{IsNotHelp, walk_meets}
 use Rattle.dap_commands.proofs.Found.{found_in}
 use Rattle.dap_commands.proofs.NoFault.{no_fault-takes}
@@ -80,6 +80,13 @@ mask_names word words met not_help passes =
     mapped (with_files rows) _ (mapped line.mask (first_of (codes "RULES") rows)
     (both (is_some (first_of (codes "RULES") rows)) _ need).0)
 
+order_names : NamesCommand (as_built orderer)
+order_names word words met not_help passes =
+    let rows = rows_after (as_built orderer).rules [] words in
+    let need = level_has_required (as_built orderer) words refl passes in
+    mapped _ (first_of (codes "RULES") rows)
+    (both (is_some (first_of (codes "RULES") rows)) _ need).0
+
 compare_names : NamesCommand (as_built comparer)
 compare_names word words met not_help passes =
     let rows = rows_after (as_built comparer).rules [] words in
@@ -87,7 +94,7 @@ compare_names word words met not_help passes =
     let a = first_of (codes "A") rows in
     let b = first_of (codes "B") rows in
     let two = both (is_some a) _ need in
-    mapped (with_files rows) _ (both_files _ a b two.0 (both (is_some b) _ two.1).0)
+    both_files _ a b two.0 (both (is_some b) _ two.1).0
 
 diff_names : NamesCommand (as_built differ)
 diff_names word words met not_help passes =
@@ -116,10 +123,16 @@ each_names = (
               (
                 mask_names,
                 (
-                  λ word words met not_help passes. refl,
+                  order_names,
                   (
                     λ word words met not_help passes. refl,
-                    (λ word words met not_help passes. absurd (help_names word met not_help), tt),
+                    (
+                      λ word words met not_help passes. refl,
+                      (
+                        λ word words met not_help passes. absurd (help_names word met not_help),
+                        tt,
+                      ),
+                    ),
                   ),
                 ),
               ),

@@ -3,7 +3,9 @@ use Rattle.std.proofs.Common.{◌≡◌, refl, true, false, [], ◌∷◌, Some,
 use Rattle.clap.specs.Words.{subcommand_of}
 use Rattle.clap.proofs.OnLiterals.{clap_on_literals}
 use Rattle.dap_command_line.specs.CommandLine as line
-use Rattle.dap_commands.specs.Commands.{command_named, diff_all, golden, job, program, view}
+use Rattle.dap_commands.specs.Commands.{command_named, comparison, golden, job, order, program}
+use Rattle.dap_commands.specs.Commands.{view}
+use Rattle.dap_commands.specs.declared.commands.Printed.TheVariants.{Verdict, AllDifferences}
 
 -- `-` is a file
 dash_is_input : command_named (subcommand_of program
@@ -66,10 +68,44 @@ show_alone = refl
 diff_with_options : command_named (subcommand_of program (codes "dapnorm" ∷ codes "diff"
     ∷ codes "a" ∷ codes "--all" ∷ codes "b" ∷ []))
     ≡ Some (record {
-      action = diff_all (codes "a") (codes "b") false;
+      action = comparison (record {
+        a = codes "a";
+        b = codes "b";
+        per_stop = false;
+        rules = None;
+        printed = AllDifferences;
+      });
       input = None;
       output = None;
       explain = false;
     })
 unfolding clap_on_literals
 diff_with_options = refl
+
+compare_by_rules : command_named (subcommand_of program (codes "dapnorm" ∷ codes "compare"
+    ∷ codes "--rules" ∷ codes "rules" ∷ codes "a" ∷ codes "b" ∷ []))
+    ≡ Some (record {
+      action = comparison (record {
+        a = codes "a";
+        b = codes "b";
+        per_stop = false;
+        rules = Some (codes "rules");
+        printed = Verdict;
+      });
+      input = None;
+      output = None;
+      explain = false;
+    })
+unfolding clap_on_literals
+compare_by_rules = refl
+
+order_with_output : command_named (subcommand_of program (codes "dapnorm" ∷ codes "order"
+    ∷ codes "-o" ∷ codes "out" ∷ codes "rules" ∷ []))
+    ≡ Some (record {
+      action = order (codes "rules");
+      input = None;
+      output = Some (codes "out");
+      explain = true;
+    })
+unfolding clap_on_literals
+order_with_output = refl

@@ -20,6 +20,10 @@ use Rattle.dap_command_line.specs.declared.jobs.UsageFault.{UsageFault}
 use Rattle.dap_command_line.specs.declared.jobs.UsageFault.TheVariants as usage
 use Rattle.dap_commands.specs.declared.commands.Action.{Action}
 use Rattle.dap_commands.specs.declared.commands.Action.TheVariants as action
+use Rattle.dap_commands.specs.declared.commands.Comparison.{Comparison}
+use Rattle.dap_commands.specs.declared.commands.Printed.{Printed}
+use Rattle.dap_commands.specs.declared.commands.Printed.TheVariants.{Verdict, FirstDifference}
+use Rattle.dap_commands.specs.declared.commands.Printed.TheVariants.{AllDifferences}
 use Rattle.dap_commands.specs.declared.commands.Command.{Command}
 
 -- ---- what a parse reads of the program's definition
@@ -73,6 +77,10 @@ abbrev pub masker : Shape
 masker =
     subcommand (codes "mask") (file (codes "RULES") ∷ explain_flag ∷ input_file ∷ output_file ∷ [])
 
+-- `order`
+abbrev pub orderer : Shape
+orderer = subcommand (codes "order") (file (codes "RULES") ∷ input_file ∷ output_file ∷ [])
+
 -- `check`
 abbrev pub checker : Shape
 checker =
@@ -82,8 +90,8 @@ checker =
 -- a subcommand of two files, with these arguments after the ones of all such subcommands
 abbrev pub of_two_files : Text → List Rule → Shape
 of_two_files name rules =
-    subcommand name (file (codes "A") ∷ file (codes "B") ∷ flag (codes "per-stop") ∷ explain_flag
-    ∷ rules)
+    subcommand name (file (codes "A") ∷ file (codes "B") ∷ option (codes "rules")
+    ∷ flag (codes "per-stop") ∷ explain_flag ∷ rules)
 
 -- `compare` and `diff`
 abbrev pub comparer : Shape
@@ -113,7 +121,7 @@ program = record {
   };
   subs = golden_keeper ∷ stream (codes "record") ∷ checker ∷ normaliser
       ∷ comparer ∷ differ ∷ viewer
-      ∷ masker ∷ stream (codes "compact") ∷ row_printer ∷ [];
+      ∷ masker ∷ orderer ∷ stream (codes "compact") ∷ row_printer ∷ [];
 }
 
 -- The argument is read by this rule, and is not global.
@@ -128,12 +136,21 @@ pub record IsSubcommand (shape : Shape) (command : Definition) : Type 0 where
 
 -- ---- commands by their texts
 
--- an action by the texts of its arguments: a job; two files, and whether ids are numbered anew after
--- each stop; `--full`, `--faulty` and the number after
--- `--record`; or the golden file, the file of the rules, `--per-stop`, `--open` and `--update`
+-- a comparison by the texts of its arguments
+pub record ToldComparison : Type 0 where
+  pub a : Text
+  pub b : Text
+  pub per_stop : Bool
+  pub rules : Option Text
+  pub printed : Printed
+
+-- an action by the texts of its arguments: a job; a comparison that no job makes; the file of the
+-- rules of `order`; `--full`, `--faulty` and the number after `--record`; or the golden file, the
+-- file of the rules, `--per-stop`, `--open` and `--update`
 pub data ToldAction : Type 0 where
   job : ToldJob → ToldAction
-  diff_all : Text → Text → Bool → ToldAction
+  comparison : ToldComparison → ToldAction
+  order : Text → ToldAction
   view : Bool → Bool → Option Text → ToldAction
   golden : Text → Option Text → Bool → Bool → Bool → ToldAction
 
@@ -144,9 +161,19 @@ pub record Told : Type 0 where
   pub output : Option Text
   pub explain : Bool
 
+abbrev pub told_comparison : Comparison → ToldComparison
+told_comparison c = record {
+  a = c.a.now;
+  b = c.b.now;
+  per_stop = c.per_stop;
+  rules = text_in c.rules;
+  printed = c.printed;
+}
+
 abbrev pub told_action : Action → ToldAction
 told_action (action.Job j) = job (told_job j)
-told_action (action.DiffAll d) = diff_all d.a.now d.b.now d.per_stop
+told_action (action.Compare c) = comparison (told_comparison c)
+told_action (action.Order o) = order o.rules.now
 told_action (action.Show v) = view v.full v.faulty (text_in v.record)
 told_action (action.Golden g) =
     golden g.golden.now (text_in g.rules) g.per_stop g.open g.update
@@ -186,20 +213,55 @@ with_files given one = record {
   explain = has_flag (codes "explain") given;
 }
 
--- what `diff` prints of two files: all differences, or the first
+-- the comparison of two files, of which this is printed
+abbrev pub comparison_of : Printed → List Row → Text × Text → ToldComparison
+comparison_of printed given files = record {
+  a = files.0;
+  b = files.1;
+  per_stop = asks_per_stop given;
+  rules = first_of (codes "rules") given;
+  printed = printed;
+}
+
+-- The option `--rules` was given.
+abbrev pub has_rules : List Row → Bool
+has_rules given = is_some (first_of (codes "rules") given)
+
+-- what `compare` does with two files: its job, unless there are rules
+abbrev pub compare_action : List Row → Text × Text → ToldAction
+compare_action given files =
+    if has_rules given then comparison (comparison_of Verdict given files)
+    else job (line.compare files.0 files.1 (asks_per_stop given))
+
+-- what `diff` does with two files: its job, unless there are rules or all differences are requested
 abbrev pub diff_action : List Row → Text × Text → ToldAction
 diff_action given files =
-    if has_flag (codes "all") given then diff_all files.0 files.1 (asks_per_stop given)
+    if has_flag (codes "all") given then comparison (comparison_of AllDifferences given files)
+    else if has_rules given then comparison (comparison_of FirstDifference given files)
     else job (line.diff files.0 files.1 (asks_per_stop given))
 
--- the command of `diff`
-abbrev pub diff_of : List Row → Option Told
-diff_of given = option_map (λ files. record {
-  action = diff_action given files;
+-- a command that reads files of its own, and writes to standard output
+abbrev pub without_output : List Row → ToldAction → Told
+without_output given one = record {
+  action = one;
   input = None;
   output = None;
   explain = has_flag (codes "explain") given;
-}) (line.two_files (first_of (codes "A") given) (first_of (codes "B") given))
+}
+
+-- the files of `compare` and `diff`, if both are given
+abbrev pub files_given : List Row → Option (Text × Text)
+files_given given = line.two_files (first_of (codes "A") given) (first_of (codes "B") given)
+
+-- the command of `compare`
+abbrev pub compare_of : List Row → Option Told
+compare_of given =
+    option_map (λ files. without_output given (compare_action given files)) (files_given given)
+
+-- the command of `diff`
+abbrev pub diff_of : List Row → Option Told
+diff_of given =
+    option_map (λ files. without_output given (diff_action given files)) (files_given given)
 
 -- `show` was given an option of its own
 abbrev pub asks_view : List Row → Bool
@@ -213,14 +275,23 @@ show_action given =
     if asks_view given then view (has_flag (codes "full") given) (has_flag (codes "faulty") given)
     (first_of (codes "record") given) else job line.show
 
--- the command of `show`
-abbrev pub show_of : List Row → Told
-show_of given = record {
-  action = show_action given;
+-- a command that reads one input and writes one output
+abbrev pub with_output : List Row → ToldAction → Bool → Told
+with_output given one explain = record {
+  action = one;
   input = first_of (codes "FILE") given;
   output = first_of (codes "output") given;
-  explain = has_flag (codes "explain") given;
+  explain = explain;
 }
+
+-- the command of `show`
+abbrev pub show_of : List Row → Told
+show_of given = with_output given (show_action given) (has_flag (codes "explain") given)
+
+-- the command of `order`, which explains without being asked
+abbrev pub order_of : List Row → Option Told
+order_of given =
+    option_map (λ rules. with_output given (order rules) true) (first_of (codes "RULES") given)
 
 -- the command of `golden`, which explains without being asked
 abbrev pub golden_of : List Row → Option Told
@@ -237,7 +308,9 @@ abbrev pub command_of : Text → List Row → Option Told
 command_of name given =
     if bytes_eq name (codes "golden") then golden_of given
     else if bytes_eq name (codes "show") then Some (show_of given)
+    else if bytes_eq name (codes "compare") then compare_of given
     else if bytes_eq name (codes "diff") then diff_of given
+    else if bytes_eq name (codes "order") then order_of given
     else option_map (with_files given) (job_of name given)
 
 abbrev pub command_named : Option (Text × List Row) → Option Told

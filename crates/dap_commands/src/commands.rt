@@ -15,7 +15,8 @@ pub struct Command<'a> {
     /// The file of the output. `None` is standard output. `check`, `compare`, `diff`, `rows` and
     /// `golden` have `None`.
     pub output: Option<&'a str>,
-    /// Whether a refusal is explained in further lines. `golden` explains without the flag.
+    /// Whether a refusal is explained in further lines. `golden` and `order` explain without the
+    /// flag.
     pub explain: bool,
 }
 
@@ -24,23 +25,47 @@ pub struct Command<'a> {
 pub enum Action<'a> {
     /// One of the jobs.
     Job(Job<'a>),
-    /// Print all differences of two recordings.
-    DiffAll(DiffAll<'a>),
+    /// Compare two recordings in a way that no job does: by rules, or with all differences.
+    Compare(Comparison<'a>),
+    /// Put a recording in order.
+    Order(Order<'a>),
     /// Print a recording in another way than the job `show`.
     Show(Show<'a>),
     /// Make, renew or compare a golden file.
     Golden(Golden<'a>),
 }
 
-/// The recordings of which `diff` prints all differences.
+/// Which recordings are compared, and how.
 #[derive(Clone, Copy, Debug, PartialEq, Eq)]
-pub struct DiffAll<'a> {
+pub struct Comparison<'a> {
     /// The file of the first recording.
     pub a: &'a str,
     /// The file of the second recording.
     pub b: &'a str,
     /// Whether frame ids and references are numbered from 1 again after each stop.
     pub per_stop: bool,
+    /// The file of the rules by which both recordings are masked and put in order. `None` compares
+    /// them as they are.
+    pub rules: Option<&'a str>,
+    pub printed: Printed,
+}
+
+/// What is printed of two recordings.
+#[derive(Clone, Copy, Debug, PartialEq, Eq)]
+pub enum Printed {
+    /// Whether they are the same, or where they first differ.
+    Verdict,
+    /// What differs at the first record at which they differ.
+    FirstDifference,
+    /// What differs at each record.
+    AllDifferences,
+}
+
+/// How `order` puts a recording in order.
+#[derive(Clone, Copy, Debug, PartialEq, Eq)]
+pub struct Order<'a> {
+    /// The file of the rules for the order of messages.
+    pub rules: &'a str,
 }
 
 /// How `show` prints a recording, if it has one of these options.
@@ -59,7 +84,7 @@ pub struct Show<'a> {
 pub struct Golden<'a> {
     /// The golden file.
     pub golden: &'a str,
-    /// The file of the rules of the mask. `None` is no mask.
+    /// The file of the rules by which the session is masked and put in order. `None` is no rules.
     pub rules: Option<&'a str>,
     /// Whether frame ids and references are numbered from 1 again after each stop.
     pub per_stop: bool,
@@ -77,7 +102,7 @@ fn mode_for(per_stop: bool) -> Mode
     if per_stop { Mode::PerStop } else { Mode::Whole }
 }
 
-impl DiffAll<'_> {
+impl Comparison<'_> {
     /// The mode in which the ids of the recordings are numbered.
     pub fn mode(&self) -> Mode
         ensures { result ≡ mode_for self.now.per_stop }

@@ -4,8 +4,8 @@ ghost use Rattle.clap.specs.Words.{Shape, app_of, with_subcommand};
 ghost use Rattle.dap_command_line.specs.CommandLine.{bare, file};
 ghost use Rattle.dap_commands.specs.Commands.{IsArgument, IsSubcommand, checker, comparer, differ};
 ghost use Rattle.dap_commands.specs.Commands.{explain_flag, flag, golden_keeper, input_file, masker, normaliser};
-ghost use Rattle.dap_commands.specs.Commands.{of_two_files, option, optional, output_file, program};
-ghost use Rattle.dap_commands.specs.Commands.{row_printer, stream, subcommand, viewer};
+ghost use Rattle.dap_commands.specs.Commands.{of_two_files, option, optional, orderer, output_file};
+ghost use Rattle.dap_commands.specs.Commands.{program, row_printer, stream, subcommand, viewer};
 
 use clap::{Arg, ArgAction, Command};
 use std::alloc::{AllocError, Global};
@@ -15,6 +15,9 @@ const VERSION: &str = "0.1.0 (profile of 188 rows)";
 
 /// The help of an argument that is a file of rules.
 const RULES: &str = "The file of the rules: what changes from run to run";
+
+/// The help of the rules of `order`.
+const SWAPS: &str = "The file of the rules: which messages may change places";
 
 /// A flag, such as `--open`.
 fn flag<'a>(alloc: Global, name: &'a str, help: &'a str) -> Arg<'a>
@@ -209,6 +212,21 @@ fn mask_command<'a>(alloc: Global) -> Result<Command<'a>, AllocError>
     .arg(output_file(alloc))
 }
 
+/// The subcommand `order`.
+fn order_command<'a>(alloc: Global) -> Result<Command<'a>, AllocError>
+    ensures { IfOk result (IsSubcommand orderer) }
+{
+    subcommand(
+        alloc,
+        "order",
+        "Puts the records of a recording in order, as far as the rules allow it",
+        "Example: dapnorm order lldb.rules session.rec -o session.ordered",
+    )
+    .arg(file(alloc, "RULES", SWAPS))?
+    .arg(input_file(alloc))?
+    .arg(output_file(alloc))
+}
+
 /// The subcommand `check`.
 fn check_command<'a>(alloc: Global) -> Result<Command<'a>, AllocError>
     ensures { IfOk result (IsSubcommand checker) }
@@ -241,6 +259,7 @@ fn two_files_command<'a>(
     subcommand(alloc, name, about, example)
         .arg(file(alloc, "A", "The file of the first recording"))?
         .arg(file(alloc, "B", "The file of the second recording"))?
+        .arg(option(alloc, "rules", "RULES", RULES))?
         .arg(per_stop_flag(alloc))?
         .arg(explain_flag(alloc))
 }
@@ -350,6 +369,7 @@ pub(crate) fn program<'a>(alloc: Global) -> Result<Command<'a>, AllocError>
     let diff = with_subcommand(compare, diff_command(alloc))?;
     let show = with_subcommand(diff, show_command(alloc))?;
     let mask = with_subcommand(show, mask_command(alloc))?;
-    let compact = with_subcommand(mask, compact_command(alloc))?;
+    let order = with_subcommand(mask, order_command(alloc))?;
+    let compact = with_subcommand(order, compact_command(alloc))?;
     with_subcommand(compact, rows_command(alloc))
 }

@@ -9,13 +9,15 @@ ghost use Rattle.dap_command_line.specs.CommandLine.{is_set, job_of, mask, over_
 ghost use Rattle.dap_command_line.specs.CommandLine.{texts_in, two_files};
 ghost use Rattle.dap_command_line.specs.CommandLine.{told as told_job};
 ghost use Rattle.dap_command_line.specs.declared.jobs.UsageFault.TheVariants.{Memory};
-ghost use Rattle.dap_commands.specs.Commands.{IsFaultFor, command_named, command_of, diff_action};
-ghost use Rattle.dap_commands.specs.Commands.{diff_of, given};
-ghost use Rattle.dap_commands.specs.Commands.{golden_of, has_flag, program, reads_input};
-ghost use Rattle.dap_commands.specs.Commands.{show_action, show_of, told, told_action, with_files};
+ghost use Rattle.dap_commands.specs.Commands.{IsFaultFor, command_named, command_of};
+ghost use Rattle.dap_commands.specs.Commands.{compare_action, compare_of, comparison_of};
+ghost use Rattle.dap_commands.specs.Commands.{diff_action, diff_of, given, golden_of, has_flag};
+ghost use Rattle.dap_commands.specs.Commands.{order_of, program, reads_input, show_action};
+ghost use Rattle.dap_commands.specs.Commands.{show_of, told, told_action, told_comparison};
+ghost use Rattle.dap_commands.specs.Commands.{with_files, with_output, without_output};
 ghost use Rattle.dap_commands.specs.Commands.{writes_output};
 
-use crate::commands::{Action, Command, DiffAll, Golden, Show};
+use crate::commands::{Action, Command, Comparison, Golden, Order, Printed, Show};
 use crate::definition;
 use clap::error::ErrorKind;
 use clap::{ArgMatches, Error};
@@ -154,16 +156,74 @@ fn with_files<'a>(job: Job<'a>, rows: &ArgMatches<'a>) -> Command<'a>
     }
 }
 
-/// What `diff` prints of two files.
+/// The comparison of two files, by the options that were given.
+fn comparison_of<'a>(
+    rows: &ArgMatches<'a>,
+    a: &'a str,
+    b: &'a str,
+    printed: Printed,
+) -> Comparison<'a>
+    ensures { told_comparison result
+        ≡ comparison_of printed (given rows.now) (a.entry.now, b.entry.now) }
+{
+    let per_stop = has_flag(rows, "per-stop");
+    let rules = value_of(rows, "rules");
+    Comparison {
+        a,
+        b,
+        per_stop,
+        rules,
+        printed,
+    }
+}
+
+/// What `compare` does with two files.
+fn compare_action<'a>(rows: &ArgMatches<'a>, a: &'a str, b: &'a str) -> Action<'a>
+    ensures { told_action result ≡ compare_action (given rows.now) (a.entry.now, b.entry.now) }
+{
+    let comparison = comparison_of(rows, a, b, Printed::Verdict);
+    if comparison.rules.is_some() {
+        Action::Compare(comparison)
+    } else {
+        let per_stop = comparison.per_stop;
+        Action::Job(Job::Compare { a, b, per_stop })
+    }
+}
+
+/// What `diff` does with two files.
 fn diff_action<'a>(rows: &ArgMatches<'a>, a: &'a str, b: &'a str) -> Action<'a>
     ensures { told_action result ≡ diff_action (given rows.now) (a.entry.now, b.entry.now) }
 {
-    let per_stop = has_flag(rows, "per-stop");
     if has_flag(rows, "all") {
-        Action::DiffAll(DiffAll { a, b, per_stop })
+        return Action::Compare(comparison_of(rows, a, b, Printed::AllDifferences));
+    }
+    let comparison = comparison_of(rows, a, b, Printed::FirstDifference);
+    if comparison.rules.is_some() {
+        Action::Compare(comparison)
     } else {
+        let per_stop = comparison.per_stop;
         Action::Job(Job::Diff { a, b, per_stop })
     }
+}
+
+/// A command that reads files of its own, and writes to standard output.
+fn without_output<'a>(rows: &ArgMatches<'a>, action: Action<'a>) -> Command<'a>
+    ensures { told result ≡ without_output (given rows.now) (told_action action.entry) }
+{
+    Command {
+        action,
+        input: None,
+        output: None,
+        explain: has_flag(rows, "explain"),
+    }
+}
+
+/// The command of `compare`.
+fn compare_by<'a>(rows: &ArgMatches<'a>) -> Option<Command<'a>>
+    ensures { option_map told result ≡ compare_of (given rows.now) }
+{
+    let (a, b) = two_files(rows)?;
+    Some(without_output(rows, compare_action(rows, a, b)))
 }
 
 /// The command of `diff`.
@@ -171,12 +231,16 @@ fn diff_by<'a>(rows: &ArgMatches<'a>) -> Option<Command<'a>>
     ensures { option_map told result ≡ diff_of (given rows.now) }
 {
     let (a, b) = two_files(rows)?;
-    Some(Command {
-        action: diff_action(rows, a, b),
-        input: None,
-        output: None,
-        explain: has_flag(rows, "explain"),
-    })
+    Some(without_output(rows, diff_action(rows, a, b)))
+}
+
+/// The command of `order`.
+fn order_by<'a>(rows: &ArgMatches<'a>) -> Option<Command<'a>>
+    ensures { option_map told result ≡ order_of (given rows.now) }
+{
+    let file = value_of(rows, "RULES")?;
+    let action = Action::Order(Order { rules: file });
+    Some(with_output(rows, action, true))
 }
 
 /// What `show` prints.
@@ -195,16 +259,24 @@ fn show_action<'a>(rows: &ArgMatches<'a>) -> Action<'a>
     }
 }
 
+/// A command that reads one input and writes one output.
+fn with_output<'a>(rows: &ArgMatches<'a>, action: Action<'a>, explain: bool) -> Command<'a>
+    ensures { told result ≡ with_output (given rows.now) (told_action action.entry) explain }
+{
+    Command {
+        action,
+        input: value_of(rows, "FILE"),
+        output: value_of(rows, "output"),
+        explain,
+    }
+}
+
 /// The command of `show`.
 fn show_by<'a>(rows: &ArgMatches<'a>) -> Command<'a>
     ensures { told result ≡ show_of (given rows.now) }
 {
-    Command {
-        action: show_action(rows),
-        input: value_of(rows, "FILE"),
-        output: value_of(rows, "output"),
-        explain: has_flag(rows, "explain"),
-    }
+    let explain = has_flag(rows, "explain");
+    with_output(rows, show_action(rows), explain)
 }
 
 /// The command of `golden`.
@@ -236,8 +308,14 @@ fn command_by<'a>(name: &str, rows: &ArgMatches<'a>) -> Option<Command<'a>>
     if name == "show" {
         return Some(show_by(rows));
     }
+    if name == "compare" {
+        return compare_by(rows);
+    }
     if name == "diff" {
         return diff_by(rows);
+    }
+    if name == "order" {
+        return order_by(rows);
     }
     let job = job_by(name, rows)?;
     Some(with_files(job, rows))

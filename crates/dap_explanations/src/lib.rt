@@ -5,14 +5,18 @@
 //! The text is empty if the inputs are not refused. What the lines say is only tested.
 #![tactic(auto)]
 
+mod applying;
 mod comparing;
 mod golden;
 mod jobs;
 mod masking;
+mod ordering;
 mod viewing;
 
+pub use applying::explain_applying;
 pub use comparing::explain_comparison;
 pub use golden::explain_golden;
 pub use jobs::explain_job;
 pub use masking::explain_mask;
+pub use ordering::explain_order;
 pub use viewing::explain_view;

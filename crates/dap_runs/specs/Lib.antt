@@ -1,6 +1,8 @@
+pub mod ApplyRun
 pub mod ComparingRun
 pub mod FaultLine
 pub mod MaskRun
+pub mod OrderRun
 pub mod Parts
 pub mod Reporting
 pub mod RowsRun

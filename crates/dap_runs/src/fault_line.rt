@@ -180,7 +180,7 @@ fn fault_line(refused: Refused) -> ArrayString<LINE>
 }
 
 /// How one of two inputs is written.
-fn letter(which: Which) -> &'static str
+pub(crate) fn letter(which: Which) -> &'static str
     ensures letter { result.now ≡ which_text which }
     ensures short { length result.now ≤ 1 }
 {

@@ -8,7 +8,7 @@ mod run_job;
 mod view_run;
 
 pub use dap_command_line::{Job, UsageFault, job};
-pub use dap_commands::{Action, Command, DiffAll, Golden, Show, command};
+pub use dap_commands::{Action, Command, Comparison, Golden, Order, Printed, Show, command};
 pub use dap_compact::compact;
 pub use dap_compare::{CompareRefused, Verdict, Which, compare, compare_with};
 pub use dap_device::{
@@ -27,10 +27,13 @@ pub use dap_message::MessageFault;
 pub use dap_normal::{
     Checked, Normalised, check, check_with, normalise, normalise_bytes, normalise_with,
 };
+pub use dap_order_input::{order, order_bytes};
 pub use dap_recording::{RecordCause, RecorderFault, TraceCause};
 pub use dap_rename::{IndexNames, Mode, NameTable, Pair, Renaming, Tables};
+pub use dap_rules_input::{ApplyRefused, read_by_rules};
 pub use dap_runs::{
-    RulesRefused, read_rules, report_rules, run_compare, run_compare_with, run_mask, save,
+    RulesRefused, read_rules, report_unapplied, report_rules, run_compare, run_compare_with, run_mask,
+    run_order, save,
 };
 pub use dap_session::Rule;
 pub use dap_show::{Detail, RecordShown, ShowRequest, show, show_faulty, show_record, show_with};

@@ -1,26 +1,21 @@
 //! Compares the recordings of two files, or prints how they differ.
+ghost use Rattle.std.specs.Prelude.{◌<◌, ◌^◌};
+
 use crate::explaining::print;
 use crate::reports::{report_failure, report_unopened};
+use crate::rules::rules_of;
 use crate::{LIMITS, REFUSED, Setting, USAGE, tables};
-use dap_explanations::explain_comparison;
+use dap_explanations::{explain_applying, explain_comparison};
 use dap_file::{KeptInput, is_standard, open_input};
 use dap_matching::run_diff_all_with;
-use dapnorm::{Mode, StdSink, StdSource, run_compare_with, run_diff_with};
+use dapnorm::{
+    Comparison, MaskRules, MemorySource, Mode, Printed, ApplyRefused, Source, StdSink, StdSource,
+    Which, read_by_rules, report_unapplied, run_compare_with, run_diff_with,
+};
 use std::hash::RandomState;
 
 /// What is reported if both inputs of a comparison are standard input.
 const TWO_STANDARD: &str = "error: only one of A and B can be standard input";
-
-/// What is printed of two recordings.
-#[derive(Clone, Copy)]
-pub enum Printed {
-    /// Whether they are the same, or where they first differ.
-    Verdict,
-    /// What differs at the first record at which they differ.
-    FirstDifference,
-    /// What differs at each record.
-    AllDifferences,
-}
 
 /// Opens one of two inputs.
 fn open_side(rt: &HostRuntime, words: &str, name: &str, setting: Setting) -> Result<KeptInput, u8> {
@@ -48,6 +43,14 @@ fn open_both(
     Ok((input_a, open_side(rt, "B: ", b, setting)?))
 }
 
+/// Explains why one of two recordings was refused.
+fn explain_texts(rt: &HostRuntime, a: &[u8], b: &[u8], mode: Mode, hasher: RandomState) {
+    print(
+        rt,
+        explain_comparison(rt.alloc(), a, b, LIMITS, mode, hasher),
+    );
+}
+
 /// Explains why one of two inputs was refused, or could not be read.
 fn explain(
     rt: &HostRuntime,
@@ -63,74 +66,41 @@ fn explain(
     if let (Some(a), Some(b)) = (a.bytes(), b.bytes())
         && status == REFUSED
     {
-        print(
-            rt,
-            explain_comparison(rt.alloc(), a, b, LIMITS, mode, setting.hasher),
-        );
+        explain_texts(rt, a, b, mode, setting.hasher);
     }
 }
 
-/// Compares two recordings, and prints the verdict.
-fn compare_inputs(
+/// Compares two recordings, and prints the verdict or the differences.
+fn compare_sources<A: Source, B: Source>(
     rt: &HostRuntime,
-    a: &mut KeptInput,
-    b: &mut KeptInput,
+    a: &mut A,
+    b: &mut B,
     mode: Mode,
+    printed: Printed,
     hasher: RandomState,
-) -> u8 {
-    run_compare_with(
-        rt.alloc(),
-        &mut StdSource::new(a),
-        &mut StdSource::new(b),
-        &mut StdSink::new(rt.stdout()),
-        &mut StdSink::new(rt.stderr()),
-        LIMITS,
-        tables(rt.alloc(), LIMITS, hasher),
-        tables(rt.alloc(), LIMITS, hasher),
-        mode,
-    )
-}
-
-/// Prints how two recordings differ.
-fn diff_inputs(
-    rt: &HostRuntime,
-    a: &mut KeptInput,
-    b: &mut KeptInput,
-    mode: Mode,
-    hasher: RandomState,
-) -> u8 {
-    run_diff_with(
-        rt.alloc(),
-        &mut StdSource::new(a),
-        &mut StdSource::new(b),
-        &mut StdSink::new(rt.stdout()),
-        &mut StdSink::new(rt.stderr()),
-        LIMITS,
-        tables(rt.alloc(), LIMITS, hasher),
-        tables(rt.alloc(), LIMITS, hasher),
-        mode,
-    )
-}
-
-/// Prints all differences of two recordings.
-fn diff_all_inputs(
-    rt: &HostRuntime,
-    a: &mut KeptInput,
-    b: &mut KeptInput,
-    mode: Mode,
-    hasher: RandomState,
-) -> u8 {
-    run_diff_all_with(
-        rt.alloc(),
-        &mut StdSource::new(a),
-        &mut StdSource::new(b),
-        &mut StdSink::new(rt.stdout()),
-        &mut StdSink::new(rt.stderr()),
-        LIMITS,
-        tables(rt.alloc(), LIMITS, hasher),
-        tables(rt.alloc(), LIMITS, hasher),
-        mode,
-    )
+) -> u8
+    requires given_a { A.given a.old < 2 ^ 62 }
+    requires given_b { B.given b.old < 2 ^ 62 }
+    requires failures_a { A.failures a.old < 2 ^ 62 }
+    requires failures_b { B.failures b.old < 2 ^ 62 }
+{
+    let alloc = rt.alloc();
+    let mut writer = StdSink::new(rt.stdout());
+    let mut errors = StdSink::new(rt.stderr());
+    let tables_a = tables(alloc, LIMITS, hasher);
+    let tables_b = tables(alloc, LIMITS, hasher);
+    let (out, err) = (&mut writer, &mut errors);
+    match printed {
+        Printed::Verdict => {
+            run_compare_with(alloc, a, b, out, err, LIMITS, tables_a, tables_b, mode)
+        }
+        Printed::FirstDifference => {
+            run_diff_with(alloc, a, b, out, err, LIMITS, tables_a, tables_b, mode)
+        }
+        Printed::AllDifferences => {
+            run_diff_all_with(alloc, a, b, out, err, LIMITS, tables_a, tables_b, mode)
+        }
+    }
 }
 
 /// Compares the recordings of two files, and prints the verdict or the differences.
@@ -146,14 +116,97 @@ pub fn compare_files(
         Ok(inputs) => inputs,
         Err(status) => return status,
     };
-    let hasher = setting.hasher;
-    let status = match printed {
-        Printed::Verdict => compare_inputs(rt, &mut input_a, &mut input_b, mode, hasher),
-        Printed::FirstDifference => diff_inputs(rt, &mut input_a, &mut input_b, mode, hasher),
-        Printed::AllDifferences => diff_all_inputs(rt, &mut input_a, &mut input_b, mode, hasher),
-    };
+    let status = compare_sources(
+        rt,
+        &mut StdSource::new(&mut input_a),
+        &mut StdSource::new(&mut input_b),
+        mode,
+        printed,
+        setting.hasher,
+    );
     if setting.explain {
         explain(rt, (a, b), (&input_a, &input_b), status, mode, setting);
     }
     status
+}
+
+/// Reports why the rules cannot be applied to one of two inputs, and returns the status.
+fn report_refusal(
+    rt: &HostRuntime,
+    which: Which,
+    name: &str,
+    input: &KeptInput,
+    rules: &MaskRules,
+    refused: ApplyRefused,
+) -> u8 {
+    let status = report_unapplied(&mut StdSink::new(rt.stderr()), which, refused);
+    if let Some(bytes) = input.bytes() {
+        report_failure(rt, Some(name), input);
+        print(
+            rt,
+            explain_applying(rt.alloc(), bytes, rules, refused, LIMITS),
+        );
+    }
+    status
+}
+
+/// Reads one of two inputs, and applies the rules to its recording.
+fn read_side(
+    rt: &HostRuntime,
+    which: Which,
+    name: &str,
+    input: &mut KeptInput,
+    rules: &MaskRules,
+    mode: Mode,
+) -> Result<Vec<u8>, u8> {
+    let read = read_by_rules(rt.alloc(), rules, &mut StdSource::new(input), LIMITS, mode);
+    match read {
+        Ok(text) => Ok(text),
+        Err(refused) => Err(report_refusal(rt, which, name, input, rules, refused)),
+    }
+}
+
+/// Compares what the rules make of two inputs.
+fn compare_by_rules(
+    rt: &HostRuntime,
+    comparison: &Comparison<'_>,
+    rules: &MaskRules,
+    inputs: (&mut KeptInput, &mut KeptInput),
+    setting: Setting,
+) -> Result<u8, u8> {
+    let mode = comparison.mode();
+    let a = read_side(rt, Which::A, comparison.a, inputs.0, rules, mode)?;
+    let b = read_side(rt, Which::B, comparison.b, inputs.1, rules, mode)?;
+    let status = compare_sources(
+        rt,
+        &mut MemorySource::new(a.as_slice()),
+        &mut MemorySource::new(b.as_slice()),
+        mode,
+        comparison.printed,
+        setting.hasher,
+    );
+    if setting.explain && status == REFUSED {
+        explain_texts(rt, a.as_slice(), b.as_slice(), mode, setting.hasher);
+    }
+    Ok(status)
+}
+
+/// Makes a comparison, by the rules if it has some.
+pub fn run_comparison(rt: &HostRuntime, comparison: &Comparison<'_>, setting: Setting) -> u8 {
+    let (a, b) = (comparison.a, comparison.b);
+    let Some(name) = comparison.rules else {
+        return compare_files(rt, a, b, comparison.mode(), comparison.printed, setting);
+    };
+    let is_input_standard = is_standard(a) || is_standard(b);
+    let rules = match rules_of(rt, name, is_input_standard, setting.explain) {
+        Ok(rules) => rules,
+        Err(status) => return status,
+    };
+    let (mut input_a, mut input_b) = match open_both(rt, a, b, setting) {
+        Ok(inputs) => inputs,
+        Err(status) => return status,
+    };
+    match compare_by_rules(rt, comparison, &rules, (&mut input_a, &mut input_b), setting) {
+        Ok(status) | Err(status) => status,
+    }
 }

@@ -1,7 +1,7 @@
 //! Prints explanations on standard error, after the line of a refusal.
 use crate::LIMITS;
 use dap_explain::{explain, explain_rules};
-use dap_explanations::explain_mask;
+use dap_explanations::{explain_mask, explain_order};
 use dap_file::find_file;
 use dap_runs::send;
 use dapnorm::{Refused, Replaceable, RulesFault, StdSink};
@@ -40,6 +40,17 @@ pub fn explain_mask_of(rt: &HostRuntime, name: &str, input: &[u8]) {
         print(
             rt,
             explain_mask(rt.alloc(), rules.as_slice(), input, LIMITS),
+        );
+    }
+}
+
+/// Explains why a file of rules is rejected, or why an input cannot be put in order. The file is
+/// read again.
+pub fn explain_order_of(rt: &HostRuntime, name: &str, input: &[u8]) {
+    if let Ok(rules) = fs::read(rt, name) {
+        print(
+            rt,
+            explain_order(rt.alloc(), rules.as_slice(), input, LIMITS),
         );
     }
 }

@@ -1,47 +1,20 @@
 //! Compares a session with its golden file, or makes or renews the golden file.
 ghost use Rattle.std.specs.Prelude.{◌≡◌};
 
-use crate::explaining::{explain_file, explain_rules_of, print};
+use crate::explaining::{explain_file, print};
 use crate::reports::{report_failure, report_reason, report_unopened, report_unwritten};
-use crate::{FAULT, LIMITS, REFUSED, USAGE, report_unread, report_usage};
+use crate::rules::rules_of;
+use crate::{FAULT, LIMITS, USAGE, report_usage};
 use dap_explanations::explain_golden;
-use dap_file::{FileAt, find_file, is_standard, open_input, shows_closed_input};
+use dap_file::{FileAt, find_file, is_standard, open_input};
 use dapnorm::{
-    Golden, GoldenRequest, GoldenStop, MaskRules, MemorySource, RulesRefused, StdSink, StdSource,
-    Stop, UsageFault, read_all, read_rules, report_rules, run_golden,
+    Golden, GoldenRequest, GoldenStop, MaskRules, MemorySource, StdSink, StdSource, Stop,
+    UsageFault, read_all, run_golden,
 };
 use std::fs;
 use std::hash::RandomState;
 use std::io::Error;
 use std::os::unix::fs::MetadataExt;
-
-/// What is reported of rules for the order, by which `golden` cannot compare yet.
-const SWAPS: &str = "dapnorm: rules: swap lines are not supported yet";
-
-/// Reads the rules of a file, and reports why it has none.
-fn rules_of(rt: &HostRuntime, name: &str, is_input_standard: bool) -> Result<MaskRules, u8> {
-    let file = match fs::open(rt, name) {
-        Ok(file) => file,
-        Err(error) => return Err(report_unopened(rt, "rules: ", Some(name), &error)),
-    };
-    if is_input_standard && shows_closed_input(&file) {
-        return Err(report_unread(rt));
-    }
-    match read_rules(rt.alloc(), &mut StdSource::new(file)) {
-        Ok(rules) if !rules.swaps().is_empty() => {
-            let _ = eprintln!(rt; "{SWAPS}");
-            Err(REFUSED)
-        }
-        Ok(rules) => Ok(rules),
-        Err(refused) => {
-            let status = report_rules(&mut StdSink::new(rt.stderr()), refused);
-            if let RulesRefused::Line(fault) = refused {
-                explain_rules_of(rt, name, fault);
-            }
-            Err(status)
-        }
-    }
-}
 
 /// Returns whether two names are of one file.
 fn are_same(rt: &HostRuntime, one: &str, other: &str) -> bool {
@@ -178,7 +151,7 @@ pub fn keep_golden(
     }
     let rules = match golden.rules {
         None => None,
-        Some(name) => match rules_of(rt, name, is_input_standard) {
+        Some(name) => match rules_of(rt, name, is_input_standard, true) {
             Ok(rules) => Some(rules),
             Err(status) => return status,
         },

@@ -1,17 +1,17 @@
 //! Does the jobs of the command line, over their files.
 ghost use Rattle.std.specs.Prelude.{◌≡◌, ◌<◌, ◌^◌, IfSome};
 
-use crate::comparing::{Printed, compare_files};
-use crate::explaining::{explain_mask_of, print};
+use crate::comparing::compare_files;
+use crate::explaining::{explain_mask_of, explain_order_of, print};
 use crate::reports::{report_failure, report_reason, report_unopened, report_unwritten};
-use crate::{LIMITS, REFUSED, Setting, report_unread, report_usage, tables};
+use crate::rules::open_rules;
+use crate::{LIMITS, REFUSED, Setting, report_usage, tables};
 use dap_explanations::{explain_job, explain_view};
-use dap_file::{KeptInput, Output, find_file, open_input, open_output, shows_closed_input};
+use dap_file::{KeptInput, Output, find_file, open_input, open_output};
 use dapnorm::{
-    Job, MemorySink, ShowRequest, Sink, StdSink, StdSource, TextSink, UsageFault, run_mask,
-    run_stream_with, run_view, save,
+    Job, MemorySink, Order, Printed, ShowRequest, Sink, StdSink, StdSource, TextSink, UsageFault,
+    run_mask, run_order, run_stream_with, run_view, save,
 };
-use std::fs;
 use std::hash::RandomState;
 use std::io::{self, Write};
 
@@ -72,10 +72,10 @@ fn save_text(rt: &HostRuntime, name: &str, text: &[u8], hasher: RandomState) -> 
 pub enum Task<'a> {
     Job(Job<'a>),
     Show(ShowRequest),
+    Order(Order<'a>),
 }
 
-/// Masks an input by the rules of a file. A file that gets the number of the standard input shows
-/// that this is closed: a read fault of the input.
+/// Masks an input by the rules of a file.
 fn mask_into<W: Sink, E: Sink>(
     rt: &HostRuntime,
     rules: &str,
@@ -87,19 +87,32 @@ fn mask_into<W: Sink, E: Sink>(
     requires write_failures { W.failures writer.old < 2 ^ 62 }
     requires error_failures { E.failures errors.old < 2 ^ 62 }
 {
-    let file = match fs::open(rt, rules) {
-        Ok(file) => file,
-        Err(error) => {
-            let name = if explain { Some(rules) } else { None };
-            return report_unopened(rt, "rules: ", name, &error);
-        }
+    let mut file = match open_rules(rt, rules, input.is_standard(), explain) {
+        Ok(file) => StdSource::new(file),
+        Err(status) => return status,
     };
-    if input.is_standard() && shows_closed_input(&file) {
-        return report_unread(rt);
-    }
-    let mut file = StdSource::new(file);
     let mut reader = StdSource::new(input);
     run_mask(rt.alloc(), &mut file, &mut reader, writer, errors, LIMITS)
+}
+
+/// Puts an input in order by the rules of a file.
+fn order_into<W: Sink, E: Sink>(
+    rt: &HostRuntime,
+    rules: &str,
+    input: &mut KeptInput,
+    writer: &mut W,
+    errors: &mut E,
+    explain: bool,
+) -> u8
+    requires write_failures { W.failures writer.old < 2 ^ 62 }
+    requires error_failures { E.failures errors.old < 2 ^ 62 }
+{
+    let mut file = match open_rules(rt, rules, input.is_standard(), explain) {
+        Ok(file) => StdSource::new(file),
+        Err(status) => return status,
+    };
+    let mut reader = StdSource::new(input);
+    run_order(rt.alloc(), &mut file, &mut reader, writer, errors, LIMITS)
 }
 
 /// Does a task over one input, with its output and its errors.
@@ -119,6 +132,9 @@ fn run_into<W: Sink, E: Sink>(
     match task {
         Task::Job(Job::Mask { rules }) => {
             mask_into(rt, rules, input, writer, errors, setting.explain)
+        }
+        Task::Order(order) => {
+            order_into(rt, order.rules, input, writer, errors, setting.explain)
         }
         Task::Job(job) => {
             let mut reader = StdSource::new(input);
@@ -188,6 +204,7 @@ fn run_to_output(
 fn explain_refusal(rt: &HostRuntime, task: Task<'_>, input: &[u8], hasher: RandomState) {
     match task {
         Task::Job(Job::Mask { rules }) => explain_mask_of(rt, rules, input),
+        Task::Order(order) => explain_order_of(rt, order.rules, input),
         Task::Job(job) => print(rt, explain_job(rt.alloc(), &job, input, LIMITS, hasher)),
         Task::Show(request) => print(rt, explain_view(rt.alloc(), request, input, LIMITS)),
     }

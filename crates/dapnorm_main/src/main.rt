@@ -11,11 +11,12 @@ mod explaining;
 mod golden;
 mod jobs;
 mod reports;
+mod rules;
 mod showing;
 
-use crate::comparing::{Printed, compare_files};
+use crate::comparing::run_comparison;
 use crate::golden::keep_golden;
-use crate::jobs::run_job;
+use crate::jobs::{Task, run_job, run_over_input};
 use crate::showing::show_recording;
 use dap_frame::FrameLimits;
 use dapnorm::{Action, IndexNames, Limits, StdSink, Tables, UsageFault, command, run_usage};
@@ -103,12 +104,12 @@ fn run_words(rt: &HostRuntime, alloc: Global, words: &[String]) -> u8 {
     };
     match command.action {
         Action::Job(job) => run_job(rt, job, command.input, command.output, setting),
-        Action::DiffAll(files) => compare_files(
+        Action::Compare(comparison) => run_comparison(rt, &comparison, setting),
+        Action::Order(order) => run_over_input(
             rt,
-            files.a,
-            files.b,
-            files.mode(),
-            Printed::AllDifferences,
+            Task::Order(order),
+            command.input,
+            command.output,
             setting,
         ),
         Action::Show(show) => show_recording(rt, show, command.input, command.output, setting),

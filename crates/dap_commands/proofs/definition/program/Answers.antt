@@ -1,7 +1,7 @@
 use Rattle.std.proofs.Common.{ap, codes, ◌∙◌}
 use Rattle.clap.specs.Words.{with_subcommand}
 use Rattle.dap_commands.specs.Commands.{checker, comparer, differ, golden_keeper, masker, normaliser}
-use Rattle.dap_commands.specs.Commands.{row_printer, stream, viewer}
+use Rattle.dap_commands.specs.Commands.{orderer, row_printer, stream, viewer}
 use Rattle.dap_commands.proofs.DefinitionLemmas.{with_last}
 use Rattle.dap_commands.proofs.definition.program.Goals as goal
 
@@ -24,7 +24,9 @@ returns c =
     ∙ ap (λ a. with_subcommand a viewer) diff in
     let mask = c.in_ok-mask.ensures masker c.mask_command.ensures
     ∙ ap (λ a. with_subcommand a masker) show in
+    let order = c.in_ok-order.ensures orderer c.order_command.ensures
+    ∙ ap (λ a. with_subcommand a orderer) mask in
     let compact = c.in_ok-compact.ensures (stream (codes "compact")) c.compact_command.ensures
-    ∙ ap (λ a. with_subcommand a (stream (codes "compact"))) mask in
-    with_last c.with_subcommand-10.result row_printer
-    (c.with_subcommand-10.ensures row_printer c.rows_command.ensures) compact
+    ∙ ap (λ a. with_subcommand a (stream (codes "compact"))) order in
+    with_last c.with_subcommand-11.result row_printer
+    (c.with_subcommand-11.ensures row_printer c.rows_command.ensures) compact

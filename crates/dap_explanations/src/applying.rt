@@ -1,0 +1,45 @@
+//! Explains why rules cannot be applied to a recording.
+ghost use Rattle.dap_input.specs.Limits.{AreSound};
+
+use dap_explain::{explain, explain_masked};
+use dap_input::{Limits, Refused};
+use dap_mask::MaskRules;
+use dap_rules_input::{ApplyRefused, mask_bytes};
+use std::alloc::{AllocError, Global};
+
+/// Explains why rules cannot be applied to a recording. The text is empty if a read failed, an
+/// allocation failed, or the text in order exceeds a limit.
+pub fn explain_applying(
+    alloc: Global,
+    recording: &[u8],
+    rules: &MaskRules,
+    refused: ApplyRefused,
+    limits: Limits,
+) -> Result<String, AllocError>
+    requires { AreSound limits }
+{
+    match refused {
+        ApplyRefused::Mask(why) => explain_masked(alloc, recording, rules, why, limits),
+        ApplyRefused::Order(why) => explain_session(alloc, recording, rules, why, limits),
+        ApplyRefused::ReadFault | ApplyRefused::Memory => Ok(String::new(alloc)),
+    }
+}
+
+/// Explains why the masked recording is rejected, which is made again.
+pub(crate) fn explain_session(
+    alloc: Global,
+    recording: &[u8],
+    rules: &MaskRules,
+    why: Refused,
+    limits: Limits,
+) -> Result<String, AllocError>
+    requires { AreSound limits }
+{
+    if let Refused::Grew(_) = why {
+        return Ok(String::new(alloc));
+    }
+    match mask_bytes(alloc, rules, recording, limits) {
+        Ok(masked) => explain(alloc, masked.as_slice(), why, limits),
+        Err(_) => Ok(String::new(alloc)),
+    }
+}

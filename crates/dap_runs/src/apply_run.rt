@@ -1,0 +1,61 @@
+//! Reports why rules cannot be applied to an input.
+ghost use Rattle.std.specs.Prelude.{◌≡◌, ◌<◌, ◌^◌};
+ghost use Rattle.dap_runs.specs.Reporting.{HasSent};
+ghost use Rattle.dap_runs.specs.ApplyRun.{after_rules_line, unapplied_line};
+ghost use Rattle.dap_runs.specs.ApplyRun.{unapplied_status};
+
+use crate::fault_line::{letter, refused_text, tell_of_input};
+use crate::parts::report_parts;
+use crate::status::{FAULT, MEMORY, refused_status};
+use dap_compare::{CompareRefused, Which};
+use dap_device::Sink;
+use dap_input::Refused;
+use dap_rules_input::ApplyRefused;
+
+/// Reports that one of two recordings is rejected after the rules.
+fn report_after_rules<E: Sink>(errors: &mut E, which: Which, refused: Refused)
+    requires { E.failures errors.old < 2 ^ 62 }
+    ensures { HasSent E.Sink errors.old errors.new (after_rules_line which refused) }
+{
+    let reason = refused_text(refused);
+    report_parts(
+        errors,
+        &[
+            b"dapnorm: ",
+            letter(which).as_bytes(),
+            b": after the rules: ",
+            reason.as_bytes(),
+            b"\n",
+        ],
+    );
+}
+
+/// Reports in one line why rules cannot be applied to one of two inputs, and returns the status of
+/// the program. A failure to write the line is not reported.
+///
+/// The status is 2 if the input is rejected, 4 if it could not be read, and 5 if an allocation
+/// failed.
+pub fn report_unapplied<E: Sink>(errors: &mut E, which: Which, refused: ApplyRefused) -> u8
+    requires { E.failures errors.old < 2 ^ 62 }
+    ensures line { HasSent E.Sink errors.old errors.new (unapplied_line which refused) }
+    ensures status { result ≡ unapplied_status refused }
+{
+    match refused {
+        ApplyRefused::Mask(refused) => {
+            tell_of_input(errors, CompareRefused::Input(which, refused));
+            refused_status(refused)
+        }
+        ApplyRefused::Order(refused) => {
+            report_after_rules(errors, which, refused);
+            refused_status(refused)
+        }
+        ApplyRefused::ReadFault => {
+            tell_of_input(errors, CompareRefused::Input(which, Refused::ReadFault));
+            FAULT
+        }
+        ApplyRefused::Memory => {
+            tell_of_input(errors, CompareRefused::Memory);
+            MEMORY
+        }
+    }
+}

@@ -1,0 +1,101 @@
+"""Runs `order`, and `compare`, `diff` and `golden` by rules, on small sessions: outputs, refusals, files and explanations."""
+import sys
+
+from golden import Folder, wrote
+from report import Report
+from worked_runs import BEGUN, DONE, FILLED, INITIALIZE, INITIALIZED, record, recording, refusal
+
+CONTINUE = '>{"arguments":{"threadId":1},"command":"continue","seq":2,"type":"request"}'
+CONTINUED = '<{"command":"continue","request_seq":2,"seq":%d,"success":true,"type":"response"}'
+STOPPED = '<{"body":{"reason":"%s"},"event":"stopped","seq":%d,"type":"event"}'
+SWAP = b"swap response continue event stopped\n"
+# The adapter answers and then stops, or it stops and then answers.
+ANSWERED_FIRST = [INITIALIZE, FILLED, CONTINUE, CONTINUED % 2, STOPPED % ("step", 3)]
+STOPPED_FIRST = [INITIALIZE, FILLED, CONTINUE, STOPPED % ("step", 2), CONTINUED % 3]
+# What `order` makes of the second.
+IN_ORDER = [INITIALIZE, FILLED, CONTINUE, CONTINUED % 3, STOPPED % ("step", 2)]
+PAIRS = b"client-seq 1 1\nclient-seq 2 2\nadapter-seq 1 1\nadapter-seq 2 3\nadapter-seq 3 2\n"
+# Without its `initialized` event the session breaks a rule of the protocol.
+CONFIGURED = recording([INITIALIZE, FILLED, INITIALIZED, DONE])
+EARLY = "after the rules: record 3: ConfiguredEarly"
+
+
+def order(report):
+    files = {"a": recording(ANSWERED_FIRST), "b": recording(STOPPED_FIRST), "rules": SWAP, "none": b"# no rule\n", "bad": b"swap response\n"}
+    with Folder(**files) as folder:
+        report.check("a recording that is in order", folder.run("order", "rules", "a") == (0, files["a"], b""))
+        report.check("a recording that is not", folder.run("order", "rules", "b") == (0, recording(IN_ORDER), b""))
+        report.check("from standard input", folder.run("order", "rules", given=files["b"]) == (0, recording(IN_ORDER), b""))
+        report.check("without a rule for the order", folder.run("order", "none", "b") == (0, files["b"], b""))
+        report.check("into a file", folder.run("order", "rules", "b", "-o", "c") == (0, b"", b"") and folder.read("c") == recording(IN_ORDER))
+        report.check("into its own file", folder.run("order", "rules", "c", "-o", "c") == (0, b"", b"") and folder.read("c") == recording(IN_ORDER))
+        answer = folder.run("order", "bad", "b", "-o", "d")
+        report.check("a rule that is rejected", answer == (2, b"", refusal("rules: line 1: BadRule")) and folder.read("d") is None, repr(answer))
+        answer = folder.run("order", "missing", "b")
+        report.check("rules that do not exist", answer == (4, b"", refusal("rules: read fault")), repr(answer))
+        answer = folder.run("order", "rules", given=files["b"] + b"x")
+        report.check("nothing is written before all is read", answer == (2, b"", refusal("record 6: BadMarker")), repr(answer))
+        answer = folder.run("order", "rules", given=recording([INITIALIZE, CONTINUE]))
+        report.check("a session that breaks a rule", answer == (2, b"", refusal("record 2: StillInitializing")), repr(answer))
+        answer = folder.run("order", "rules", given=b"")
+        report.check("an empty recording", answer == (0, b"", b""), repr(answer))
+
+
+def comparisons(report):
+    files = {"a": recording(ANSWERED_FIRST), "b": recording(STOPPED_FIRST), "rules": SWAP, "none": b""}
+    other = recording([INITIALIZE, FILLED, CONTINUE, STOPPED % ("pause", 2), CONTINUED % 3])
+    with Folder(**files, other=other) as folder:
+        report.check("they differ", folder.run("compare", "a", "b") == (1, b"differ 4\n", b""))
+        answer = folder.run("compare", "--rules", "rules", "a", "b")
+        report.check("by the rules they are the same", answer == (0, b"same\n" + PAIRS, b""), repr(answer))
+        report.check("without a rule they differ", folder.run("compare", "--rules", "none", "a", "b") == (1, b"differ 4\n", b""))
+        report.check("with one from standard input", folder.run("compare", "--rules", "rules", "a", "-", given=files["b"])[:2] == (0, b"same\n" + PAIRS))
+        for words in (["diff"], ["diff", "--all"]):
+            report.check(f"{words} by the rules", folder.run(*words, "--rules", "rules", "a", "b") == (0, b"same\n", b""))
+        answer = folder.run("diff", "--rules", "rules", "a", "other")
+        lines = b'differ 5\n< event "stopped"\nA body.reason "step"\nB body.reason "pause"\n'
+        report.check("what differs after the rules", answer == (1, lines, b""), repr(answer))
+        answer = folder.run("diff", "--all", "--rules", "rules", "a", "other")
+        lines = b'differ: 1 paired, 0 only in A, 0 only in B\n5/5 < event "stopped"\nA body.reason "step"\nB body.reason "pause"\n'
+        report.check("all that differs after the rules", answer == (1, lines, b""), repr(answer))
+        report.check("golden by the rules", folder.run("golden", "--rules", "rules", "--update", "g", "a") == wrote(ANSWERED_FIRST))
+        report.check("the other session is held to it", folder.run("golden", "--rules", "rules", "g", "b") == (0, b"same\n", b""))
+        report.check("without the rules it differs", folder.run("golden", "g", "b")[:2][0] == 1)
+        report.check("another session is not held to it", folder.run("golden", "--rules", "rules", "g", "other")[0] == 1)
+
+
+def refusals(report):
+    files = {"a": recording(ANSWERED_FIRST), "early": CONFIGURED, "bytes": recording(BEGUN) + b"x", "json": recording(BEGUN) + record("<{")}
+    rules = {"drop": b"drop event initialized\n", "both": b"drop event initialized\n" + SWAP, "bad": b"swap\n"}
+    with Folder(**files, **rules) as folder:
+        for name in ("drop", "both"):
+            for a, b, told in (("early", "a", "A"), ("a", "early", "B")):
+                answer = folder.run("compare", "--rules", name, a, b)
+                report.check(f"{told} is refused after the rules {name}", answer == (2, b"", refusal(f"{told}: {EARLY}")), repr(answer))
+        for name, told in (("bytes", "record 3: BadMarker"), ("json", "record 3: Json")):
+            for a, b, which in ((name, "a", "A"), ("a", name, "B")):
+                for words in (["compare"], ["diff"], ["diff", "--all"]):
+                    answer = folder.run(*words, "--rules", "both", a, b)
+                    report.check(f"{words} of {name} as {which}", answer == (2, b"", refusal(f"{which}: {told}")), repr(answer))
+        answer = folder.run("compare", "--rules", "bad", "a", "a")
+        report.check("rules that are rejected", answer == (2, b"", refusal("rules: line 1: BadRule")), repr(answer))
+        answer = folder.run("compare", "--rules", "missing", "a", "a")
+        report.check("rules that do not exist", answer == (4, b"", refusal("rules: read fault")), repr(answer))
+        answer = folder.run("compare", "--rules", "drop", "missing", "a")
+        report.check("a file that does not exist", answer == (4, b"", refusal("A: read fault")), repr(answer))
+        answer = folder.run("compare", "--rules", "drop", "-", "-")
+        report.check("standard input twice", answer == (3, b"", b"error: only one of A and B can be standard input\n"), repr(answer))
+        answer = folder.run("golden", "--rules", "both", "--update", "g", "early")
+        report.check("golden after the rules", answer == (2, b"", refusal(f"golden: {EARLY}")) and folder.read("g") is None, repr(answer))
+
+
+def main():
+    report = Report()
+    order(report)
+    comparisons(report)
+    refusals(report)
+    return report.close()
+
+
+if __name__ == "__main__":
+    sys.exit(main())
