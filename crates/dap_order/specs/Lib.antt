@@ -10,3 +10,4 @@ pub mod Alike
 pub mod AlikeAnswers
 pub mod ByPlace
 pub mod Laws
+pub mod Plan

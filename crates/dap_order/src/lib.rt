@@ -6,5 +6,7 @@
 
 pub mod laws;
 mod order;
+mod plan;
 
 pub use order::{SwapOrder, put_in_order};
+pub use plan::{Plan, order_of_places};
