@@ -20,3 +20,6 @@ pub mod FirstPlace
 pub mod RankPlaces
 pub mod ReadyRanks
 pub mod Standing
+pub mod FollowerLists
+pub mod Pending
+pub mod PlanOrder

@@ -1,15 +1,16 @@
 -- The places of a well-formed plan and their ranks.
-use Rattle.std.proofs.Common.{◌≡◌, ℕ, ◌<◌, false, length, get_or, refl, inl, inr, arith}
+use Rattle.std.proofs.Common.{◌≡◌, ℕ, ◌+◌, ◌<◌, false, List, length, set, get_or, refl, inl, inr, arith}
 use Rattle.std.proofs.Common.{sym, ap, ◌∙◌, subst, eqb}
 use Rattle.std.specs.List.{All, Contains, IsDistinct, range_with_len}
-use Rattle.std.proofs.lemmas.Bool.{cases_order, eq-eqb, ne_eqb, eqb-false, both_ways}
-use Rattle.std.proofs.lemmas.List.{get_or_default}
+use Rattle.std.proofs.lemmas.Bool.{cases_order, cases_eq, eq-eqb, ne_eqb, eqb-false, both_ways}
+use Rattle.std.proofs.lemmas.List.{get_or_default, get_or-set_same, get_or-set_other}
 use Rattle.std.proofs.lemmas.List.Sorted.{All-permutation, Contains-permutation}
 use Rattle.std.proofs.lemmas.List.Sorted.{length_permutation}
 use Rattle.std.proofs.lemmas.List.FromFn.{length-range_with_len, get_or-range_with_len}
 use Rattle.std.proofs.lemmas.Map.Keys.{IsDistinct-from_apart, IsDistinct-IsPermutation}
 use Rattle.std.proofs.lemmas.Map.Keys.{apart_from_distinct}
 use Rattle.dap_order.specs.Plan.{IsWellFormed, place_count, place_at_rank}
+use Rattle.dap_order.specs.Links.{AreRanks}
 use Rattle.dap_order.specs.declared.plan.Plan.{Plan}
 
 module _ (plan : Plan) (well : IsWellFormed plan) where
@@ -88,3 +89,35 @@ module _ (plan : Plan) (well : IsWellFormed plan) where
         low = omega (arith, found.1, by_key_len);
         is = get_or_default plan.by_key.items found.0 0 place found.1 ∙ found.2;
       }
+
+  -- One more place is given its rank.
+  pub rank_found : (ranks : List ℕ) (rank place : ℕ) → rank < place_count plan
+      → place_at_rank plan rank ≡ place → length ranks ≡ place_count plan
+      → ((r : ℕ) → r < rank → get_or ranks (place_at_rank plan r) 0 ≡ r)
+      → (r : ℕ) → r < rank + 1 → get_or (set ranks place rank) (place_at_rank plan r) 0 ≡ r
+  rank_found ranks rank place low is len found r h = elim (cases_eq r rank) [
+    | inl same ↦ subst (λ k. get_or (set ranks place rank) (place_at_rank plan k) 0 ≡ k) (sym same)
+        (subst (λ p. get_or (set ranks place rank) p 0 ≡ rank) (sym is)
+        (get_or-set_same ranks place rank 0 (omega (arith, place_max rank low, is))))
+    | inr apart ↦ (let below : r < rank = omega arith in
+      get_or-set_other ranks place (place_at_rank plan r) rank 0
+      (λ e. apart (one_rank r rank (omega arith) low (e ∙ sym is))) ∙ found r below)
+  ]
+
+  -- Ranks that are found for all places are the ranks.
+  pub ranks_found : (ranks : List ℕ) → length ranks ≡ place_count plan
+      → ((r : ℕ) → r < place_count plan → get_or ranks (place_at_rank plan r) 0 ≡ r)
+      → AreRanks plan ranks
+  ranks_found ranks len found = record {
+    len = len;
+    in_range = λ place low.
+        let known = rank_of place low in
+        let e : get_or ranks place 0 ≡ known.rank =
+        subst (λ p. get_or ranks p 0 ≡ known.rank) known.is (found known.rank known.low) in
+        omega (arith, e, known.low);
+    at_rank = λ place low.
+        let known = rank_of place low in
+        let e : get_or ranks place 0 ≡ known.rank =
+        subst (λ p. get_or ranks p 0 ≡ known.rank) known.is (found known.rank known.low) in
+        ap (place_at_rank plan) e ∙ known.is;
+  }

@@ -5,7 +5,7 @@ ghost use Rattle.dap_order.specs.Plan.{IsWellFormed, place_count};
 ghost use Rattle.dap_order.specs.Links.{AreRanks, FollowBelow, AddsFollower, AreLinks, lists_of};
 ghost use Rattle.dap_order.specs.Links.{entries_at};
 
-use crate::plan::Plan;
+use crate::plan::{Plan, followed_by};
 use std::alloc::{AllocError, Global};
 
 /// The rank of each place, and the places that follow each place.
@@ -61,9 +61,9 @@ fn followers_of(alloc: Global, plan: &Plan) -> Result<Vec<Vec<usize>>, AllocErro
     requires { IsWellFormed plan.now }
     ensures followers { IfOk result (λ lists. FollowBelow plan.now (lists_of lists) (place_count plan.now)) }
 {
-    let mut followers = empty_lists(alloc, plan.after.len())?;
-    for place in 0..plan.after.len() {
-        add_follower(&mut followers, &plan.after[place], place)?;
+    let mut followers = empty_lists(alloc, plan.groups.len())?;
+    for place in 0..plan.groups.len() {
+        add_follower(&mut followers, followed_by(plan, place), place)?;
     }
     Ok(followers)
 }
