@@ -1,8 +1,8 @@
 -- The places that are not written, in ascending order.
 use Rattle.std.proofs.Common.{◌≡◌, ℕ, zero, suc, ◌+◌, ◌<◌, Bool, true, false, List, [], ◌∷◌, ◌++◌}
-use Rattle.std.proofs.Common.{length, set, replicate, refl, inl, inr, arith, sym, ap, ◌∙◌, subst}
+use Rattle.std.proofs.Common.{length, set, replicate, refl, arith, sym, ap, subst}
 use Rattle.std.specs.List.{range_with_len}
-use Rattle.std.proofs.lemmas.Bool.{and_parts, and_from, false≢true, true≢false}
+use Rattle.std.proofs.lemmas.Bool.{and_parts, and_from, true≢false}
 use Rattle.std.proofs.lemmas.List.{length-append}
 use Rattle.dap_order.specs.Swaps.{Swaps}
 use Rattle.dap_order.specs.Order.{all_free}
@@ -31,10 +31,30 @@ module _ (s : Swaps ℕ) where
     pub after : pending_from at (set w i true) ≡ front ++ back
     pub are_free : all_free s place front ≡ true
 
+  after_written : (w : List Bool) (at i place : ℕ) → Between (at + 1) w i place
+      → Between at (true ∷ w) (suc i) place
+  after_written w at i place rest = record {
+    front = rest.front;
+    back = rest.back;
+    was = rest.was;
+    after = rest.after;
+    are_free = rest.are_free;
+  }
+
+  after_pending : (w : List Bool) (at i place : ℕ) → s.free place at ≡ true
+      → Between (at + 1) w i place → Between at (false ∷ w) (suc i) place
+  after_pending w at i place here rest = record {
+    front = at ∷ rest.front;
+    back = rest.back;
+    was = ap (λ xs. at ∷ xs) rest.was;
+    after = ap (λ xs. at ∷ xs) rest.after;
+    are_free = and_from (s.free place at) (all_free s place rest.front) here rest.are_free;
+  }
+
   pub between : (w : List Bool) (at i place : ℕ) → place ≡ at + i → i < length w
       → is_written w i ≡ false
       → ((k other : ℕ) → other ≡ at + k → k < i → is_written w k ≡ false
-          → s.free place other ≡ true)
+      → s.free place other ≡ true)
       → Between at w i place
   between [] at i place e low unwritten free = absurd (omega arith)
   between (true ∷ w) at zero place e low unwritten free = absurd (true≢false unwritten)
@@ -43,33 +63,18 @@ module _ (s : Swaps ℕ) where
       record {
         front = [];
         back = pending_from (at + 1) w;
-        was = ap (λ x. x ∷ pending_from (at + 1) w) same;
+        was = subst (λ x. at ∷ pending_from (at + 1) w ≡ x ∷ pending_from (at + 1) w) same refl;
         after = refl;
         are_free = refl;
       }
   between (true ∷ w) at (suc i) place e low unwritten free =
-      let rest =
-      between w (at + 1) i place (omega arith) (omega arith) unwritten
-      (λ k other f h u. free (suc k) other (omega arith) (omega arith) u) in
-      record {
-        front = rest.front;
-        back = rest.back;
-        was = rest.was;
-        after = rest.after;
-        are_free = rest.are_free;
-      }
+      after_written w at i place
+      (between w (at + 1) i place (omega arith) (omega arith) unwritten
+      (λ k other f h u. free (suc k) other (omega arith) (omega arith) u))
   between (false ∷ w) at (suc i) place e low unwritten free =
-      let rest =
-      between w (at + 1) i place (omega arith) (omega arith) unwritten
-      (λ k other f h u. free (suc k) other (omega arith) (omega arith) u) in
-      record {
-        front = at ∷ rest.front;
-        back = rest.back;
-        was = ap (λ xs. at ∷ xs) rest.was;
-        after = ap (λ xs. at ∷ xs) rest.after;
-        are_free = and_from (s.free place at) (all_free s place rest.front)
-            (free 0 at (omega arith) (omega arith) refl) rest.are_free;
-      }
+      after_pending w at i place (free 0 at (omega arith) (omega arith) refl)
+      (between w (at + 1) i place (omega arith) (omega arith) unwritten
+      (λ k other f h u. free (suc k) other (omega arith) (omega arith) u))
 
   -- A place is not written, and is free with all places before it that are not written.
   pub record IsNext (at : ℕ) (w : List Bool) (place : ℕ) : Type 0 where
@@ -136,5 +141,10 @@ pending_fewer w place low unwritten =
     let cut =
     between (record { free = λ x y. true; less = λ x y. false }) w 0 place place (omega arith) low
     unwritten (λ k other e h u. refl) in
-    omega (arith, ap length cut.was, ap length cut.after,
-    length-append cut.front (place ∷ cut.back), length-append cut.front cut.back)
+    omega (
+      arith,
+      ap length cut.was,
+      ap length cut.after,
+      length-append cut.front (place ∷ cut.back),
+      length-append cut.front cut.back,
+    )

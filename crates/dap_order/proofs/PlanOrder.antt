@@ -1,9 +1,9 @@
 -- Places that are written by a plan, the ready one with the least key first, are in order.
-use Rattle.std.proofs.Common.{◌≡◌, ◌≢◌, ℕ, ◌+◌, ◌<◌, ◌≤◌, Bool, true, false, List, [], ◌∷◌, ◌++◌}
+use Rattle.std.proofs.Common.{◌≡◌, ◌≢◌, ℕ, ◌<◌, ◌≤◌, Bool, true, false, List, [], ◌∷◌, ◌++◌}
 use Rattle.std.proofs.Common.{length, get_or, set, replicate, refl, inl, inr, arith, eqb}
 use Rattle.std.proofs.Common.{sym, ap, ◌∙◌, subst}
-use Rattle.std.specs.List.{All, Contains, range_with_len, list_any}
-use Rattle.std.proofs.lemmas.Bool.{cases_Bool, cases_eq, cases_lt, both_ways, eqb-true, eq-eqb}
+use Rattle.std.specs.List.{Contains, range_with_len, list_any}
+use Rattle.std.proofs.lemmas.Bool.{cases_Bool, cases_eq, cases_lt, both_ways, eqb-true}
 use Rattle.std.proofs.lemmas.Bool.{true_from_ne_false, false_from_ne_true}
 use Rattle.std.proofs.lemmas.Cmp.{nat_eq_equiv}
 use Rattle.std.proofs.lemmas.List.{get_or-set_same, get_or-set_other, append_assoc, append-nil}
@@ -12,12 +12,12 @@ use Rattle.std.proofs.lemmas.List.Elements.{Contains-get_or, All-contains}
 use Rattle.std.proofs.lemmas.Map.Views.{Contains-from_any, list_any-from_Contains}
 use Rattle.dap_order.specs.Swaps.{Swaps, AreSwaps}
 use Rattle.dap_order.specs.Order.{order}
-use Rattle.dap_order.specs.Least.{IsReady, IsLeast}
+use Rattle.dap_order.specs.Least.{IsLeast}
 use Rattle.dap_order.specs.Plan.{IsWellFormed, IsPlan, place_count, group_of, followed_by}
-use Rattle.dap_order.specs.Plan.{place_at_rank, is_blocked_by_group}
+use Rattle.dap_order.specs.Plan.{place_at_rank}
 use Rattle.dap_order.specs.Links.{AreLinks, entries_at, lists_of}
 use Rattle.dap_order.specs.Progress.{is_written, HasRank, IsReadyPlace, IsReleased, IsListed}
-use Rattle.dap_order.specs.Progress.{Wrote, NothingReady, ConsideredFollowers}
+use Rattle.dap_order.specs.Progress.{HasNoRank, Wrote, ConsideredFollowers}
 use Rattle.dap_order.specs.declared.plan.Plan.{Plan}
 use Rattle.dap_order.specs.declared.links.Links.{Links}
 use Rattle.dap_order.specs.declared.progress.Progress.{Progress}
@@ -76,8 +76,12 @@ module _ (plan : Plan) where
             (ap (λ w. is_written w other) wrote.written
             ∙ subst (λ k. get_or (set old.written.items place true) k false ≡ true) (sym same)
             (get_or-set_same old.written.items place true false
-            (omega (arith, wrote.stands.written_len, ap length wrote.written,
-            length-set old.written.items place true)))))
+            (omega (
+              arith,
+              wrote.stands.written_len,
+              ap length wrote.written,
+              length-set old.written.items place true,
+            )))))
         | inr differs ↦ wrote.kept (get_or links.ranks.items other 0)
             (λ e. differs (sym (are.ranks.at_rank other low) ∙ ap (place_at_rank plan) e
             ∙ wrote.has_rank))
@@ -134,16 +138,16 @@ module _ (plan : Plan) where
         written bound = elim (is.complete k place h ready.in_range bound) [
           | inl blocked ↦ ready.unblocked k h blocked
           | inr waits ↦ (let done : is_written w waits.0 ≡ true =
-            All-contains (λ a. is_written w a ≡ true) (followed_by plan place) waits.0 ready.followed
-            waits.1 in
-            let low : waits.0 < place =
-            All-contains (λ a. a < place) (followed_by plan place) waits.0
-            (well.earlier place ready.in_range) waits.1 in
-            elim waits.2 [
-              | inl same ↦ subst (λ j. is_written w j ≡ true) (sym same) done
-              | inr chain ↦ closed k waits.0 chain.0 (omega (arith, low, ready.in_range)) done
-                  chain.1
-            ])
+              All-contains (λ a. is_written w a ≡ true) (followed_by plan place) waits.0 ready.followed
+              waits.1 in
+              let low : waits.0 < place =
+              All-contains (λ a. a < place) (followed_by plan place) waits.0
+              (well.earlier place ready.in_range) waits.1 in
+              elim waits.2 [
+                | inl same ↦ subst (λ j. is_written w j ≡ true) (sym same) done
+                | inr chain ↦ closed k waits.0 chain.0 (omega (arith, low, ready.in_range)) done
+                    chain.1
+              ])
         ]
 
     closed_after : (w : List Bool) (place : ℕ) → IsClosed s w → IsReadyPlace plan w place
@@ -178,10 +182,12 @@ module _ (plan : Plan) where
         let ready =
         ready_from_free p.written.items place low
         (subst (λ k. is_written p.written.items k ≡ false) same next.unwritten)
-        (λ k h u. next.free k k (omega arith) (omega arith) u) in
-        (low, listed place low ready.not_written
-        (reached p place ready
-        (released (group_of plan place) (well.groups_in_range place 0 low))) ready.followed)
+        (λ k h u. next.free k k (omega arith) (omega arith) u) in (
+          low,
+          listed place low ready.not_written
+              (reached p place ready
+              (released (group_of plan place) (well.groups_in_range place 0 low))) ready.followed,
+        )
 
     pub goes_more : (links : Links) → AreLinks plan links → (old new : Progress) (places : List ℕ)
         (place : ℕ) → Goes s places old.written.items
@@ -234,13 +240,13 @@ module _ (plan : Plan) where
             (wrote.least (get_or links.ranks.items y 0) has.1) less
 
     -- If no place is ready, all places were output.
-    pub goes_all : (links : Links) (old new : Progress) (places : List ℕ)
+    pub goes_all : (links : Links) (old : Progress) (places : List ℕ)
         → Goes s places old.written.items → length old.written.items ≡ place_count plan
         → ((group : ℕ) → group < length plan.blocks.items → IsReleased plan old group)
         → ((other : ℕ) → other < place_count plan → IsListed plan links old other)
-        → NothingReady plan old new
+        → HasNoRank old.ready
         → places ≡ order s (range_with_len 0 (place_count plan))
-    goes_all links old new places goes len released listed nothing =
+    goes_all links old places goes len released listed none =
         at (pending old.written.items) refl
       where
         at : (xs : List ℕ) → pending old.written.items ≡ xs
@@ -250,4 +256,4 @@ module _ (plan : Plan) where
         at (x ∷ xs) e =
             let next = next_from_pending s old.written.items 0 x [] xs e refl in
             let has = has_rank links old len released listed x next in
-            absurd (nothing.none (get_or links.ranks.items x 0) has.1)
+            absurd (none (get_or links.ranks.items x 0) has.1)

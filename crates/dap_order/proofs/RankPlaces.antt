@@ -1,8 +1,8 @@
 -- The places of a well-formed plan and their ranks.
-use Rattle.std.proofs.Common.{◌≡◌, ℕ, ◌+◌, ◌<◌, false, List, length, set, get_or, refl, inl, inr, arith}
+use Rattle.std.proofs.Common.{◌≡◌, ℕ, ◌+◌, ◌<◌, false, List, length, set, get_or, inl, inr, arith}
 use Rattle.std.proofs.Common.{sym, ap, ◌∙◌, subst, eqb}
-use Rattle.std.specs.List.{All, Contains, IsDistinct, range_with_len}
-use Rattle.std.proofs.lemmas.Bool.{cases_order, cases_eq, eq-eqb, ne_eqb, eqb-false, both_ways}
+use Rattle.std.specs.List.{All, Contains, range_with_len}
+use Rattle.std.proofs.lemmas.Bool.{cases_order, cases_eq, eq-eqb, ne_eqb, both_ways}
 use Rattle.std.proofs.lemmas.List.{get_or_default, get_or-set_same, get_or-set_other}
 use Rattle.std.proofs.lemmas.List.Sorted.{All-permutation, Contains-permutation}
 use Rattle.std.proofs.lemmas.List.Sorted.{length_permutation}
@@ -78,9 +78,11 @@ module _ (plan : Plan) (well : IsWellFormed plan) where
   -- Each place has a rank.
   pub rank_of : (place : ℕ) → place < place_count plan → HasRankOf place
   rank_of place low =
-      let there : Contains (range_with_len 0 (place_count plan)) place =
-      (place, omega (arith, length-range_with_len 0 (place_count plan)),
-      omega (arith, get_or-range_with_len 0 (place_count plan) place place low)) in
+      let there : Contains (range_with_len 0 (place_count plan)) place = (
+        place,
+        omega (arith, length-range_with_len 0 (place_count plan)),
+        omega (arith, get_or-range_with_len 0 (place_count plan) place place low),
+      ) in
       let found =
       Contains-permutation (range_with_len 0 (place_count plan)) plan.by_key.items place well.ranks
       there in
@@ -100,8 +102,8 @@ module _ (plan : Plan) (well : IsWellFormed plan) where
         (subst (λ p. get_or (set ranks place rank) p 0 ≡ rank) (sym is)
         (get_or-set_same ranks place rank 0 (omega (arith, place_max rank low, is))))
     | inr apart ↦ (let below : r < rank = omega arith in
-      get_or-set_other ranks place (place_at_rank plan r) rank 0
-      (λ e. apart (one_rank r rank (omega arith) low (e ∙ sym is))) ∙ found r below)
+        get_or-set_other ranks place (place_at_rank plan r) rank 0
+        (λ e. apart (one_rank r rank (omega arith) low (e ∙ sym is))) ∙ found r below)
   ]
 
   -- Ranks that are found for all places are the ranks.

@@ -1,22 +1,21 @@
--- The set of the ranks of ready places after a change, and the list of what is written.
-use Rattle.std.proofs.Common.{◌≡◌, ◌≢◌, ℕ, ◌<◌, ◌≤◌, Bool, true, false, cond, List, length, get_or}
-use Rattle.std.proofs.Common.{set, refl, inl, inr, arith, sym, ap, ◌∙◌, subst}
-use Rattle.std.specs.BTreeSet.{BTreeSet, contains, Updates, IsLowerBound}
+-- The set of ranks after one is removed, and what is written after a place is.
+use Rattle.std.proofs.Common.{◌≡◌, ◌≢◌, ℕ, Bool, true, false, List, length, get_or}
+use Rattle.std.proofs.Common.{set, refl, inl, inr, sym, ap, ◌∙◌, subst}
+use Rattle.std.specs.BTreeSet.{BTreeSet, contains, Updates}
 use Rattle.std.specs.BTreeMap.{is_at}
 use Rattle.std.specs.Ordering.{nat_cmp, is_eq}
 use Rattle.std.specs.declared.cmp.Ordering.{Ordering}
 use Rattle.std.specs.declared.cmp.Ordering.TheVariants.{Less, Equal, Greater}
 use Rattle.std.specs.Cmp.{nat_cmp_total}
 use Rattle.std.proofs.lemmas.Bool.{cases_Bool, cases_eq, cases_lt, both_ways, cond-true, cond-false}
-use Rattle.std.proofs.lemmas.Bool.{false_from_ne_true}
 use Rattle.std.proofs.lemmas.Cmp.{ranked, tied_itself}
-use Rattle.std.proofs.lemmas.List.{get_or-set_same, get_or-set_other, get_or_past, set_past}
+use Rattle.std.proofs.lemmas.List.{get_or-set_same, get_or-set_other, set_past}
 use Rattle.dap_order.specs.Progress.{HasRank, is_written}
 
-pub at_itself : (k : ℕ) → is_at (nat_cmp k) k ≡ true
+at_itself : (k : ℕ) → is_at (nat_cmp k) k ≡ true
 at_itself k = ap is_eq (tied_itself nat_cmp_total k)
 
-pub at_another : (k q : ℕ) → q ≢ k → is_at (nat_cmp k) q ≡ false
+at_another : (k q : ℕ) → q ≢ k → is_at (nat_cmp k) q ≡ false
 at_another k q apart = by (nat_cmp k q) refl
   where
     by : (o : Ordering) → o ≡ nat_cmp k q → is_eq o ≡ false
@@ -25,21 +24,6 @@ at_another k q apart = by (nat_cmp k q) refl
     by Greater e = refl
 
 module _ (old new : BTreeSet ℕ) (k : ℕ) where
-  pub inserted_here : Updates nat_cmp old new k true → HasRank new k
-  inserted_here u = u.0 k ∙ cond-true (is_at (nat_cmp k) k) true (contains nat_cmp old k) (at_itself k)
-
-  pub inserted_kept : Updates nat_cmp old new k true → (q : ℕ) → HasRank old q → HasRank new q
-  inserted_kept u q h = u.0 q ∙ (elim (cases_Bool (is_at (nat_cmp k) q)) [
-    | inl here ↦ cond-true (is_at (nat_cmp k) q) true (contains nat_cmp old q) here
-    | inr other ↦ cond-false (is_at (nat_cmp k) q) true (contains nat_cmp old q) other ∙ h
-  ])
-
-  pub inserted_others : Updates nat_cmp old new k true → (q : ℕ) → q ≢ k → HasRank new q
-      → HasRank old q
-  inserted_others u q apart h =
-      sym (u.0 q ∙ cond-false (is_at (nat_cmp k) q) true (contains nat_cmp old q)
-      (at_another k q apart)) ∙ h
-
   pub removed_others : Updates nat_cmp old new k false → (q : ℕ) → HasRank new q → HasRank old q
   removed_others u q h = elim (cases_Bool (is_at (nat_cmp k) q)) [
     | inl here ↦ absurd (both_ways (contains nat_cmp new q)

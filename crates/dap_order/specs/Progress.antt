@@ -4,7 +4,7 @@ use Rattle.std.specs.Prelude.{slice_index, nat_lt, ◌-◌, ◌&&◌, not, repli
 use Rattle.std.specs.List.{All, AllWithin, slice_index_or, slice_set}
 use Rattle.std.specs.Ordering.{nat_cmp}
 use Rattle.std.specs.BTreeSet.{BTreeSet, contains}
-use Rattle.dap_order.specs.Plan.{place_count, group_of, block_rows, is_blocked_by_group}
+use Rattle.dap_order.specs.Plan.{place_count, group_of, block_rows}
 use Rattle.dap_order.specs.Plan.{followed_by, place_at_rank}
 use Rattle.dap_order.specs.Links.{entries_at, lists_of}
 use Rattle.dap_order.specs.declared.plan.Plan.{Plan}
@@ -18,6 +18,10 @@ is_written written place = slice_index_or written place false
 -- The set has the rank.
 abbrev pub HasRank : BTreeSet ℕ → ℕ → Type 0
 HasRank ready rank = contains nat_cmp ready rank ≡ true
+
+-- The set has no rank.
+abbrev pub HasNoRank : BTreeSet ℕ → Type 0
+HasNoRank ready = (rank : ℕ) → HasRank ready rank → ⊥
 
 module _ (plan : Plan) where
   -- The group of the place blocks this group.
@@ -125,11 +129,6 @@ module _ (plan : Plan) where
     pub written : new.written.items ≡ slice_set old.written.items place true
     pub released : new.released.items ≡ old.released.items
     pub kept : (other : ℕ) → other ≢ rank → HasRank old.ready other → HasRank new.ready other
-
-  -- No place was ready, and nothing changed.
-  pub record NothingReady (old new : Progress) : Type 0 where
-    pub none : (rank : ℕ) → HasRank old.ready rank → ⊥
-    pub written : new.written.items ≡ old.written.items
 
   -- No place is written or released.
   pub record StartsAt (p : Progress) : Type 0 where

@@ -6,7 +6,7 @@ ghost use Rattle.dap_order.specs.Plan.{IsWellFormed, place_count, followed_by};
 ghost use Rattle.dap_order.specs.Links.{AreLinks};
 ghost use Rattle.dap_order.specs.Progress.{is_written, Stands, IsListed, HasRank, is_held};
 ghost use Rattle.dap_order.specs.Progress.{Considered, Released, ReleasedPlace, ReleasedBelow, ConsideredFollowers};
-ghost use Rattle.dap_order.specs.Progress.{Wrote, StartsAt, NothingReady};
+ghost use Rattle.dap_order.specs.Progress.{Wrote, StartsAt, HasNoRank};
 
 use crate::links::{Links, followers_at};
 use crate::plan::{Plan, blocks, followed_by};
@@ -154,7 +154,7 @@ impl Progress {
     pub(crate) fn write_next(&mut self, plan: &Plan) -> Option<usize>
         requires well_formed { IsWellFormed plan.now }
         requires stands { Stands plan.now self.old }
-        ensures { MatchOption result (NothingReady plan.now self.old self.new)
+        ensures { MatchOption result (HasNoRank self.old.ready)
             (Wrote plan.now self.old self.new) }
     {
         let rank = self.ready.pop_first()?;

@@ -1,4 +1,4 @@
-use Rattle.std.proofs.Common.{◌≡◌, ℕ, ◌<◌, length}
+use Rattle.std.proofs.Common.{ℕ, ◌<◌, length}
 use Rattle.dap_order.specs.Swaps.{Swaps, AreSwaps}
 use Rattle.dap_order.specs.Plan.{IsPlan, place_count}
 use Rattle.dap_order.specs.Progress.{Stands, IsReleased, IsListed}

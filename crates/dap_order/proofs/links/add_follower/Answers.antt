@@ -1,8 +1,8 @@
-use Rattle.std.proofs.Common.{◌≡◌, ◌<◌, ◌+◌, ℕ, [], ◌∷◌, ◌++◌, length, get_or, set, map}
+use Rattle.std.proofs.Common.{◌≡◌, ◌<◌, [], ◌∷◌, ◌++◌, length, get_or, set}
 use Rattle.std.proofs.Common.{inl, inr, sym, ap, arith, ◌∙◌, subst}
 use Rattle.std.specs.List.{Contains}
 use Rattle.std.specs.Vec.{with_item}
-use Rattle.std.proofs.lemmas.List.{get_or-map, get_or_read, get_or_default, map-set, length-map}
+use Rattle.std.proofs.lemmas.List.{get_or-map, get_or_default, map-set, length-map}
 use Rattle.std.proofs.lemmas.List.Elements.{AllWithin-more}
 use Rattle.dap_order.specs.Links.{lists_of, entries_at}
 use Rattle.dap_order.proofs.FollowerLists.{pushed_len, pushed_kept, pushed_only, pushed_added}

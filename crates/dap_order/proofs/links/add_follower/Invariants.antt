@@ -1,4 +1,4 @@
-use Rattle.std.proofs.Common.{◌≡◌, ℕ, ◌<◌, length, get_or, ◌⊎◌}
+use Rattle.std.proofs.Common.{◌≡◌, ℕ, length, ◌⊎◌}
 use Rattle.std.specs.List.{Contains, AllWithin}
 use Rattle.dap_order.specs.Links.{lists_of, entries_at}
 use Rattle.dap_order.proofs.links.add_follower.Given as goal

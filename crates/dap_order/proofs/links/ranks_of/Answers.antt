@@ -6,8 +6,14 @@ use Rattle.dap_order.proofs.links.ranks_of.Goals as goal
 
 pub loop-rank-init : goal.loop-rank-init
 loop-rank-init c = record {
-  len = omega (arith, c.in_ok-ranks.ensures.len, c.in_ok-ranks.ranks.ok, c.len.ensures,
-      by_key_len c.args.plan.now c.requires, c.args.plan.now.by_key.ok);
+  len = omega (
+    arith,
+    c.in_ok-ranks.ensures.len,
+    c.in_ok-ranks.ranks.ok,
+    c.len.ensures,
+    by_key_len c.args.plan.now c.requires,
+    c.args.plan.now.by_key.ok,
+  );
   found = λ rank h. absurd (omega arith);
 }
 
@@ -18,9 +24,14 @@ index_mut-requires c =
     let is =
     get_or_read plan.by_key.items rank c.index.result.now
     (omega (arith, plan.by_key.ok)) c.index.ensures 0 in
-    omega (arith, is, place_max plan c.requires rank
-    (omega (arith, plan.by_key.ok, by_key_len plan c.requires)), c.loop-rank.invariant.len,
-    c.loop-rank.ranks.ok)
+    omega (
+      arith,
+      is,
+      place_max plan c.requires rank
+          (omega (arith, plan.by_key.ok, by_key_len plan c.requires)),
+      c.loop-rank.invariant.len,
+      c.loop-rank.ranks.ok,
+    )
 
 pub loop-rank-preserved : goal.loop-rank-preserved
 loop-rank-preserved c =

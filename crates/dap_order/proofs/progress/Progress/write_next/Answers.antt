@@ -1,4 +1,4 @@
-use Rattle.std.proofs.Common.{◌≡◌, ◌<◌, true, get_or, arith, refl, sym, ◌∙◌, subst}
+use Rattle.std.proofs.Common.{◌≡◌, true, get_or, arith, refl, sym, ◌∙◌, subst}
 use Rattle.std.proofs.lemmas.List.{get_or_read, length-set}
 use Rattle.std.proofs.lemmas.Map.Keys.{le_from_not_gt}
 use Rattle.dap_order.specs.Plan.{place_at_rank, followed_by}
@@ -22,8 +22,13 @@ index_mut-requires c =
     let is =
     get_or_read plan.by_key.items rank c.index-place.result.now (omega (arith, by_key_len plan well))
     c.index-place.ensures 0 in
-    omega (arith, is, place_max plan well rank low, c.requires.stands.written_len,
-    c.args.self.now.written.ok)
+    omega (
+      arith,
+      is,
+      place_max plan well rank low,
+      c.requires.stands.written_len,
+      c.args.self.now.written.ok,
+    )
 
 pub returns : goal.returns
 returns c =
