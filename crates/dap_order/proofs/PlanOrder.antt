@@ -22,7 +22,8 @@ use Rattle.dap_order.specs.declared.plan.Plan.{Plan}
 use Rattle.dap_order.specs.declared.links.Links.{Links}
 use Rattle.dap_order.specs.declared.progress.Progress.{Progress}
 use Rattle.dap_order.proofs.Least.{order-least}
-use Rattle.dap_order.proofs.Pending.{pending, Between, between, IsNext, next_from_pending, pending-none}
+use Rattle.dap_order.proofs.Pending.{pending, pending-none, Between, between, IsNext}
+use Rattle.dap_order.proofs.Pending.{next_from_pending}
 use Rattle.dap_order.proofs.ReadyRanks.{stays_written}
 use Rattle.dap_order.proofs.Standing.{listed_stays}
 
@@ -138,8 +139,8 @@ module _ (plan : Plan) where
         written bound = elim (is.complete k place h ready.in_range bound) [
           | inl blocked ↦ ready.unblocked k h blocked
           | inr waits ↦ (let done : is_written w waits.0 ≡ true =
-              All-contains (λ a. is_written w a ≡ true) (followed_by plan place) waits.0 ready.followed
-              waits.1 in
+              All-contains (λ a. is_written w a ≡ true) (followed_by plan place) waits.0
+              ready.followed waits.1 in
               let low : waits.0 < place =
               All-contains (λ a. a < place) (followed_by plan place) waits.0
               (well.earlier place ready.in_range) waits.1 in

@@ -28,8 +28,8 @@ module _ (old new : BTreeSet ℕ) (k : ℕ) where
   removed_others u q h = elim (cases_Bool (is_at (nat_cmp k) q)) [
     | inl here ↦ absurd (both_ways (contains nat_cmp new q)
         (u.0 q ∙ cond-true (is_at (nat_cmp k) q) false (contains nat_cmp old q) here) h)
-    | inr other ↦ sym (u.0 q ∙ cond-false (is_at (nat_cmp k) q) false (contains nat_cmp old q) other)
-        ∙ h
+    | inr other ↦ sym (u.0 q
+        ∙ cond-false (is_at (nat_cmp k) q) false (contains nat_cmp old q) other) ∙ h
   ]
 
   pub removed_itself : Updates nat_cmp old new k false → (q : ℕ) → HasRank new q → q ≢ k

@@ -25,7 +25,8 @@ module _ (plan : Plan) where
     in_range = was.in_range;
     not_written = get_or-set_other w p place true false apart ∙ was.not_written;
     unblocked = unblocked_stays w p (group_of plan place) place was.unblocked;
-    followed = λ k d h. stays_written w p (get_or (followed_by plan place) k d) (was.followed k d h);
+    followed = λ k d h.
+        stays_written w p (get_or (followed_by plan place) k d) (was.followed k d h);
   }
 
   -- A place stays listed if nothing is removed from the set, and nothing is written or released.

@@ -20,11 +20,12 @@ entries_at lists place = slice_index_or lists place []
 -- Each list has places alone, and has each place below `end` that follows the place of the list.
 pub record FollowBelow (plan : Plan) (followers : List (List ℕ)) (end : ℕ) : Type 0 where
   pub len : length followers ≡ place_count plan
-  pub in_range : (place : ℕ) → All (λ follower. follower < place_count plan) (entries_at followers place)
+  pub in_range : (place : ℕ)
+      → All (λ follower. follower < place_count plan) (entries_at followers place)
   pub has : (place follower : ℕ) → follower < end → Contains (followed_by plan follower) place
       → Contains (entries_at followers place) follower
 
--- The second lists are the first ones after this place was added to each list of a place of `after`.
+-- The new lists are the old ones after the place was added to the list of each place of `after`.
 pub record AddsFollower (old new : List (List ℕ)) (after : List ℕ) (place : ℕ) : Type 0 where
   pub len : length new ≡ length old
   pub kept : (list x : ℕ) → Contains (entries_at old list) x → Contains (entries_at new list) x

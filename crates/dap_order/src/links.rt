@@ -1,5 +1,5 @@
 //! Two inverse lists of a plan.
-ghost use Rattle.std.specs.Prelude.{◌≡◌, ◌<◌, ◌+◌, length, map, [], replicate, IfOk, OnOk};
+ghost use Rattle.std.specs.Prelude.{◌≡◌, ◌<◌, length, [], replicate, IfOk, OnOk};
 ghost use Rattle.std.specs.List.{All};
 ghost use Rattle.dap_order.specs.Plan.{IsWellFormed, place_count};
 ghost use Rattle.dap_order.specs.Links.{AreRanks, FollowBelow, AddsFollower, AreLinks, lists_of};
@@ -45,7 +45,7 @@ fn add_follower(
     Ok(())
 }
 
-/// Returns as many empty lists.
+/// Returns `count` empty lists.
 fn empty_lists(alloc: Global, count: usize) -> Result<Vec<Vec<usize>>, AllocError>
     ensures empty { IfOk result (λ lists. lists_of lists ≡ replicate count []) }
 {
@@ -59,7 +59,8 @@ fn empty_lists(alloc: Global, count: usize) -> Result<Vec<Vec<usize>>, AllocErro
 /// Returns the followers of each place.
 fn followers_of(alloc: Global, plan: &Plan) -> Result<Vec<Vec<usize>>, AllocError>
     requires { IsWellFormed plan.now }
-    ensures followers { IfOk result (λ lists. FollowBelow plan.now (lists_of lists) (place_count plan.now)) }
+    ensures followers { IfOk result
+        (λ lists. FollowBelow plan.now (lists_of lists) (place_count plan.now)) }
 {
     let mut followers = empty_lists(alloc, plan.groups.len())?;
     for place in 0..plan.groups.len() {

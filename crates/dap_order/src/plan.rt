@@ -5,8 +5,8 @@ ghost use Rattle.dap_order.specs.Progress.{blocks_group};
 
 /// How the places of a list depend on each other, for [`order_of_places`].
 ///
-/// The places are the numbers below the length of `groups`. Two places are *free* if they may change
-/// places as neighbours.
+/// The places are the numbers below the length of `groups`. Two places are *free* with each other
+/// if they may be swapped when they are neighbours.
 #[derive(Drop)]
 pub struct Plan {
     /// The group of each place: an index of `blocks`.

@@ -1,11 +1,12 @@
 //! Which places are written, and which may be written next.
-ghost use Rattle.std.specs.Prelude.{◌≡◌, ◌≤◌, ◌<◌, ℕ, true, false, length, not, ◌&&◌};
-ghost use Rattle.std.specs.Prelude.{IfOk, OnOk, IfSome, MatchOption, slice_index, nat_lt};
+ghost use Rattle.std.specs.Prelude.{◌≡◌, ◌≤◌, ◌<◌, true, false, length};
+ghost use Rattle.std.specs.Prelude.{IfOk, OnOk, MatchOption, slice_index};
 ghost use Rattle.std.specs.List.{All, AllWithin, HoldsAt};
 ghost use Rattle.dap_order.specs.Plan.{IsWellFormed, place_count, followed_by};
 ghost use Rattle.dap_order.specs.Links.{AreLinks};
-ghost use Rattle.dap_order.specs.Progress.{is_written, Stands, IsListed, HasRank, is_held};
-ghost use Rattle.dap_order.specs.Progress.{Considered, Released, ReleasedPlace, ReleasedBelow, ConsideredFollowers};
+ghost use Rattle.dap_order.specs.Progress.{is_written, Stands, is_held};
+ghost use Rattle.dap_order.specs.Progress.{Considered, ConsideredFollowers, Released};
+ghost use Rattle.dap_order.specs.Progress.{ReleasedPlace, ReleasedBelow};
 ghost use Rattle.dap_order.specs.Progress.{Wrote, StartsAt, HasNoRank};
 
 use crate::links::{Links, followers_at};

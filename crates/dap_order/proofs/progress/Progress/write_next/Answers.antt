@@ -20,8 +20,8 @@ index_mut-requires c =
     let rank = c.in_ok-rank.rank in
     let low = c.requires.stands.ready_max rank c.in_ok-rank.ensures.member in
     let is =
-    get_or_read plan.by_key.items rank c.index-place.result.now (omega (arith, by_key_len plan well))
-    c.index-place.ensures 0 in
+    get_or_read plan.by_key.items rank c.index-place.result.now
+    (omega (arith, by_key_len plan well)) c.index-place.ensures 0 in
     omega (
       arith,
       is,
