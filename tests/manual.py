@@ -22,7 +22,7 @@ INSTALLED = {
     **{f"share/dapnorm/examples/{it}": 0o644 for it in ("README.md", "program.py", "session.rules", "golden_test.py")},
     **{f"share/dapnorm/examples/{it}.py": 0o644 for it in ("trace_tee", "trace_proxy", "from_debugpy_log", "from_lldb_log")},
     **{f"share/dapnorm/examples/{it}.sh": 0o755 for it in ("golden", "ci", "git_setup")},
-    **{f"share/dapnorm/examples/masks/{it}.mask": 0o644 for it in ("debugpy", "delve", "lldb", "rdbg")},
+    **{f"share/dapnorm/examples/rules/{it}.rules": 0o644 for it in ("debugpy", "delve", "lldb", "rdbg")},
 }
 
 

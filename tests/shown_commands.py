@@ -16,8 +16,9 @@ COMMANDS = ("golden", "record", "check", "normalise", "compare", "diff", "show",
 INPUTS = {
     "session.trace": os.path.join(CAPTURES, "dlv-l-stopentry.3.trace"), "later.trace": os.path.join(CAPTURES, "dlv-l-stopentry.5.trace"),
     "session.rec": os.path.join(CAPTURES, "dlv-l-stopentry.3.rec"), "later.rec": os.path.join(CAPTURES, "dlv-l-stopentry.5.rec"),
-    "session.frames": os.path.join(EXAMPLES, "debugpy-adapter.frames"), "lldb.mask": os.path.join(EXAMPLES, "masks", "lldb.mask"),
-    "examples/masks/debugpy.mask": os.path.join(EXAMPLES, "masks", "debugpy.mask"),
+    "session.frames": os.path.join(EXAMPLES, "debugpy-adapter.frames"),
+    **{name: os.path.join(EXAMPLES, "rules", "lldb.rules") for name in ("lldb.rules", "lldb.mask")},
+    "examples/rules/debugpy.rules": os.path.join(EXAMPLES, "rules", "debugpy.rules"),
 }
 GOLDEN = "session.golden"
 # Golden files that are there before: of this session, of another one, none.
@@ -64,7 +65,7 @@ class Run:
 
     def __init__(self, block, golden=None, damaged=None, content=None, failing=0):
         with tempfile.TemporaryDirectory() as folder:
-            os.makedirs(os.path.join(folder, "examples", "masks"))
+            os.makedirs(os.path.join(folder, "examples", "rules"))
             for name, source in INPUTS.items():
                 shutil.copy(source, os.path.join(folder, name))
             if golden is not None:
@@ -92,7 +93,7 @@ def damages(name):
     """Contents in the place of an input file, each with its name. A part of a file of rules may be rules too, so that is no damage."""
     whole = read(INPUTS[name])
     yield "missing", None
-    if name.endswith(".mask"):
+    if name.endswith((".rules", ".mask")):
         yield "no rules", b"blank everything\n"
         return
     yield "empty", b""
