@@ -167,7 +167,8 @@ def differing(report, folder):
 
 
 def rules_that_are_refused(report, folder):
-    for rules, line in ((b"swap event", b"dapnorm: rules: line 1: BadRule\n"), (b"\nswap event a event b\n" * 2, b"dapnorm: rules: line 4: Repeated\n")):
+    for rules, why in ((b"swap event", "line 1: BadRule"), (b"\nswap event a event b\n" * 2, "line 4: Repeated")):
+        line = refusal(f"rules: {why}")
         answer = folder.order(rules, b"nothing is read of this")
         report.check(f"order by {rules!r}", answer == (2, b"", line), repr(answer))
         for command in ("compare", "diff"):
@@ -215,7 +216,8 @@ class Trial:
 
     def orders(self):
         """Each form is put in the one order, which is accepted, and which is in order."""
-        for name, text in [("the session", recorded(self.found)), *((f"form {n}", recorded(it)) for n, it in enumerate(self.others)), ("its order", self.text)]:
+        forms = [("the session", self.found), ("a form", self.others[0]), ("another form", self.others[1])]
+        for name, text in [*((name, recorded(found)) for name, found in forms), ("its order", self.text)]:
             answer = self.folder.order(self.lines, text)
             self.want(f"order of {name}", answer == (0, self.text, b""), answer)
         answer = run(["check"], self.text)
