@@ -114,6 +114,14 @@ def golden(report, folder, title, rules, a, b, normal):
     os.remove(there)
 
 
+def stops(report, folder):
+    """Two runs in which a variables reference is used again after a stop, or not: they are the same per stop."""
+    a, b = written(folder, "a", read("captures/debugpy-l-stopentry.1.rec")), written(folder, "b", read("pairs/debugpy-l-stopentry.3.rec"))
+    for words, status in (([], 1), (["--per-stop"], 0)):
+        answer = run(["compare", "--rules", path("debugpy"), *words, a, b])
+        report.check(f"two runs of debugpy by rules, with {words}", answer[0] == status, repr(answer))
+
+
 def place_of(found, wanted, last=False):
     places = [place for place, (_, message) in enumerate(found) if (message["type"], name_of(message)) == wanted]
     return places[-1 if last else 0]
@@ -134,7 +142,7 @@ def main():
     report = Report()
     if report.check("the gate has built the program", os.access(PROGRAM, os.X_OK)):
         with tempfile.TemporaryDirectory() as folder:
-            for test in (files, pairs, orders, bugs):
+            for test in (files, pairs, orders, stops, bugs):
                 test(report, folder)
     return report.close()
 
