@@ -4,6 +4,7 @@ compared with the reference in order_reference.py.
     python3 tests/order.py [SESSIONS]
 
 SESSIONS is how many sessions are made, 300 if it is left out. Before a release 20,000 are tried."""
+import copy
 import os
 import random
 import re
@@ -191,7 +192,7 @@ class Tried(NamedTuple):
 
 def record_all(found):
     """The text of the messages with the capabilities that an adapter leaves out."""
-    filled = [(side, dict(message)) for side, message in found]
+    filled = copy.deepcopy(found)
     for side, message in filled:
         fill(side, message)
     return recorded(filled)
