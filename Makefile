@@ -21,8 +21,8 @@ AS_ZSH := share/zsh/site-functions/_dapnorm
 AS_FISH := share/fish/vendor_completions.d/dapnorm.fish
 # The guides and the examples keep their folders below this one, so that their links work there.
 AS_SHARED := share/dapnorm
-GUIDES := $(addprefix docs/,$(addsuffix .md,FAULTS FORMATS GLOSSARY NORMAL-FORM PROFILE TUTORIAL))
-EXAMPLES := examples/README.md examples/program.py examples/session.rules $(sort $(wildcard examples/masks/*.mask))
+GUIDES := $(addprefix docs/,$(addsuffix .md,FAULTS FORMATS GLOSSARY NORMAL-FORM ORDER PROFILE TUTORIAL))
+EXAMPLES := examples/README.md examples/program.py examples/session.rules $(sort $(wildcard examples/rules/*.rules))
 RECIPES := $(addprefix examples/,golden_test.py trace_tee.py trace_proxy.py from_debugpy_log.py from_lldb_log.py)
 SHELL_RECIPES := $(addprefix examples/,golden.sh ci.sh git_setup.sh)
 SHARED := $(GUIDES) $(EXAMPLES) $(RECIPES) $(SHELL_RECIPES)
@@ -112,7 +112,7 @@ uninstall:
 	@echo "Removes the files that make install put below $(DESTDIR)$(PREFIX)."
 	rm -f "$(BELOW)/$(AS_PROGRAM)" "$(BELOW)/$(AS_MANUAL)" "$(BELOW)/$(AS_BASH)" "$(BELOW)/$(AS_ZSH)" "$(BELOW)/$(AS_FISH)"
 	@for it in $(SHARED); do rm -f "$(BELOW)/$(AS_SHARED)/$$it" || exit; done
-	@for it in /examples/masks /examples /docs ""; do rmdir "$(BELOW)/$(AS_SHARED)$$it" 2> /dev/null || true; done
+	@for it in /examples/rules /examples /docs ""; do rmdir "$(BELOW)/$(AS_SHARED)$$it" 2> /dev/null || true; done
 
 # The packages are made of the last commit, so the program has to be built of it too.
 need-commit:

@@ -66,6 +66,8 @@ def main():
             ("names that begin again at each stop", "per_stop.py"),
             ("what differs told", "differing.py"),
             ("recordings of fresh runs masked", "masks.py"),
+            ("recordings in order", "order.py"),
+            ("the rules of the examples", "example_rules.py"),
             ("recordings shown", "showing.py"),
             ("the words of command lines", "command_lines.py"),
             ("golden files", "golden.py"),

@@ -12,7 +12,7 @@ from worked_runs import (
 
 OPEN = recording([*BEGUN, THREADS])
 FILES = {
-    "a.rec": COMPARED["a stale frame"][0], "b.rec": COMPARED["a stale frame"][1], "lldb.mask": RULES, "open.rec": OPEN, "loose": frame(LOOSE),
+    "a.rec": COMPARED["a stale frame"][0], "b.rec": COMPARED["a stale frame"][1], "lldb.rules": RULES, "open.rec": OPEN, "loose": frame(LOOSE),
     "session.trace": TRACE, "configured.rec": recording(CONFIGURED), "normal": recording([*NORMAL_STOPS, FRAME % (2, 3, 5)]),
 }
 ACCEPTED, INCOMPLETE = (0, b"accepted records=3 open=1,0\n", b""), (2, b"", b"dapnorm: incomplete: 1 client, 0 adapter\n")
@@ -29,7 +29,7 @@ JOBS = [
     (["normalise"], recording(NEW_FRAME), (0, recording([*NORMAL_STOPS, FRAME % (2, 3, 5)]), b"")),
     (["normalise", "--per-stop"], recording(NEW_FRAME), (0, recording(NORMAL_PER_STOP), b"")),
     (["show"], recording([INITIALIZED]), (0, b'1 < event "initialized" seq=2\n', b"")),
-    (["mask", "lldb.mask"], recording(CONFIGURED), (0, recording(masked(CONFIGURED)), b"")),
+    (["mask", "lldb.rules"], recording(CONFIGURED), (0, recording(masked(CONFIGURED)), b"")),
     (["rows", "62"], b"", (0, ROW, b"")),
     (["check"], OPEN, ACCEPTED),
     (["check", "--complete"], OPEN, INCOMPLETE),
@@ -48,7 +48,7 @@ JOBS = [
     (["record", "session.trace"], b"", (0, RECORDED, b"")),
     (["normalise", "--per-stop", "b.rec"], b"", (0, recording(NORMAL_PER_STOP), b"")),
     (["show", "-", "-o", "-"], recording([INITIALIZED]), (0, b'1 < event "initialized" seq=2\n', b"")),
-    (["mask", "lldb.mask", "configured.rec"], b"", (0, recording(masked(CONFIGURED)), b"")),
+    (["mask", "lldb.rules", "configured.rec"], b"", (0, recording(masked(CONFIGURED)), b"")),
     (["compare", "-", "b.rec"], COMPARED["a stale frame"][0], (1, b"differ 8\n", b"")),
     (["diff", "a.rec", "-"], COMPARED["a stale frame"][1], (1, DIFFERENCES["a stale frame"], b"")),
     (["golden", "normal", "b.rec"], b"", (0, b"same\n", b"")),
@@ -64,7 +64,7 @@ NO_JOBS = [
     [], ["compacted"], ["compact", "a", "b"], ["check", "--complete", "--complete"], ["compact", "--complete"], ["check", "a", "b"],
     ["compare", "a.rec"], ["mask"], ["--per-stop"], ["show", "--per-stop"], ["normalise", "--per-stop", "--per-stop"], ["check", "-o", "a"],
     ["golden"], ["golden", "a", "b", "c"], ["golden", "a", "-o", "b"], ["golden", "--rules"], ["normalise", "-o"], ["rows", "-o", "a"],
-    ["mask", "--rules", "lldb.mask"], ["compare", "-", "-"], ["show", "--record"], ["show", "--record", "0"], ["show", "--record", "x"],
+    ["mask", "--rules", "lldb.rules"], ["compare", "-", "-"], ["show", "--record"], ["show", "--record", "0"], ["show", "--record", "x"],
     ["show", "--record", "1", "--full"], ["show", "--faulty", "--record", "1"], ["show", "--full", "--full"], ["golden", "--explain", "a"],
     ["rows", "--explain"], ["compare", "--all", "a.rec", "b.rec"], ["diff", "--all", "a.rec"], ["diff", "--all", "-", "-"], ["normalise", "--full"], ["check", "--record", "1"],
 ]

@@ -308,10 +308,10 @@ def tutorial(report, folder, environment):
 
 
 def rules(report, _folder):
-    """The rules of the session have all those of the mask of debugpy."""
-    kept, mask = (read(os.path.join(EXAMPLES, *path)).decode().splitlines() for path in (("session.rules",), ("masks", "debugpy.mask")))
+    """The rules of the session have all those for debugpy."""
+    kept, mask = (read(os.path.join(EXAMPLES, *path)).decode().splitlines() for path in (("session.rules",), ("rules", "debugpy.rules")))
     lacking = {line for line in mask if not line.startswith("#")} - set(kept)
-    report.check("session.rules has the rules of masks/debugpy.mask", not lacking, repr(lacking))
+    report.check("session.rules has the rules of rules/debugpy.rules", not lacking, repr(lacking))
     for name, limit in (("golden_test.py", 200), ("golden.sh", 10)):
         lines = read(os.path.join(EXAMPLES, name)).count(b"\n")
         report.check(f"{name} has at most {limit} lines", lines <= limit, str(lines))

@@ -18,11 +18,11 @@ COMPLETIONS = {shell: os.path.join(TOP, "completions", name) for shell, name in 
 INSTALLED = {
     "bin/dapnorm": 0o755, "share/man/man1/dapnorm.1": 0o644, "share/bash-completion/completions/dapnorm": 0o644,
     "share/zsh/site-functions/_dapnorm": 0o644, "share/fish/vendor_completions.d/dapnorm.fish": 0o644,
-    **{f"share/dapnorm/docs/{it}.md": 0o644 for it in ("FAULTS", "FORMATS", "GLOSSARY", "NORMAL-FORM", "PROFILE", "TUTORIAL")},
+    **{f"share/dapnorm/docs/{it}.md": 0o644 for it in ("FAULTS", "FORMATS", "GLOSSARY", "NORMAL-FORM", "ORDER", "PROFILE", "TUTORIAL")},
     **{f"share/dapnorm/examples/{it}": 0o644 for it in ("README.md", "program.py", "session.rules", "golden_test.py")},
     **{f"share/dapnorm/examples/{it}.py": 0o644 for it in ("trace_tee", "trace_proxy", "from_debugpy_log", "from_lldb_log")},
     **{f"share/dapnorm/examples/{it}.sh": 0o755 for it in ("golden", "ci", "git_setup")},
-    **{f"share/dapnorm/examples/masks/{it}.mask": 0o644 for it in ("debugpy", "delve", "lldb", "rdbg")},
+    **{f"share/dapnorm/examples/rules/{it}.rules": 0o644 for it in ("debugpy", "delve", "lldb", "rdbg")},
 }
 
 

@@ -56,7 +56,7 @@ def compared(folder, first, second):
 
 def pairs(report, folder):
     for mask, first, second, raw, left in PAIRS:
-        rules = os.path.join(EXAMPLES, "masks", f"{mask}.mask")
+        rules = os.path.join(EXAMPLES, "rules", f"{mask}.rules")
         runs = [read(f"{name}.rec") for name in (first, second)]
         answer = compared(folder, *runs)
         report.check(f"{first} and {second}, as they came", answer == raw, repr(answer))
@@ -73,7 +73,7 @@ def pairs(report, folder):
 
 def session_of_lldb_16(report):
     """A session with fractions: refused as it came, and a golden file once it is masked."""
-    rules = os.path.join(EXAMPLES, "masks", "lldb.mask")
+    rules = os.path.join(EXAMPLES, "rules", "lldb.rules")
     status, recording, errors = run(["record"], read("captures/lldb16-a-basic.1.trace"))
     report.check("lldb 16: record", status == 0, repr(errors))
     report.check("lldb 16: check refuses it", run(["check"], recording)[2] == b"dapnorm: record 364: Fraction\n")

@@ -153,7 +153,7 @@ def pairs(report, folder):
         written = [run(["normalise", OPTION], text)[1] for text in texts]
         report.check(f"{one} and {other} have one normal form per stop", written[0] == written[1])
     for mask, one, other in FRESH:
-        rules = os.path.join(EXAMPLES, "masks", f"{mask}.mask")
+        rules = os.path.join(EXAMPLES, "rules", f"{mask}.rules")
         texts = [run(["mask", rules], read("pairs", f"{name}.rec"))[1] for name in (one, other)]
         whole, answer = same_per_stop(report, folder, f"{one} and {other}, masked", *texts)
         report.check(f"{one} and {other}, masked, are the same in both modes", (whole[0], answer[0]) == (0, 0), repr((whole, answer)))
@@ -207,7 +207,7 @@ def by_hand(report, folder):
 
 def fresh_reference(report, folder):
     """A real adapter that gave a number of before in one run, and a new one in the other: the whole differs there."""
-    rules = os.path.join(EXAMPLES, "masks", "debugpy.mask")
+    rules = os.path.join(EXAMPLES, "rules", "debugpy.rules")
     one, other = [run(["mask", rules], text)[1] for text in (read("captures", "debugpy-l-stopentry.1.rec"), read("pairs", "debugpy-l-stopentry.3.rec"))]
     whole, answer = same_per_stop(report, folder, "two runs of debugpy", one, other)
     report.check("two runs of debugpy differ in the whole", whole[0] == 1, repr(whole))

@@ -1,4 +1,4 @@
-"""Runs each block of dapnorm's commands that the README, the man page, FORMATS.md and the help show: as it is written, with each of its input
+"""Runs each block of dapnorm's commands that the README, the man page, FORMATS.md, ORDER.md and the help show: as it is written, with each of its input
 files damaged, and with each of its commands failing. No golden file may come out of it that the block as it is written would not write."""
 import os
 import re
@@ -16,8 +16,9 @@ COMMANDS = ("golden", "record", "check", "normalise", "compare", "diff", "show",
 INPUTS = {
     "session.trace": os.path.join(CAPTURES, "dlv-l-stopentry.3.trace"), "later.trace": os.path.join(CAPTURES, "dlv-l-stopentry.5.trace"),
     "session.rec": os.path.join(CAPTURES, "dlv-l-stopentry.3.rec"), "later.rec": os.path.join(CAPTURES, "dlv-l-stopentry.5.rec"),
-    "session.frames": os.path.join(EXAMPLES, "debugpy-adapter.frames"), "lldb.mask": os.path.join(EXAMPLES, "masks", "lldb.mask"),
-    "examples/masks/debugpy.mask": os.path.join(EXAMPLES, "masks", "debugpy.mask"),
+    "session.frames": os.path.join(EXAMPLES, "debugpy-adapter.frames"),
+    **{name: os.path.join(EXAMPLES, "rules", "lldb.rules") for name in ("lldb.rules", "lldb.mask")},
+    "examples/rules/debugpy.rules": os.path.join(EXAMPLES, "rules", "debugpy.rules"),
 }
 GOLDEN = "session.golden"
 # Golden files that are there before: of this session, of another one, none.
@@ -53,7 +54,7 @@ def blocks():
     """The blocks of which each line is a command of dapnorm, each with the document that shows it."""
     manual = read(os.path.join(TOP, "docs", "dapnorm.1")).decode()
     shown = [("the README", it) for it in indented(os.path.join(TOP, "README.md"))]
-    shown += [("FORMATS.md", it) for it in indented(os.path.join(TOP, "docs", "FORMATS.md"))]
+    shown += [(name, it) for name in ("FORMATS.md", "ORDER.md") for it in indented(os.path.join(TOP, "docs", name))]
     shown += [("the man page", it.strip()) for it in re.findall(r"^\.Bd -literal.*\n((?:.*\n)*?)\.Ed", manual, re.MULTILINE)]
     shown += [(f"the help of {it}", re.search(r"^Example: (.*)$", run([it, "--help"])[1].decode(), re.MULTILINE)[1]) for it in COMMANDS]
     return [(where, it) for where, it in shown if all(line.startswith("dapnorm ") for line in it.splitlines())]
@@ -64,7 +65,7 @@ class Run:
 
     def __init__(self, block, golden=None, damaged=None, content=None, failing=0):
         with tempfile.TemporaryDirectory() as folder:
-            os.makedirs(os.path.join(folder, "examples", "masks"))
+            os.makedirs(os.path.join(folder, "examples", "rules"))
             for name, source in INPUTS.items():
                 shutil.copy(source, os.path.join(folder, name))
             if golden is not None:
@@ -92,7 +93,7 @@ def damages(name):
     """Contents in the place of an input file, each with its name. A part of a file of rules may be rules too, so that is no damage."""
     whole = read(INPUTS[name])
     yield "missing", None
-    if name.endswith(".mask"):
+    if name.endswith((".rules", ".mask")):
         yield "no rules", b"blank everything\n"
         return
     yield "empty", b""
