@@ -10,7 +10,7 @@ use Rattle.dap_device.specs.declared.reading.Stop.{Stop}
 use Rattle.dap_device.specs.declared.reading.Stop.TheVariants.{End, Full, Failed}
 use Rattle.dap_message.specs.Message.{Sent}
 use Rattle.dap_recording.specs.declared.record_fault.RecordCause.TheVariants.{Cut}
-use Rattle.dap_rename.specs.declared.mode.Mode.TheVariants.{Whole}
+use Rattle.dap_rename.specs.declared.mode.Mode.{Mode}
 use Rattle.dap_mask.specs.Swaps.{SwapRule}
 use Rattle.dap_input.specs.Engine.{Accepts, Answers}
 use Rattle.dap_input.specs.Refusals.{IsRefused}
@@ -21,47 +21,50 @@ use Rattle.dap_input.specs.declared.refused.Refused.TheVariants.{WriteFault}
 use Rattle.dap_normal.specs.Accepting.{Fits, IsAccepted, accepting, text}
 use Rattle.dap_normal.specs.Normalising.{RefusesBytes}
 use Rattle.dap_swaps.specs.Order.{ordered}
-use Rattle.dap_order_input.specs.Ordering.{IsNotOrdered, Orders, RefusesToOrder}
+use Rattle.dap_order_input.specs.Ordering.{IsNotOrdered, IsTextError, Orders, RefusesToOrder}
 use Rattle.dap_order_input.specs.OrderingSteps.{Writes, result_of_input}
 
 abbrev failure : Refused → Result (Vec ℕ Global) Refused
 failure because = Err because
 
-module _ (limits : Limits) (rules : List SwapRule) (bytes : List ℕ) where
+module _ (limits : Limits) (mode : Mode) (rules : List SwapRule) (bytes : List ℕ) where
   -- ---- bytes in memory
 
-  pub recording_refused : (because : Refused) → RefusesBytes limits Whole bytes because
-      → RefusesToOrder limits rules bytes because
+  pub recording_refused : (because : Refused) → RefusesBytes limits mode bytes because
+      → RefusesToOrder limits mode rules bytes because
   recording_refused Memory is = tt
   recording_refused because is = inl is
 
-  module _ (ms : List Sent) (accepted : IsAccepted limits Whole bytes ms) where
+  module _ (ms : List Sent) (accepted : IsAccepted limits mode bytes ms) where
     pub not_written : (because : Refused) → Writes limits (ordered rules ms) (Err because)
-        → RefusesToOrder limits rules bytes because
+        → RefusesToOrder limits mode rules bytes because
     not_written (Grew n) is = inr (ms, accepted, inl (n, refl, is))
     not_written Memory is = tt
     not_written because is = absurd is
 
     pub text_refused : Fits limits (ordered rules ms) → (because : Refused)
-        → RefusesBytes limits Whole (text (ordered rules ms)) because
-        → RefusesToOrder limits rules bytes because
-    text_refused fits Memory is = tt
-    text_refused fits because is = inr (ms, accepted, inr (fits, is))
+        → RefusesBytes limits mode (text (ordered rules ms)) because
+        → ((why : Refused) → IsRefused (accepting limits mode) (text (ordered rules ms)) why
+        → IsTextError mode why)
+        → RefusesToOrder limits mode rules bytes because
+    text_refused fits Memory is errors = tt
+    text_refused fits because is errors =
+        inr (ms, accepted, inr (fits, is, errors because is))
 
   -- ---- what no input is refused for
 
   not_a_device : (because : Refused)
-      → (IsRefused (accepting limits Whole) bytes because → ⊥)
-      → ((all : List ℕ) → IsRefused (accepting limits Whole) all because → ⊥)
-      → ((n : ℕ) → because ≡ Grew n → ⊥) → IsNotOrdered limits rules bytes because → ⊥
+      → (IsRefused (accepting limits mode) bytes because → ⊥)
+      → ((all : List ℕ) → IsRefused (accepting limits mode) all because → ⊥)
+      → ((n : ℕ) → because ≡ Grew n → ⊥) → IsNotOrdered limits mode rules bytes because → ⊥
   not_a_device because first later other (inl is) = first is
   not_a_device because first later other (inr (ms, accepted, inl (n, same, passes))) =
       other n same
-  not_a_device because first later other (inr (ms, accepted, inr (fits, is))) =
+  not_a_device because first later other (inr (ms, accepted, inr (fits, is, error))) =
       later (text (ordered rules ms)) is
 
   -- An input that passes its limit is not cut.
-  not_cut : (n : ℕ) → IsNotOrdered limits rules bytes (Record n Cut)
+  not_cut : (n : ℕ) → IsNotOrdered limits mode rules bytes (Record n Cut)
       → length bytes ≡ limits.input + 1 → ⊥
   not_cut n (inl first) long =
       let within = first.refuses.in_time in
@@ -74,15 +77,15 @@ module _ (limits : Limits) (rules : List SwapRule) (bytes : List ℕ) where
   module _ {R : Type 0} (source : Source R) (old new : R) where
     pub accepts : (result : Result (Vec ℕ Global) Refused) (stop : Stop)
         → HasCome source old new limits.input bytes stop
-        → IfOk result (λ written. Orders limits rules bytes written.items)
+        → IfOk result (λ written. Orders limits mode rules bytes written.items)
         → (written : Vec ℕ Global) → result_of_input result stop ≡ Ok written
-        → Accepts source limits.input (Orders limits rules) old new written.items
+        → Accepts source limits.input (Orders limits mode rules) old new written.items
     accepts (Ok made) End came orders written is =
         let same : made ≡ written = cc in
         record {
           whole = bytes;
           came = came;
-          gives = subst (λ (v : Vec ℕ Global). Orders limits rules bytes v.items) same orders;
+          gives = subst (λ (v : Vec ℕ Global). Orders limits mode rules bytes v.items) same orders;
         }
     accepts (Ok made) Full came orders written is =
         let short = orders.accepts.short in
@@ -95,13 +98,13 @@ module _ (limits : Limits) (rules : List SwapRule) (bytes : List ℕ) where
     module _ {W : Type 0} (sink : Sink W) (writer : W) where
       abbrev Returns : Refused → Type 0
       Returns because =
-          Answers source sink limits.input (Orders limits rules) (IsNotOrdered limits rules)
+          Answers source sink limits.input (Orders limits mode rules) (IsNotOrdered limits mode rules)
           {U = Unit {0}} old new writer writer (Err because)
 
       -- The reader failed, and there is no other error.
       reader_failed : HasCome source old new limits.input bytes Failed
-          → ((written : List ℕ) × Orders limits rules bytes written)
-          ⊎ ((n : ℕ) × IsNotOrdered limits rules bytes (Record n Cut)) → Returns ReadFault
+          → ((written : List ℕ) × Orders limits mode rules bytes written)
+          ⊎ ((n : ℕ) × IsNotOrdered limits mode rules bytes (Record n Cut)) → Returns ReadFault
       reader_failed came other = (
         record { bytes = bytes; came = came; not_refused = other },
         refl,
@@ -109,7 +112,7 @@ module _ (limits : Limits) (rules : List SwapRule) (bytes : List ℕ) where
 
       -- An error of the bytes, which is not that they end too early, unless the reader ended.
       refuses : (because : Refused) (stop : Stop) → HasCome source old new limits.input bytes stop
-          → RefusesToOrder limits rules bytes because
+          → RefusesToOrder limits mode rules bytes because
           → ((n : ℕ) → because ≡ Record n Cut → stop ≡ End) → Returns because
       refuses Memory stop came is cut = refl
       refuses ReadFault stop came is cut =
@@ -129,7 +132,7 @@ module _ (limits : Limits) (rules : List SwapRule) (bytes : List ℕ) where
           let one : because ≡ other = cc in subst Returns one is
 
       refused : (because : Refused) (stop : Stop) → HasCome source old new limits.input bytes stop
-          → RefusesToOrder limits rules bytes because → (other : Refused)
+          → RefusesToOrder limits mode rules bytes because → (other : Refused)
           → result_of_input (failure because) stop ≡ failure other → Returns other
       refused (Record n Cut) End came is other same =
           same_returns (Record n Cut) other same
@@ -143,8 +146,8 @@ module _ (limits : Limits) (rules : List SwapRule) (bytes : List ℕ) where
 
       pub returns_error : (result : Result (Vec ℕ Global) Refused) (stop : Stop)
           → HasCome source old new limits.input bytes stop
-          → IfOk result (λ written. Orders limits rules bytes written.items)
-          → IfErr result (RefusesToOrder limits rules bytes) → (because : Refused)
+          → IfOk result (λ written. Orders limits mode rules bytes written.items)
+          → IfErr result (RefusesToOrder limits mode rules bytes) → (because : Refused)
           → result_of_input result stop ≡ Err because → Returns because
       returns_error (Ok made) End came orders none because is = absurd (let e = is in cc)
       returns_error (Ok made) Full came orders none because is = absurd (let e = is in cc)

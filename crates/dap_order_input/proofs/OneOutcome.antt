@@ -4,7 +4,7 @@ use Rattle.std.proofs.Common.{refl, sym, ◌∙◌, ap, subst, arith, append_ass
 use Rattle.std.proofs.lemmas.Bool.{cases_lt}
 use Rattle.dap_message.specs.Message.{Sent}
 use Rattle.dap_recording.proofs.Records.{readable}
-use Rattle.dap_rename.specs.declared.mode.Mode.TheVariants.{Whole}
+use Rattle.dap_rename.specs.declared.mode.Mode.{Mode}
 use Rattle.dap_input.specs.Refusals.{HasOneOutcome}
 use Rattle.dap_input.specs.declared.limits.Limits.{Limits}
 use Rattle.dap_input.specs.declared.refused.Refused.{Refused}
@@ -30,10 +30,10 @@ front_of (x ∷ short) (y ∷ long) rest more same le =
     let later = front_of short long rest more tails (omega (arith, le)) in
     (later.0, ap (λ z. z ∷ long) (sym head) ∙ ap (λ t. x ∷ t) later.1)
 
-outcome : (limits : Limits) → HasOneOutcome (accepting limits Whole)
-outcome limits =
-    has_one_outcome (accepting limits Whole) (shown_cause limits.frame) (readable limits.frame)
-    (value_facts limits Whole) (accepted_facts limits Whole)
+outcome : (limits : Limits) (mode : Mode) → HasOneOutcome (accepting limits mode)
+outcome limits mode =
+    has_one_outcome (accepting limits mode) (shown_cause limits.frame) (readable limits.frame)
+    (value_facts limits mode) (accepted_facts limits mode)
 
 module _ (limits : Limits) (ms : List Sent) where
   until : (n : ℕ) (p : PassesLimit limits ms n)
@@ -64,40 +64,40 @@ module _ (limits : Limits) (ms : List Sent) where
       (cases_lt k n))
       (cases_lt n k)
 
-  text_once : (because other : Refused) → IsTextRefused limits ms because
-      → IsTextRefused limits ms other → because ≡ other
-  text_once because other (inl (n, is, p)) (inl (k, also, q)) =
+  text_once : (mode : Mode) (because other : Refused) → IsTextRefused limits mode ms because
+      → IsTextRefused limits mode ms other → because ≡ other
+  text_once mode because other (inl (n, is, p)) (inl (k, also, q)) =
       is ∙ ap Grew (one_place n k p q) ∙ sym also
-  text_once because other (inl (n, is, p)) (inr (fits, q)) = absurd (not_allowed n p fits)
-  text_once because other (inr (fits, p)) (inl (k, also, q)) = absurd (not_allowed k q fits)
-  text_once because other (inr (fits, p)) (inr (also, q)) =
-      (outcome limits).one_refusal (text ms) because other p q
+  text_once mode because other (inl (n, is, p)) (inr (fits, q, e)) = absurd (not_allowed n p fits)
+  text_once mode because other (inr (fits, p, e)) (inl (k, also, q)) = absurd (not_allowed k q fits)
+  text_once mode because other (inr (fits, p, e)) (inr (also, q, f)) =
+      (outcome limits mode).one_refusal (text ms) because other p q
 
 pub one_order_error : OneOrderError
-one_order_error limits rules bytes because other (inl p) (inl q) =
-    (outcome limits).one_refusal bytes because other p q
-one_order_error limits rules bytes because other (inl p) (inr (ms, accepted, q)) =
-    absurd ((outcome limits).not_both bytes ms because accepted p)
-one_order_error limits rules bytes because other (inr (ms, accepted, p)) (inl q) =
-    absurd ((outcome limits).not_both bytes ms other accepted q)
-one_order_error limits rules bytes because other (inr (ms, accepted, p)) (inr (ns, also, q)) =
-    text_once limits (ordered rules ms) because other p
-    (subst (λ zs. IsTextRefused limits (ordered rules zs) other)
-    (one_accepted limits bytes ns ms also accepted) q)
+one_order_error limits mode rules bytes because other (inl p) (inl q) =
+    (outcome limits mode).one_refusal bytes because other p q
+one_order_error limits mode rules bytes because other (inl p) (inr (ms, accepted, q)) =
+    absurd ((outcome limits mode).not_both bytes ms because accepted p)
+one_order_error limits mode rules bytes because other (inr (ms, accepted, p)) (inl q) =
+    absurd ((outcome limits mode).not_both bytes ms other accepted q)
+one_order_error limits mode rules bytes because other (inr (ms, accepted, p)) (inr (ns, also, q)) =
+    text_once limits (ordered rules ms) mode because other p
+    (subst (λ zs. IsTextRefused limits mode (ordered rules zs) other)
+    (one_accepted limits mode bytes ns ms also accepted) q)
 
 pub ordered_has_no_error : OrderedHasNoError
-ordered_has_no_error limits rules bytes written because a (inl p) =
-    (outcome limits).not_both bytes a.messages because a.accepts p
-ordered_has_no_error limits rules bytes written because a (inr (ms, accepted, p)) =
+ordered_has_no_error limits mode rules bytes written because a (inl p) =
+    (outcome limits mode).not_both bytes a.messages because a.accepts p
+ordered_has_no_error limits mode rules bytes written because a (inr (ms, accepted, p)) =
     no_error
-    (subst (λ zs. IsTextRefused limits (ordered rules zs) because)
-    (one_accepted limits bytes ms a.messages accepted a.accepts) p)
+    (subst (λ zs. IsTextRefused limits mode (ordered rules zs) because)
+    (one_accepted limits mode bytes ms a.messages accepted a.accepts) p)
   where
-    no_error : IsTextRefused limits (ordered rules a.messages) because → ⊥
+    no_error : IsTextRefused limits mode (ordered rules a.messages) because → ⊥
     no_error (inl (n, is, q)) = not_allowed limits (ordered rules a.messages) n q a.fits
-    no_error (inr (fits, q)) =
-        (outcome limits).not_both (text (ordered rules a.messages)) (ordered rules a.messages)
+    no_error (inr (fits, q, e)) =
+        (outcome limits mode).not_both (text (ordered rules a.messages)) (ordered rules a.messages)
         because
-        (subst (λ t. (accepting limits Whole).IsAccepted t (ordered rules a.messages)) a.text_is
+        (subst (λ t. (accepting limits mode).IsAccepted t (ordered rules a.messages)) a.text_is
         a.accepted)
         q

@@ -13,7 +13,7 @@ use Rattle.dap_message.specs.Message.{Sent}
 use Rattle.dap_recording.proofs.Records.{readable}
 use Rattle.dap_recording.specs.RecordReading.{RecordReading}
 use Rattle.dap_recording.specs.declared.record.Record.{Record as WholeRecord}
-use Rattle.dap_rename.specs.declared.mode.Mode.TheVariants.{Whole}
+use Rattle.dap_rename.specs.declared.mode.Mode.{Mode}
 use Rattle.dap_input.specs.InputSteps.{RefusesOne}
 use Rattle.dap_input.specs.Inputs.{Fault, Input, IsRefusedAt, refused, read_fault}
 use Rattle.dap_input.specs.ItemReading.{StandsForRecord, record_items}
@@ -35,12 +35,12 @@ use Rattle.dap_normal.proofs.AcceptingFacts.{accepted_facts, message_once, value
 use Rattle.dap_normal.proofs.WholeInput.{memory}
 
 -- A reader of records gives the records that are judged.
-reads_records : (limits : Limits)
-    → ReadsAs (accepting limits Whole) (record_items limits.frame) held_of
-reads_records limits = record {
+reads_records : (limits : Limits) (mode : Mode)
+    → ReadsAs (accepting limits mode) (record_items limits.frame) held_of
+reads_records limits mode = record {
   records = readable limits.frame;
-  judged = value_laws limits Whole;
-  accepted = accepted_facts limits Whole;
+  judged = value_laws limits mode;
+  accepted = accepted_facts limits mode;
   item_of = λ bytes whole is. is;
   fault_of = λ bytes cause ends. ends;
   open_of = λ bytes is_open. is_open;
@@ -51,63 +51,63 @@ abbrev pub start : List ℕ → GivenBytes
 start recording = record { left = recording; given = 0 }
 
 -- The records before the next one have these messages.
-abbrev pub Reading : Limits → List ℕ → GivenBytes → Records RecordReading → List Sent → Type 0
-Reading limits recording reader records messages =
-    loop.Going (accepting limits Whole) (StandsForRecord limits.frame) memory (start recording)
+abbrev pub Reading : Limits → Mode → List ℕ → GivenBytes → Records RecordReading → List Sent → Type 0
+Reading limits mode recording reader records messages =
+    loop.Going (accepting limits mode) (StandsForRecord limits.frame) memory (start recording)
     reader records messages
 
-module _ (limits : Limits) (recording : List ℕ) where
+module _ (limits : Limits) (mode : Mode) (recording : List ℕ) where
   pub none_read : (reader : GivenBytes) (records : Records RecordReading)
       → reader ≡ start recording → IsAtStart (StandsForRecord limits.frame) limits.input records
-      → Reading limits recording reader records []
+      → Reading limits mode recording reader records []
   none_read reader records same at_start =
-      subst (λ r. Reading limits recording r records []) (sym same)
-      (loop.at_start (accepting limits Whole) (record_items limits.frame) held_of
-      (reads_records limits) (StandsForRecord limits.frame) memory (start recording) records
+      subst (λ r. Reading limits mode recording r records []) (sym same)
+      (loop.at_start (accepting limits mode) (record_items limits.frame) held_of
+      (reads_records limits mode) (StandsForRecord limits.frame) memory (start recording) records
       at_start)
 
   module _ (reader : GivenBytes) (records : Records RecordReading) (messages : List Sent)
-      (was : Reading limits recording reader records messages) where
+      (was : Reading limits mode recording reader records messages) where
     pub few_records : limits.input ≤ 2 ^ 62 → records.number < 2 ^ 63
     few_records =
-        loop.small_number (accepting limits Whole) (record_items limits.frame) held_of
-        (reads_records limits) (StandsForRecord limits.frame) memory (start recording) reader
+        loop.small_number (accepting limits mode) (record_items limits.frame) held_of
+        (reads_records limits mode) (StandsForRecord limits.frame) memory (start recording) reader
         records messages was
 
     pub few_given : limits.input ≤ 2 ^ 62
         → reader.given + (records.pieces.limit - records.pieces.taken) < 2 ^ 63
     few_given most =
-        loop.small_count (accepting limits Whole) (record_items limits.frame) held_of
-        (reads_records limits) (StandsForRecord limits.frame) memory (start recording) reader
+        loop.small_count (accepting limits mode) (record_items limits.frame) held_of
+        (reads_records limits mode) (StandsForRecord limits.frame) memory (start recording) reader
         records messages was most (omega arith)
 
-module _ (limits : Limits) (recording : List ℕ) (all : List Sent)
-    (accepted : IsAccepted limits Whole recording all) where
+module _ (limits : Limits) (mode : Mode) (recording : List ℕ) (all : List Sent)
+    (accepted : IsAccepted limits mode recording all) where
   -- ---- the next message
 
   module _ (messages : List Sent) (item tail : List ℕ) (held : Held)
-      (is_item : IsItem (accepting limits Whole).records item held) where
+      (is_item : IsItem (accepting limits mode).records item held) where
     abbrev Next : Type 0
-    Next = (m : Sent) × IsNext limits Whole messages held m
+    Next = (m : Sent) × IsNext limits mode messages held m
 
     some_next : (used : ℕ) (behind : List ℕ) (last : List Sent)
-        → Run (accepting limits Whole) messages used behind last → behind ≡ item ++ tail → Next
+        → Run (accepting limits mode) messages used behind last → behind ≡ item ++ tail → Next
     unfolding Run
     some_next used behind [] run is =
-        let some = some_bytes (accepting limits Whole) (readable limits.frame) item held is_item in
+        let some = some_bytes (accepting limits mode) (readable limits.frame) item held is_item in
         absurd (omega (arith, some, ap length (sym run ∙ is), length-append item tail))
     some_next used behind (m ∷ last) (front, more, split, passes, run) is =
         let one = one_item (readable limits.frame).grammar item front tail more held passes.held
         (sym is ∙ split) is_item passes.is_record in
-        (m, subst (λ h. IsNext limits Whole messages h m) (sym one.1) passes.is_next)
+        (m, subst (λ h. IsNext limits mode messages h m) (sym one.1) passes.is_next)
 
     -- The next record of the recording is accepted.
     next_in : (front : List ℕ) → recording ≡ front ++ (item ++ tail)
-        → IsAccepted limits Whole front messages → Next
+        → IsAccepted limits mode front messages → Next
     next_in front split before =
-        let facts = accepted_facts limits Whole in
-        let on : GoesOn (accepting limits Whole) [] 0 front messages recording all =
-        run_goes_on (accepting limits Whole) (readable limits.frame) (value_laws limits Whole) [] 0
+        let facts = accepted_facts limits mode in
+        let on : GoesOn (accepting limits mode) [] 0 front messages recording all =
+        run_goes_on (accepting limits mode) (readable limits.frame) (value_laws limits mode) [] 0
         front recording (item ++ tail) [] messages all (facts.run_of_accepted front messages before)
         (facts.run_of_accepted recording all accepted) (sym split ∙ sym (append-nil recording))
         (omega (arith, ap length split, length-append front (item ++ tail))) in
@@ -115,7 +115,7 @@ module _ (limits : Limits) (recording : List ℕ) (all : List Sent)
         (append_cancel_left front on.behind (item ++ tail) (sym on.bytes_are ∙ split))
 
   module _ (reader : GivenBytes) (records : Records RecordReading) (messages : List Sent)
-      (was : Reading limits recording reader records messages)
+      (was : Reading limits mode recording reader records messages)
       (new : Records RecordReading) (after : GivenBytes) where
     abbrev Reads : Result (Option WholeRecord) Refused → Type 0
     Reads answer = ReadsNext (record_items limits.frame) (StandsForRecord limits.frame) memory
@@ -137,38 +137,38 @@ module _ (limits : Limits) (recording : List ℕ) (all : List Sent)
           ∙ ap (λ t. front ++ t) (append_assoc item new.pieces.unread after.left)
 
       pub one_more : (m : Sent) → IsMessage (held_of whole) m
-          → Reading limits recording after new (messages ++ m ∷ [])
+          → Reading limits mode recording after new (messages ++ m ∷ [])
       one_more m is =
           let next = next_in messages read.finds.1.front (new.pieces.unread ++ after.left)
           (held_of whole) read.finds.1.is_record was.behind.front split_at was.behind.accepted in
           let same = message_once (held_of whole) next.0 m next.1.is_message is in
-          loop.on (accepting limits Whole) (record_items limits.frame) held_of
-          (reads_records limits) (StandsForRecord limits.frame) memory (start recording) reader
+          loop.on (accepting limits mode) (record_items limits.frame) held_of
+          (reads_records limits mode) (StandsForRecord limits.frame) memory (start recording) reader
           records messages was new after whole read m
-          (subst (IsNext limits Whole messages (held_of whole)) same next.1)
+          (subst (IsNext limits mode messages (held_of whole)) same next.1)
 
       pub fewer : (new.pieces.limit - new.pieces.taken) + length new.pieces.unread
           < (records.pieces.limit - records.pieces.taken) + length records.pieces.unread
       fewer =
-          loop.fewer_left (accepting limits Whole) (record_items limits.frame) held_of
-          (reads_records limits) (StandsForRecord limits.frame) memory (start recording) reader
+          loop.fewer_left (accepting limits mode) (record_items limits.frame) held_of
+          (reads_records limits mode) (StandsForRecord limits.frame) memory (start recording) reader
           records messages was new after whole read
 
     -- ---- the end
 
-    pub all_read : Reads (Ok None) → IsAccepted limits Whole recording messages
+    pub all_read : Reads (Ok None) → IsAccepted limits mode recording messages
     all_read read =
-        let end = loop.accepts_all (accepting limits Whole) (record_items limits.frame) held_of
-        (reads_records limits) (StandsForRecord limits.frame) memory (start recording) reader
+        let end = loop.accepts_all (accepting limits mode) (record_items limits.frame) held_of
+        (reads_records limits mode) (StandsForRecord limits.frame) memory (start recording) reader
         records messages was new after read in
-        subst (λ t. IsAccepted limits Whole t messages)
+        subst (λ t. IsAccepted limits mode t messages)
         (sym (end.came.came ∙ ap (λ t. end.whole ++ t) end.came.paused.0 ∙ append-nil end.whole))
         end.accepted
 
     -- ---- no record is refused
 
     module _ (because : Refused)
-        (one : RefusesOne (accepting limits Whole) memory (start recording) after new because) where
+        (one : RefusesOne (accepting limits mode) memory (start recording) after new because) where
       abbrev given_input : Input
       given_input = record { bytes = recording; failed = false }
 
@@ -181,20 +181,20 @@ module _ (limits : Limits) (recording : List ℕ) (all : List Sent)
       is_of (Some Failed) split paused = absurd (omega (arith, paused))
 
       no_fault : (fault : Fault)
-          → IsRefusedAt (accepting limits Whole) given_input one.number fault → ⊥
+          → IsRefusedAt (accepting limits mode) given_input one.number fault → ⊥
       no_fault (refused why) is = is.0.not_accepted all accepted
       no_fault read_fault is = true≢false (sym is.0)
 
-      not_refused : RefusesAt (accepting limits Whole) (so_far one.bytes one.stop) one.number
+      not_refused : RefusesAt (accepting limits mode) (so_far one.bytes one.stop) one.number
           because → ⊥
       not_refused says =
-          let here = refused_in (accepting limits Whole) (readable limits.frame)
-          (value_laws limits Whole) (accepted_facts limits Whole) one.bytes one.number because
+          let here = refused_in (accepting limits mode) (readable limits.frame)
+          (value_laws limits mode) (accepted_facts limits mode) one.bytes one.number because
           given_input one.stop (is_of one.stop one.came.came one.came.paused) says one.cut in
           no_fault here.fault here.is_refused
 
     only_memory : (because : Refused)
-        → RefusesOne (accepting limits Whole) memory (start recording) after new because
+        → RefusesOne (accepting limits mode) memory (start recording) after new because
         → because ≡ Memory
     only_memory Memory one = refl
     only_memory because one = absurd (not_refused because one one.says)
@@ -202,15 +202,15 @@ module _ (limits : Limits) (recording : List ℕ) (all : List Sent)
     pub not_read : (because : Refused) → Reads (Err because) → because ≡ Memory
     not_read because read =
         only_memory because
-        (loop.refuses_read (accepting limits Whole) (record_items limits.frame) held_of
-        (reads_records limits) (StandsForRecord limits.frame) memory (start recording) reader
+        (loop.refuses_read (accepting limits mode) (record_items limits.frame) held_of
+        (reads_records limits mode) (StandsForRecord limits.frame) memory (start recording) reader
         records messages was new after because read)
 
     pub no_message : (whole : WholeRecord) (because : Refused) → Reads (Ok (Some whole))
-        → RefusesHeld (Objects limits Whole messages (held_of whole)) records.number because
+        → RefusesHeld (Objects limits mode messages (held_of whole)) records.number because
         → because ≡ Memory
     no_message whole because read held =
         only_memory because
-        (loop.refuses_held (accepting limits Whole) (record_items limits.frame) held_of
-        (reads_records limits) (StandsForRecord limits.frame) memory (start recording) reader
+        (loop.refuses_held (accepting limits mode) (record_items limits.frame) held_of
+        (reads_records limits mode) (StandsForRecord limits.frame) memory (start recording) reader
         records messages was new after whole read because held)

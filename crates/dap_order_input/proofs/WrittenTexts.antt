@@ -18,7 +18,7 @@ use Rattle.dap_recording.proofs.Records.{record_grammar, readable}
 use Rattle.dap_items.proofs.Ends.{not_empty}
 use Rattle.dap_items.proofs.Streams as streams
 use Rattle.dap_rename.proofs.Lists.{each-append}
-use Rattle.dap_rename.specs.declared.mode.Mode.TheVariants.{Whole}
+use Rattle.dap_rename.specs.declared.mode.Mode.{Mode}
 use Rattle.dap_mask.specs.Swaps.{SwapRule}
 use Rattle.dap_input.specs.declared.limits.Limits.{Limits}
 use Rattle.dap_input.specs.Limits.{AreSound}
@@ -224,17 +224,25 @@ own_contents (m ∷ ms) all read_back = (
   own_contents ms (λ k d small. all (suc k) d (omega (arith, small))) read_back.1,
 )
 
-module _ (limits : Limits) (sound : AreSound limits) (rules : List SwapRule) where
+module _ (rules : List SwapRule) where
   ordered_own : (ms : List Sent) → All IsOwn ms → All IsOwn (ordered rules ms)
   ordered_own ms =
       All-permutation IsOwn ms (ordered rules ms)
       (reordered_permutation (free rules) ms (ordered rules ms) (to_ordered rules ms))
 
+  -- The records of the text hold the messages in order.
+  pub ordered_typed : (ms : List Sent) (records : List Held) → AreMessages records ms
+      → AllByRecursion IsReadBack (ordered rules ms)
+      → AreMessages (contents_of (ordered rules ms)) (ordered rules ms)
+  ordered_typed ms records typed =
+      own_contents (ordered rules ms) (ordered_own ms (all_own records ms typed))
+
   -- The text of the messages in order holds no others.
-  pub ordered_only : (bytes written : List ℕ) (ms others : List Sent)
-      → IsAccepted limits Whole bytes ms → IsTextOf limits (ordered rules ms) written
-      → IsAccepted limits Whole written others → others ≡ ordered rules ms
-  ordered_only bytes written ms others accepted is again =
+  pub ordered_only : (limits : Limits) (mode : Mode) → AreSound limits
+      → (bytes written : List ℕ) (ms others : List Sent)
+      → IsAccepted limits mode bytes ms → IsTextOf limits (ordered rules ms) written
+      → IsAccepted limits mode written others → others ≡ ordered rules ms
+  ordered_only limits mode sound bytes written ms others accepted is again =
       let ns = ordered rules ms in
       let recording : IsRecording limits.frame written (contents_of ns) =
       subst (λ t. IsRecording limits.frame t (contents_of ns)) (sym is.text_is)
@@ -244,4 +252,4 @@ module _ (limits : Limits) (sound : AreSound limits) (rules : List SwapRule) whe
       again.records (contents_of ns) again.recording recording in
       messages_once (contents_of ns) others ns
       (subst (λ r. AreMessages r others) records again.typed)
-      (own_contents ns (ordered_own ms (all_own accepted.records ms accepted.typed)) is.read_back)
+      (ordered_typed ms accepted.records accepted.typed is.read_back)

@@ -1,24 +1,27 @@
 -- The text that a recording is ordered to, and the errors for which it is not ordered. Source: own,
--- over recordings, the rules of their sessions, and the order of their messages.
+-- over recordings, the rules of their sessions, and the order of their messages. The mode is that
+-- of the names of ids: it says how many ids and how long a normal form a recording may have.
 use Rattle.std.specs.Prelude.{◌≡◌, ◌⊎◌, ℕ, ◌+◌, List, [], ◌∷◌, ◌++◌, length}
 use Rattle.dap_message.specs.Message.{Sent}
 use Rattle.dap_mask.specs.Swaps.{SwapRule}
-use Rattle.dap_rename.specs.declared.mode.Mode.TheVariants.{Whole}
+use Rattle.dap_rename.specs.declared.mode.Mode.{Mode}
+use Rattle.dap_rename.specs.declared.mode.Mode.TheVariants.{PerStop}
 use Rattle.dap_input.specs.declared.limits.Limits.{Limits}
 use Rattle.dap_input.specs.declared.refused.Refused.{Refused}
-use Rattle.dap_input.specs.declared.refused.Refused.TheVariants.{Grew, Memory}
+use Rattle.dap_input.specs.declared.refused.Refused.TheVariants.{Grew, Memory, TooManyIds}
 use Rattle.dap_input.specs.Refusals.{IsRefused}
 use Rattle.dap_normal.specs.Accepting.{Fits, IsAccepted, accepting, text}
 use Rattle.dap_swaps.specs.Order.{ordered}
 
 -- The recording is accepted, and this is the text of its messages in order: for each message the
 -- record of its canonical content. The limits allow the text, and it is accepted as these messages.
-pub record Orders (limits : Limits) (rules : List SwapRule) (bytes written : List ℕ) : Type 0 where
+pub record Orders (limits : Limits) (mode : Mode) (rules : List SwapRule)
+    (bytes written : List ℕ) : Type 0 where
   pub messages : List Sent
-  pub accepts : IsAccepted limits Whole bytes messages
+  pub accepts : IsAccepted limits mode bytes messages
   pub text_is : written ≡ text (ordered rules messages)
   pub fits : Fits limits (ordered rules messages)
-  pub accepted : IsAccepted limits Whole written (ordered rules messages)
+  pub accepted : IsAccepted limits mode written (ordered rules messages)
 
 -- The text of the messages before this one keeps within the limits, and with the message of this
 -- number it does not.
@@ -31,22 +34,30 @@ pub record PassesLimit (limits : Limits) (messages : List Sent) (number : ℕ) :
   pub fits : Fits limits before
   pub too_long : Fits limits (before ++ message ∷ []) → ⊥
 
+-- The errors that the text can have: it or its normal form is too long; or, if ids are numbered per
+-- stop, it has too many in a class, since a message that passes a stop has its ids in another class.
+abbrev pub IsTextError : Mode → Refused → Type 0
+IsTextError mode (Grew number) = Unit {0}
+IsTextError mode (TooManyIds number) = mode ≡ PerStop
+IsTextError mode because = ⊥
+
 -- The text of the messages is not accepted within the limits: it passes a limit at the record of
 -- this number; or the limits allow it, and this is its first error.
-abbrev pub IsTextRefused : Limits → List Sent → Refused → Type 0
-IsTextRefused limits messages because =
+abbrev pub IsTextRefused : Limits → Mode → List Sent → Refused → Type 0
+IsTextRefused limits mode messages because =
     ((number : ℕ) × (because ≡ Grew number) × PassesLimit limits messages number)
-    ⊎ (Fits limits messages × IsRefused (accepting limits Whole) (text messages) because)
+    ⊎ (Fits limits messages × IsRefused (accepting limits mode) (text messages) because
+    × IsTextError mode because)
 
 -- The recording is not ordered: this is its first error; or it is accepted, and the text of its
 -- messages in order is not.
-abbrev pub IsNotOrdered : Limits → List SwapRule → List ℕ → Refused → Type 0
-IsNotOrdered limits rules bytes because =
-    IsRefused (accepting limits Whole) bytes because
-    ⊎ ((messages : List Sent) × IsAccepted limits Whole bytes messages
-    × IsTextRefused limits (ordered rules messages) because)
+abbrev pub IsNotOrdered : Limits → Mode → List SwapRule → List ℕ → Refused → Type 0
+IsNotOrdered limits mode rules bytes because =
+    IsRefused (accepting limits mode) bytes because
+    ⊎ ((messages : List Sent) × IsAccepted limits mode bytes messages
+    × IsTextRefused limits mode (ordered rules messages) because)
 
 -- The recording is not ordered for this, or an allocation failed.
-abbrev pub RefusesToOrder : Limits → List SwapRule → List ℕ → Refused → Type 0
-RefusesToOrder limits rules bytes Memory = Unit {0}
-RefusesToOrder limits rules bytes because = IsNotOrdered limits rules bytes because
+abbrev pub RefusesToOrder : Limits → Mode → List SwapRule → List ℕ → Refused → Type 0
+RefusesToOrder limits mode rules bytes Memory = Unit {0}
+RefusesToOrder limits mode rules bytes because = IsNotOrdered limits mode rules bytes because

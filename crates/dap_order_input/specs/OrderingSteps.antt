@@ -10,7 +10,7 @@ use Rattle.dap_device.specs.declared.reading.Stop.TheVariants.{Failed}
 use Rattle.dap_message.specs.Message.{Sent}
 use Rattle.dap_mask.specs.Swaps.{SwapRule}
 use Rattle.dap_recording.specs.declared.record_fault.RecordCause.TheVariants.{Cut}
-use Rattle.dap_rename.specs.declared.mode.Mode.TheVariants.{Whole}
+use Rattle.dap_rename.specs.declared.mode.Mode.{Mode}
 use Rattle.dap_input.specs.declared.limits.Limits.{Limits}
 use Rattle.dap_input.specs.declared.refused.Refused.{Refused}
 use Rattle.dap_input.specs.declared.refused.Refused.TheVariants.{Grew, Memory, ReadFault}
@@ -21,8 +21,8 @@ use Rattle.dap_swaps.specs.Order.{ordered}
 use Rattle.dap_order_input.specs.Ordering.{PassesLimit}
 
 -- The recording is accepted.
-abbrev pub IsSession : Limits → List ℕ → Type 0
-IsSession limits bytes = (messages : List Sent) × IsAccepted limits Whole bytes messages
+abbrev pub IsSession : Limits → Mode → List ℕ → Type 0
+IsSession limits mode bytes = (messages : List Sent) × IsAccepted limits mode bytes messages
 
 -- The content of the message is read as its document, whose ids are then plain numbers.
 abbrev pub IsReadBack : Sent → Type 0
@@ -62,9 +62,10 @@ abbrev pub AreAt : List Sent → List ℕ → List Sent → Type 0
 AreAt all places messages = map (slice_get all) places ≡ map Some messages
 
 -- The text of the recording in order was made; or it passes a limit.
-abbrev pub WritesInOrder : Limits → List SwapRule → List ℕ → Result (Vec ℕ Global) Refused → Type 0
-WritesInOrder limits rules bytes result =
-    (messages : List Sent) → IsAccepted limits Whole bytes messages
+abbrev pub WritesInOrder : Limits → Mode → List SwapRule → List ℕ
+    → Result (Vec ℕ Global) Refused → Type 0
+WritesInOrder limits mode rules bytes result =
+    (messages : List Sent) → IsAccepted limits mode bytes messages
     → Writes limits (ordered rules messages) result
 
 -- What `order` returns for an input whose reader stopped for this reason, if ordering the bytes that

@@ -1,7 +1,7 @@
 //! Theorems on ordered recordings, for all byte strings. Each function does nothing: a call of it
 //! gives its clauses to a proof.
-ghost use Rattle.dap_order_input.specs.Laws.{EqualOrderedTexts, OneOrderError, OneOrderedText};
-ghost use Rattle.dap_order_input.specs.Laws.{OrderedHasNoError, OrderedIsAccepted};
+ghost use Rattle.dap_order_input.specs.Laws.{EqualOrderedTexts, EqualTextsInOrder, OneOrderError};
+ghost use Rattle.dap_order_input.specs.Laws.{OneOrderedText, OrderedHasNoError, OrderedIsAccepted};
 ghost use Rattle.dap_order_input.specs.Laws.{OrderedKeepsOpen, OrderedStandsStill};
 
 /// A recording is ordered to one text, or it is not ordered for one error, and not both.
@@ -19,8 +19,11 @@ pub fn ordered_text()
     ensures still { OrderedStandsStill }
 {}
 
-/// Two recordings are ordered and then normalised to equal texts if and only if swaps of free
-/// neighbours and a one-to-one renaming turn the messages of one into those of the other.
+/// Two recordings are ordered and then normalised in `Mode::Whole` to equal texts if and only if
+/// swaps of free neighbours and a one-to-one renaming turn the messages of one into those of the
+/// other. In each mode, `Mode::PerStop` too, the texts are equal if and only if a renaming of that
+/// mode turns the ordered messages of one into those of the other.
 pub fn equal_ordered_texts()
-    ensures { EqualOrderedTexts }
+    ensures whole { EqualOrderedTexts }
+    ensures each_mode { EqualTextsInOrder }
 {}

@@ -5,6 +5,7 @@
 //! the theorems.
 #![tactic(auto)]
 
+mod checking;
 pub mod laws;
 mod ordering;
 mod reading;

@@ -6,12 +6,12 @@ ghost use Rattle.dap_input.specs.Limits.{AreSound};
 ghost use Rattle.dap_order_input.specs.Ordering.{IsNotOrdered, Orders, RefusesToOrder};
 ghost use Rattle.dap_order_input.specs.OrderingSteps.{IsSession, WritesInOrder, result_of_input};
 
+use crate::checking::check_bytes;
 use crate::reading::read_messages;
 use crate::writing::text_of_places;
 use dap_device::{Sink, Source, Stop, read_all, write_and_flush};
 use dap_input::{Limits, Refused};
 use dap_mask::SwapRule;
-use dap_normal::normalise_bytes;
 use dap_recording::RecordCause;
 use dap_rename::Mode;
 use dap_swaps::put_in_order;
@@ -21,14 +21,19 @@ use std::alloc::Global;
 ///
 /// [`put_in_order`] defines the order. Each record is written with the canonical content of its
 /// message; ids are unchanged. The recording is checked as [`check`](dap_normal::check) checks it
-/// with `Mode::Whole`, and so is the text that is returned.
+/// in this mode, and so is the text that is returned.
+///
+/// The messages of the recording and the text are held in memory. The recording is read twice, once
+/// to check it and once for its messages, and the text is read once.
 ///
 /// # Errors
 ///
 /// The first error of the recording. Records are counted from 1 in their order in the recording.
 ///
-/// `Grew`, if the recording is accepted, but its text in order is not: the text or its normal form
-/// exceeds `limits`. This record is counted in the order of the text.
+/// If the recording is accepted, but its text in order is not: `Grew`, if the text or its normal
+/// form exceeds `limits`; in `Mode::PerStop` also `TooManyIds`, since the ids of a message that
+/// passes a `stopped` event are counted in another class. This record is counted from 1 in the
+/// order of the text.
 ///
 /// `Memory`: an allocation failed.
 pub fn order_bytes(
@@ -36,15 +41,16 @@ pub fn order_bytes(
     rules: &[SwapRule],
     recording: &[u8],
     limits: Limits,
+    mode: Mode,
 ) -> Result<Vec<u8>, Refused>
     requires limits { AreSound limits }
     ensures ok { IfOk result
-        (λ text. Orders limits (swaps_of rules.now) recording.now text.items) }
-    ensures err { IfErr result (RefusesToOrder limits (swaps_of rules.now) recording.now) }
+        (λ text. Orders limits mode (swaps_of rules.now) recording.now text.items) }
+    ensures err { IfErr result (RefusesToOrder limits mode (swaps_of rules.now) recording.now) }
 {
-    normalise_bytes(alloc, recording, limits, Mode::Whole)?;
-    let text = text_in_order(alloc, rules, recording, limits)?;
-    normalise_bytes(alloc, text.as_slice(), limits, Mode::Whole)?;
+    check_bytes(alloc, recording, limits, mode)?;
+    let text = text_in_order(alloc, rules, recording, limits, mode)?;
+    check_bytes(alloc, text.as_slice(), limits, mode)?;
     Ok(text)
 }
 
@@ -55,12 +61,13 @@ fn text_in_order(
     rules: &[SwapRule],
     recording: &[u8],
     limits: Limits,
+    mode: Mode,
 ) -> Result<Vec<u8>, Refused>
     requires limits { AreSound limits }
-    requires session { IsSession limits recording.now }
-    ensures { WritesInOrder limits (swaps_of rules.now) recording.now result }
+    requires session { IsSession limits mode recording.now }
+    ensures { WritesInOrder limits mode (swaps_of rules.now) recording.now result }
 {
-    let messages = read_messages(alloc, recording, limits)?;
+    let messages = read_messages(alloc, recording, limits, mode)?;
     let Ok(places) = put_in_order(alloc, rules, messages.as_slice()) else {
         return Err(Refused::Memory);
     };
@@ -86,6 +93,7 @@ pub fn order<R: Source, W: Sink>(
     reader: &mut R,
     writer: &mut W,
     limits: Limits,
+    mode: Mode,
 ) -> Result<(), Refused>
     requires limits { AreSound limits }
     requires given { R.given reader.old < 2 ^ 62 }
@@ -94,8 +102,8 @@ pub fn order<R: Source, W: Sink>(
 
     // The text of the input in order is written and flushed, or an error is returned and nothing
     // is written. An error of a device is returned if and only if that device failed.
-    ensures answer { Answers R.Source W.Sink limits.input (Orders limits (swaps_of rules.now))
-        (IsNotOrdered limits (swaps_of rules.now)) reader.old reader.new writer.old writer.new
+    ensures answer { Answers R.Source W.Sink limits.input (Orders limits mode (swaps_of rules.now))
+        (IsNotOrdered limits mode (swaps_of rules.now)) reader.old reader.new writer.old writer.new
         result }
 
     // It reads at most one byte past the limit.
@@ -105,7 +113,7 @@ pub fn order<R: Source, W: Sink>(
         return Err(Refused::Memory);
     };
     let text = text_of_input(
-        order_bytes(alloc, rules, input.bytes.as_slice(), limits),
+        order_bytes(alloc, rules, input.bytes.as_slice(), limits, mode),
         input.stop,
     )?;
     match write_and_flush(writer, text.as_slice()) {

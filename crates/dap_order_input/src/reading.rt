@@ -1,7 +1,6 @@
 //! Reads the messages of a recording that is accepted.
 ghost use Rattle.std.specs.Prelude.{◌≡◌, IfErr, IfOk, map};
 ghost use Rattle.dap_message.specs.Message.{sent};
-ghost use Rattle.dap_rename.specs.declared.mode.Mode.TheVariants.{Whole};
 ghost use Rattle.dap_input.specs.ItemReading.{StandsForRecord};
 ghost use Rattle.dap_input.specs.Limits.{AreSound};
 ghost use Rattle.dap_input.specs.RecordSteps.{IsAtStart};
@@ -13,27 +12,29 @@ use dap_input::{Limits, Records, Refused};
 use dap_message::Message;
 use dap_normal::read_message;
 use dap_recording::RecordReader;
+use dap_rename::Mode;
 use dap_tree::Scratch;
 use std::alloc::Global;
 
-/// Returns the messages of a recording that is accepted within these limits. The only error is
-/// `Memory`.
+/// Returns the messages of a recording that is accepted within these limits in this mode. The only
+/// error is `Memory`.
 pub fn read_messages(
     alloc: Global,
     recording: &[u8],
     limits: Limits,
+    mode: Mode,
 ) -> Result<Vec<Message>, Refused>
     requires sound { AreSound limits }
-    requires session { IsSession limits recording.now }
+    requires session { IsSession limits mode recording.now }
     ensures ok { IfOk result
-        (λ messages. IsAccepted limits Whole recording.now (map sent messages.items)) }
+        (λ messages. IsAccepted limits mode recording.now (map sent messages.items)) }
     ensures only { IfErr result (λ because. because ≡ Refused.Memory) }
 {
     let record_reader = RecordReader::new(alloc, limits.frame);
     let Ok(mut records) = Records::new(alloc, record_reader, limits.input) else {
         return Err(Refused::Memory);
     };
-    read_records(alloc, &mut records, recording, limits)
+    read_records(alloc, &mut records, recording, limits, mode)
 }
 
 /// Returns the messages of the records, none of which has been read.
@@ -42,12 +43,13 @@ fn read_records(
     records: &mut Records<RecordReader>,
     recording: &[u8],
     limits: Limits,
+    mode: Mode,
 ) -> Result<Vec<Message>, Refused>
     requires sound { AreSound limits }
-    requires session { IsSession limits recording.now }
+    requires session { IsSession limits mode recording.now }
     requires start { IsAtStart (StandsForRecord limits.frame) limits.input records.old }
     ensures ok { IfOk result
-        (λ messages. IsAccepted limits Whole recording.now (map sent messages.items)) }
+        (λ messages. IsAccepted limits mode recording.now (map sent messages.items)) }
     ensures only { IfErr result (λ because. because ≡ Refused.Memory) }
 {
     let mut reader = MemorySource::new(recording);

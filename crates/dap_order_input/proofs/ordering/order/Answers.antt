@@ -11,11 +11,11 @@ returns-in_err-text-clause-answer g c =
     let because = err_from_is_err_and c.from_residual.result c.from_residual.ensures.1 in
     let rules = swaps_of c.args.rules.now in
     rw (because.1, because.2)
-    (returns_error c.args.limits rules c.in-Ok.input.bytes.items g.R.Source c.args.reader.now
+    (returns_error c.args.limits c.args.mode rules c.in-Ok.input.bytes.items g.R.Source c.args.reader.now
     c.read_all.new.reader g.W.Sink c.args.writer.now c.order_bytes.result c.in-Ok.input.stop
     c.in-Ok.ensures.came
-    (subst (λ bytes. IfOk c.order_bytes.result (λ text. Orders c.args.limits rules bytes
-    text.items)) c.as_slice.ensures.value c.order_bytes.ensures.ok)
-    (subst (λ bytes. IfErr c.order_bytes.result (RefusesToOrder c.args.limits rules bytes))
+    (subst (λ bytes. IfOk c.order_bytes.result (λ text. Orders c.args.limits c.args.mode rules
+    bytes text.items)) c.as_slice.ensures.value c.order_bytes.ensures.ok)
+    (subst (λ bytes. IfErr c.order_bytes.result (RefusesToOrder c.args.limits c.args.mode rules bytes))
     c.as_slice.ensures.value c.order_bytes.ensures.err)
     c.in_err-text.field-0.0 (sym c.text_of_input.ensures ∙ c.in_err-text.was))

@@ -11,8 +11,8 @@ returns c = λ messages accepted.
     let rules = swaps_of c.args.rules.now in
     let read = map sent c.in_ok-messages.messages.items in
     let same : read ≡ messages =
-    one_accepted c.args.limits c.args.recording.now read messages c.in_ok-messages.ensures.ok
-    accepted in
+    one_accepted c.args.limits c.args.mode c.args.recording.now read messages
+    c.in_ok-messages.ensures.ok accepted in
     let at : AreAt read c.in-Ok.places.items (ordered rules read) =
     subst (λ ms. AreAt (map sent ms) c.in-Ok.places.items (ordered rules (map sent ms)))
     c.as_slice.ensures.value c.in-Ok.ensures.order in

@@ -5,7 +5,7 @@ use Rattle.dap_order_input.proofs.reading.read_records.Given as goal
 
 abbrev pub invariant-loop-messages : goal.invariant-loop-messages
 invariant-loop-messages l =
-    Reading l.fn.limits l.recording l.reader l.records (map sent l.messages.items)
+    Reading l.fn.limits l.fn.mode l.recording l.reader l.records (map sent l.messages.items)
 
 abbrev pub decreases-loop-messages : goal.decreases-loop-messages
 decreases-loop-messages l =

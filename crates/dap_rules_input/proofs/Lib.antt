@@ -1,0 +1,4 @@
+pub mod MemoryRuns
+pub mod Applied
+pub mod InputAnswers
+pub mod OneOutcome

@@ -1,0 +1,41 @@
+-- What `read_by_rules` returns. Source: own.
+use Rattle.std.specs.Prelude.{ℕ, List, Result, Ok, Err, Vec}
+use Rattle.std.specs.declared.alloc.Global.{Global}
+use Rattle.dap_device.specs.declared.device.Source.{Ghosts as Source}
+use Rattle.dap_device.specs.declared.reading.Stop.{Stop}
+use Rattle.dap_device.specs.Reading.{HasCome}
+use Rattle.dap_mask.specs.Mask.{Mask}
+use Rattle.dap_rename.specs.declared.mode.Mode.{Mode}
+use Rattle.dap_input.specs.declared.limits.Limits.{Limits}
+use Rattle.dap_input.specs.declared.refused.Refused.{Refused}
+use Rattle.dap_input.specs.Engine.{Accepts, FailsToRead, RefusesInput}
+use Rattle.dap_rules_input.specs.Applying.{AppliesRules, IsRefusedByRules}
+use Rattle.dap_rules_input.specs.declared.fault.RulesRefused.{RulesRefused}
+use Rattle.dap_rules_input.specs.declared.fault.RulesRefused.TheVariants as because
+
+-- A reader, by what is known of its bytes and its failures, and rules.
+module _ {R : Type 0} (source : Source R) (limits : Limits) (mode : Mode) (mask : Mask) where
+  -- The rules cannot mask the recording, for this.
+  abbrev pub CannotMask : List ℕ → Refused → Type 0
+  CannotMask recording refused =
+      IsRefusedByRules limits mode mask recording (because.Mask refused)
+
+  -- These bytes came. The rules mask them, and cannot put them in order, for this.
+  pub record CannotOrder (old new : R) (refused : Refused) : Type 0 where
+    pub bytes : List ℕ
+    pub stop : Stop
+    pub came : HasCome source old new limits.input bytes stop
+    pub is_refused : IsRefusedByRules limits mode mask bytes (because.Order refused)
+
+  -- The whole input gives the text; or the first step that fails is named. An input that cannot be
+  -- masked because it ends too early is reported only if the reader came to its end. If the reader
+  -- failed, the bytes that came have no error but that they may end too early to be masked.
+  abbrev pub ReadsByRules : R → R → Result (Vec ℕ Global) RulesRefused → Type 0
+  ReadsByRules old new (Ok text) =
+      Accepts source limits.input (AppliesRules limits mode mask) old new text.items
+  ReadsByRules old new (Err (because.Mask refused)) =
+      RefusesInput source limits.input CannotMask old new refused
+  ReadsByRules old new (Err (because.Order refused)) = CannotOrder old new refused
+  ReadsByRules old new (Err because.ReadFault) =
+      FailsToRead source limits.input (AppliesRules limits mode mask) CannotMask old new
+  ReadsByRules old new (Err because.Memory) = Unit {0}

@@ -1,0 +1,20 @@
+-- The laws that the functions of `laws` state.
+use Rattle.std.specs.Prelude.{◌≡◌, ℕ, List}
+use Rattle.dap_mask.specs.Mask.{Mask}
+use Rattle.dap_rename.specs.declared.mode.Mode.{Mode}
+use Rattle.dap_input.specs.declared.limits.Limits.{Limits}
+use Rattle.dap_rules_input.specs.Applying.{AppliesRules, IsRefusedByRules}
+use Rattle.dap_rules_input.specs.declared.fault.RulesRefused.{RulesRefused}
+use Rattle.dap_rules_input.specs.declared.fault.RulesRefused.TheVariants.{Memory}
+
+-- Rules make at most one text of a recording.
+abbrev pub OneTextByRules : Type 0
+OneTextByRules = (limits : Limits) (mode : Mode) (mask : Mask) (recording written other : List ℕ)
+    → AppliesRules limits mode mask recording written
+    → AppliesRules limits mode mask recording other → written ≡ other
+
+-- If rules make a text of a recording, there is no error, unless an allocation fails.
+abbrev pub AppliedHasNoError : Type 0
+AppliedHasNoError = (limits : Limits) (mode : Mode) (mask : Mask) (recording written : List ℕ)
+    (because : RulesRefused) → AppliesRules limits mode mask recording written
+    → IsRefusedByRules limits mode mask recording because → because ≡ Memory

@@ -1,0 +1,5 @@
+pub mod Applying
+pub mod ApplyingSteps
+pub mod Inputs
+pub mod Laws
+pub mod Memory

@@ -1,0 +1,99 @@
+//! Applies the rules of a file to a recording in memory.
+ghost use Rattle.std.specs.Prelude.{◌≡◌, IfErr, IfOk};
+ghost use Rattle.dap_input.specs.Limits.{AreSound};
+ghost use Rattle.dap_mask.specs.KeptRules.{mask_of, swaps_of_mask};
+ghost use Rattle.dap_rules_input.specs.Applying.{AppliesRules, IsRefusedByRules, OrdersBy};
+ghost use Rattle.dap_rules_input.specs.Applying.{RefusesOrderBy};
+ghost use Rattle.dap_rules_input.specs.ApplyingSteps.{mask_refusal, order_refusal};
+
+use crate::fault::RulesRefused;
+use crate::masking::mask_bytes;
+use dap_input::{Limits, Refused};
+use dap_mask::MaskRules;
+use dap_order_input::order_bytes;
+use dap_rename::Mode;
+use std::alloc::Global;
+
+/// Puts a masked recording in order, as [`order_bytes`] does. Without rules for the order the
+/// recording is returned unchanged, and is not checked.
+///
+/// # Errors
+///
+/// Those of [`order_bytes`].
+pub fn order_masked(
+    alloc: Global,
+    rules: &MaskRules,
+    masked: Vec<u8>,
+    limits: Limits,
+    mode: Mode,
+) -> Result<Vec<u8>, Refused>
+    requires limits { AreSound limits }
+    ensures ok { IfOk result
+        (λ text. OrdersBy limits mode (swaps_of_mask rules.now) masked.items text.items) }
+    ensures err { IfErr result
+        (RefusesOrderBy limits mode (swaps_of_mask rules.now) masked.items) }
+{
+    let swaps = rules.swaps();
+    if swaps.is_empty() {
+        return Ok(masked);
+    }
+    order_bytes(alloc, swaps, masked.as_slice(), limits, mode)
+}
+
+/// Names the step that cannot mask a recording.
+fn mask_refusal(refused: Refused) -> RulesRefused
+    ensures { result ≡ mask_refusal refused }
+{
+    match refused {
+        Refused::Memory => RulesRefused::Memory,
+        refused => RulesRefused::Mask(refused),
+    }
+}
+
+/// Names the step that cannot put a recording in order.
+fn order_refusal(refused: Refused) -> RulesRefused
+    ensures { result ≡ order_refusal refused }
+{
+    match refused {
+        Refused::Memory => RulesRefused::Memory,
+        refused => RulesRefused::Order(refused),
+    }
+}
+
+/// Masks a recording, and then puts it in order if there are rules for the order.
+///
+/// Without rules for the order the masked text is returned, and its session is not checked.
+/// Otherwise the masked recording is checked as [`check`](dap_normal::check) checks it in this
+/// mode, and so is the text that is returned.
+///
+/// # Errors
+///
+/// The first step that fails, with its first error:
+///
+/// - `Mask`: the rules cannot mask a record of the recording.
+/// - `Order`: the masked recording, or its text in order, was rejected.
+/// - `Memory`: an allocation failed.
+pub fn apply_rules(
+    alloc: Global,
+    rules: &MaskRules,
+    recording: &[u8],
+    limits: Limits,
+    mode: Mode,
+) -> Result<Vec<u8>, RulesRefused>
+    requires limits { AreSound limits }
+
+    // The text is that of the recording and the rules, and an error names the first step that
+    // fails. It is never `ReadFault`.
+    ensures ok { IfOk result
+        (λ text. AppliesRules limits mode (mask_of rules.now) recording.now text.items) }
+    ensures err { IfErr result (IsRefusedByRules limits mode (mask_of rules.now) recording.now) }
+{
+    let masked = match mask_bytes(alloc, rules, recording, limits) {
+        Ok(masked) => masked,
+        Err(refused) => return Err(mask_refusal(refused)),
+    };
+    match order_masked(alloc, rules, masked, limits, mode) {
+        Ok(text) => Ok(text),
+        Err(refused) => Err(order_refusal(refused)),
+    }
+}

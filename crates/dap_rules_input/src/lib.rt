@@ -1,0 +1,19 @@
+//! Recordings to which the rules of a file are applied.
+//!
+//! [`apply_rules`] masks a recording and then puts it in order, if there are rules for the order.
+//! [`read_by_rules`] does this with a whole input. `specs/` defines the terms, and [`laws`] has the
+//! theorems.
+#![tactic(auto)]
+
+mod applying;
+mod fault;
+pub mod laws;
+mod masking;
+mod reading;
+mod text_sink;
+
+pub use applying::{apply_rules, order_masked};
+pub use fault::RulesRefused;
+pub use masking::mask_bytes;
+pub use reading::read_by_rules;
+pub use text_sink::{TextSink, is_out_of_memory};

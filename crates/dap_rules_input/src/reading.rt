@@ -1,0 +1,71 @@
+//! Applies the rules of a file to a whole input.
+ghost use Rattle.std.specs.Prelude.{◌≡◌, ◌+◌, ◌<◌, ◌≤◌, ◌^◌};
+ghost use Rattle.dap_input.specs.Limits.{AreSound};
+ghost use Rattle.dap_mask.specs.KeptRules.{mask_of};
+ghost use Rattle.dap_rules_input.specs.ApplyingSteps.{result_of_input};
+ghost use Rattle.dap_rules_input.specs.Inputs.{ReadsByRules};
+
+use crate::applying::apply_rules;
+use crate::fault::RulesRefused;
+use dap_device::{Source, Stop, read_all};
+use dap_input::{Limits, Refused};
+use dap_mask::MaskRules;
+use dap_recording::RecordCause;
+use dap_rename::Mode;
+use std::alloc::Global;
+
+/// Reads a recording and applies the rules to it, as [`apply_rules`] does.
+///
+/// It reads its whole input, at most one byte past `limits.input`. The input is held in memory
+/// while the rules are applied to it.
+///
+/// # Errors
+///
+/// Those of [`apply_rules`].
+///
+/// `ReadFault`: the reader failed, and [`apply_rules`] finds no error in the bytes read before,
+/// other than that the recording to be masked is incomplete.
+pub fn read_by_rules<R: Source>(
+    alloc: Global,
+    rules: &MaskRules,
+    reader: &mut R,
+    limits: Limits,
+    mode: Mode,
+) -> Result<Vec<u8>, RulesRefused>
+    requires limits { AreSound limits }
+    requires given { R.given reader.old < 2 ^ 62 }
+    requires failures { R.failures reader.old < 2 ^ 62 }
+
+    // The text is that of the whole input and the rules, or an error is returned. `ReadFault` is
+    // returned only if the reader failed.
+    ensures answer { ReadsByRules R.Source limits mode (mask_of rules.now) reader.old reader.new
+        result }
+
+    // It reads at most one byte past the limit.
+    ensures taken { R.given reader.new ≤ R.given reader.old + limits.input + 1 }
+{
+    let Ok(input) = read_all(alloc, reader, limits.input) else {
+        return Err(RulesRefused::Memory);
+    };
+    text_of_input(
+        apply_rules(alloc, rules, input.bytes.as_slice(), limits, mode),
+        input.stop,
+    )
+}
+
+/// Returns what the rules made of the bytes of an input, or `ReadFault` if the reader failed after
+/// them and they contain no error other than being incomplete.
+fn text_of_input(
+    applied: Result<Vec<u8>, RulesRefused>,
+    stop: Stop,
+) -> Result<Vec<u8>, RulesRefused>
+    ensures { result ≡ result_of_input applied stop }
+{
+    match (applied, stop) {
+        (Ok(_), Stop::Failed) => Err(RulesRefused::ReadFault),
+        (Err(RulesRefused::Mask(Refused::Record(_, RecordCause::Cut))), Stop::Failed) => {
+            Err(RulesRefused::ReadFault)
+        }
+        (applied, _) => applied,
+    }
+}
