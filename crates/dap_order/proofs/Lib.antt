@@ -17,3 +17,9 @@ pub mod AlikeAnswers
 pub mod ByPlace
 pub mod PlaceLabels
 pub mod FirstPlace
+pub mod RankPlaces
+pub mod ReadyRanks
+pub mod Standing
+pub mod FollowerLists
+pub mod Pending
+pub mod PlanOrder

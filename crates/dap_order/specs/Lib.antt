@@ -11,3 +11,5 @@ pub mod AlikeAnswers
 pub mod ByPlace
 pub mod Laws
 pub mod Plan
+pub mod Links
+pub mod Progress

@@ -45,11 +45,11 @@ module _ (s : Swaps ℕ) (plan : Plan) where
   -- Place j has to follow place i: the group of i blocks that of j, or j follows i by the plan, or
   -- j follows by the plan a place after i that is not free with i.
   abbrev pub HasToFollow : ℕ → ℕ → Type 0
-  HasToFollow i j = (is_blocked_by_group plan i j ≡ true) ⊎ ((a : ℕ) × Contains (followed_by plan j) a
-      × ((i ≡ a) ⊎ ((i < a) × (s.free i a ≡ false))))
+  HasToFollow i j = (is_blocked_by_group plan i j ≡ true)
+      ⊎ ((a : ℕ) × Contains (followed_by plan j) a × ((i ≡ a) ⊎ ((i < a) × (s.free i a ≡ false))))
 
-  -- The plan describes these swaps: it has the places in the order of their keys, and an earlier and
-  -- a later place are not free with each other if and only if the later one has to follow.
+  -- The plan describes these swaps: it has the places in the order of their keys, and two places
+  -- are not free with each other if and only if the later one has to follow the earlier one.
   pub record IsPlan : Type 0 where
     pub keys : (u v : ℕ) → u < v → v < place_count plan
         → s.less (place_at_rank plan v) (place_at_rank plan u) ≡ false

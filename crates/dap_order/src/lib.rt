@@ -4,9 +4,13 @@
 //! knows nothing else of the items. `specs/` defines the terms, and [`laws`] has the theorems.
 #![tactic(auto)]
 
+mod by_plan;
 pub mod laws;
+mod links;
 mod order;
 mod plan;
+mod progress;
 
+pub use by_plan::order_of_places;
 pub use order::{SwapOrder, put_in_order};
-pub use plan::{Plan, order_of_places};
+pub use plan::Plan;

@@ -1,16 +1,12 @@
-//! Puts places in order by a plan of their dependences.
-ghost use Rattle.std.specs.Prelude.{◌≡◌, ℕ, IfOk};
-ghost use Rattle.std.specs.List.{range_with_len};
-ghost use Rattle.dap_order.specs.Swaps.{Swaps, AreSwaps};
-ghost use Rattle.dap_order.specs.Order.{order};
-ghost use Rattle.dap_order.specs.Plan.{IsWellFormed, IsPlan, place_count};
-
-use std::alloc::{AllocError, Global};
+//! How the places of a list depend on each other.
+ghost use Rattle.std.specs.Prelude.{◌≡◌, ◌<◌, length};
+ghost use Rattle.dap_order.specs.Plan.{IsWellFormed, place_count, followed_by};
+ghost use Rattle.dap_order.specs.Progress.{blocks_group};
 
 /// How the places of a list depend on each other, for [`order_of_places`].
 ///
-/// The places are the numbers below the length of `groups`. Two places are *free* if they may change
-/// places as neighbours.
+/// The places are the numbers below the length of `groups`. Two places are *free* with each other
+/// if they may be swapped when they are neighbours.
 #[derive(Drop)]
 pub struct Plan {
     /// The group of each place: an index of `blocks`.
@@ -24,18 +20,21 @@ pub struct Plan {
     pub by_key: Vec<usize>,
 }
 
-/// Returns the places in order, as [`put_in_order`](crate::put_in_order) would put them.
-///
-/// The time grows as n log n + n g + m for n places of g groups and m entries of `after`.
-///
-/// # Errors
-///
-/// `AllocError`: an allocation failed.
-pub fn order_of_places(alloc: Global, plan: &Plan) -> Result<Vec<usize>, AllocError>
-    requires { IsWellFormed plan.now }
-    ensures ordered { (s : Swaps ℕ) → AreSwaps s → IsPlan s plan.now
-        → IfOk result (λ places. places.items ≡ order s (range_with_len 0 (place_count plan.now))) }
+/// Returns whether the group of the place blocks this group.
+pub(crate) fn blocks(plan: &Plan, place: usize, group: usize) -> bool
+    requires well_formed { IsWellFormed plan.now }
+    requires in_range { place < place_count plan.now }
+    requires group_in_range { group < length plan.now.blocks.items }
+    ensures { result ≡ blocks_group plan.now place group }
 {
-    let _ = plan;
-    Ok(Vec::new(alloc))
+    plan.blocks[plan.groups[place]][group]
+}
+
+/// Returns the earlier places that the place has to follow beside those of the groups.
+pub(crate) fn followed_by(plan: &Plan, place: usize) -> &[usize]
+    requires well_formed { IsWellFormed plan.now }
+    requires in_range { place < place_count plan.now }
+    ensures { result.now ≡ followed_by plan.now place }
+{
+    &plan.after[place]
 }
