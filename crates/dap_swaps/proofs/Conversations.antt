@@ -1,8 +1,7 @@
 -- Messages of one conversation, of which one is a response, are tied.
-use Rattle.std.proofs.Common.{◌≡◌, ℕ, ℤ, Bool, true, false, cond, ◌&&◌, ◌⊎◌, inl, inr, List, []}
-use Rattle.std.proofs.Common.{Option, Some, None, is_some, refl, sym, ap, ◌∙◌, arith, subst}
-use Rattle.std.specs.Prelude.{◌||◌}
-use Rattle.std.specs.Ordering.{int_eq, is_eq}
+use Rattle.std.proofs.Common.{◌≡◌, ℕ, ℤ, true, false, ◌&&◌, inl, inr, []}
+use Rattle.std.proofs.Common.{Option, Some, None, is_some, refl, sym, ap, ◌∙◌, arith}
+use Rattle.std.specs.Ordering.{int_eq}
 use Rattle.std.proofs.lemmas.Bool.{cases_Bool, and_parts, and_from, or_cases, or_left, or_right}
 use Rattle.std.proofs.lemmas.Bool.{cond-true, cond-false, both_ways}
 use Rattle.std.proofs.lemmas.Bool.Decides.{Decides-int_eq}
@@ -14,8 +13,9 @@ use Rattle.dap_session.specs.Messages.{side_of, seq_of, request_seq_of, other, i
 use Rattle.dap_session.specs.Messages.{is_request, is_response, is_from, is_response_to}
 use Rattle.dap_session.proofs.Sides.{from_side, other_other, no_request}
 use Rattle.dap_swaps.specs.Free.{of_one_class, answers, class_of, class_rank, class_number}
-use Rattle.dap_swaps.specs.Free.{class_name, same_class}
-use Rattle.dap_swaps.specs.Keys.{Key, side_code, is_numbered_response, conversation_key, response_key}
+use Rattle.dap_swaps.specs.Free.{class_name}
+use Rattle.dap_swaps.specs.Keys.{Key, side_code, is_numbered_response, conversation_key}
+use Rattle.dap_swaps.specs.Keys.{response_key}
 use Rattle.dap_swaps.specs.Keys.{class_key}
 use Rattle.dap_swaps.specs.Waits.{talk, are_tied}
 use Rattle.dap_swaps.proofs.Independence.{number_is, answers_request, responses_alike}
@@ -155,12 +155,11 @@ answer_key x y h =
     and_from (is_response x) (is_some (request_seq_of x)) c.0
     (ap (λ (o : Option ℤ). is_some o) number) in
     let side : other (side_of x) ≡ side_of y =
-    ap other (sym (from_side (other (side_of y)) x c.1)) ∙ other_other (side_of y) in
-    (
+    ap other (sym (from_side (other (side_of y)) x c.1)) ∙ other_other (side_of y) in (
       is,
       numbered_key x is
-      ∙ ap (λ (s : Side). key_with (side_code s) (request_seq_of x)) side
-      ∙ ap (key_with (side_code (side_of y))) number ∙ sym (request_key y a.0),
+          ∙ ap (λ (s : Side). key_with (side_code s) (request_seq_of x)) side
+          ∙ ap (key_with (side_code (side_of y))) number ∙ sym (request_key y a.0),
     )
 
 pub talk_key : (x y : Sent) → talk x y ≡ true
@@ -187,8 +186,10 @@ code_of y e = elim (cases_Bool (is_request y)) [
   | inl q ↦ no_side (side_of y) (sym (ap (λ (k : Key). k.code) (request_key y q)) ∙ e)
   | inr plain ↦ elim (cases_Bool (is_numbered_response y)) [
     | inl g ↦ no_side (other (side_of y)) (sym (ap (λ (k : Key). k.code) (numbered_key y g)) ∙ e)
-    | inr g ↦ (let two : (conversation_key y).code ≡ 2 = ap (λ (k : Key). k.code) (no_key y plain g) in
-        let bad : 2 ≡ 3 = sym two ∙ e in omega (arith, bad))
+    | inr g ↦ (
+        let bad : 2 ≡ 3 = sym (ap (λ (k : Key). k.code) (no_key y plain g)) ∙ e in
+        omega (arith, bad)
+        )
   ]
 ]
 

@@ -1,7 +1,7 @@
 -- Which earlier places a place has to follow.
-use Rattle.std.proofs.Common.{◌≡◌, ℕ, ◌+◌, ◌<◌, ◌≤◌, Bool, true, false, ◌⊎◌, inl, inr, List, [], ◌∷◌}
-use Rattle.std.proofs.Common.{◌++◌, map, length, Option, Some, None, refl, sym, ap, ◌∙◌, arith, subst}
-use Rattle.std.specs.Prelude.{slice_get, Contains, ◌||◌}
+use Rattle.std.proofs.Common.{◌≡◌, ℕ, ◌<◌, Bool, true, false, ◌⊎◌, inl, inr, List, [], ◌∷◌}
+use Rattle.std.proofs.Common.{◌++◌, map, Option, Some, None, refl, sym, ap, ◌∙◌, arith, subst}
+use Rattle.std.specs.Prelude.{slice_get, Contains}
 use Rattle.std.proofs.lemmas.Bool.{or_cases, cases_order}
 use Rattle.std.proofs.lemmas.List.Elements.{Contains-push, Contains-push_cases}
 use Rattle.std.proofs.lemmas.List.Elements.{Contains-append_left}
@@ -10,7 +10,7 @@ use Rattle.dap_order.specs.ByPlace.{passes_both}
 use Rattle.dap_swaps.specs.Free.{of_one_class}
 use Rattle.dap_swaps.specs.Keys.{Key, is_numbered_response, conversation_key, response_key}
 use Rattle.dap_swaps.specs.Keys.{class_key, IsLastBelow, IsKeyAt}
-use Rattle.dap_swaps.specs.Waits.{talk, are_tied, at_both, IsCovered, Covers, IsResponseAt, AreBack}
+use Rattle.dap_swaps.specs.Waits.{talk, are_tied, at_both, IsCovered, Covers, AreBack}
 use Rattle.dap_swaps.proofs.Lists.{get_map, get_mapped, one_item}
 use Rattle.dap_swaps.proofs.Conversations.{one_class_key, class_from_key, tied_class, tied_back}
 use Rattle.dap_swaps.proofs.Conversations.{tied_response, talk_key, talk_response, response_key_is}
@@ -72,8 +72,13 @@ module _ (ms : List Sent) where
           | inr w ↦ (
               let u = keyed conversation_key (conversation_key y) w.0 (back.earlier w.0 w.1).1 in
               let z_is : w.3.0 ≡ u.0 = one_item ms w.0 w.3.0 u.0 w.3.1 u.1 in
-              inr (w.0, w.1, w.2, tied_at (conversation_key y) i w.0 v.0 u.0 v.2 u.1 key u.2
-              (ap is_numbered_response (sym z_is) ∙ w.3.2))
+              inr (
+                w.0,
+                w.1,
+                w.2,
+                tied_at (conversation_key y) i w.0 v.0 u.0 v.2 u.1 key u.2
+                    (ap is_numbered_response (sym z_is) ∙ w.3.2),
+              )
               )
         ];
   }
@@ -120,8 +125,12 @@ module _ (ms : List Sent) where
             elim (cases_order i p) [
               | inl e ↦ inl (subst (Contains (p ∷ [])) (sym e) (Contains-push [] p))
               | inr o ↦ elim o [
-                | inl before ↦ inr (p, Contains-push [] p, before,
-                    tied_at (conversation_key y) i p v.0 u.0 v.2 u.1 key found.1 found.0)
+                | inl before ↦ inr (
+                  p,
+                  Contains-push [] p,
+                  before,
+                  tied_at (conversation_key y) i p v.0 u.0 v.2 u.1 key found.1 found.0,
+                )
                 | inr after ↦ absurd (last.2 i after below
                     (key_at response_key (conversation_key y) i v.0 v.2
                     (response_key_is v.0 r ∙ key)))
@@ -194,8 +203,12 @@ module _ (ms : List Sent) where
               elim (cases_order i p) [
                 | inl e ↦ inl (subst (Contains (waits ++ p ∷ [])) (sym e) (Contains-push waits p))
                 | inr o ↦ elim o [
-                  | inl before ↦ inr (p, Contains-push waits p, before,
-                      of_class i p v.0 u.0 v.2 u.1 (key ∙ sym u.2))
+                  | inl before ↦ inr (
+                    p,
+                    Contains-push waits p,
+                    before,
+                    of_class i p v.0 u.0 v.2 u.1 (key ∙ sym u.2),
+                  )
                   | inr after ↦ absurd (last.2 i after below
                       (key_at class_key (class_key y) i v.0 v.2 key))
                 ]

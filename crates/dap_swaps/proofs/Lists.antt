@@ -1,6 +1,6 @@
 -- Items of lists by their places.
-use Rattle.std.proofs.Common.{◌≡◌, ℕ, zero, suc, ◌+◌, ◌<◌, ◌≤◌, List, [], ◌∷◌, ◌++◌, map, length}
-use Rattle.std.proofs.Common.{Option, Some, None, ◌⊎◌, inl, inr, refl, sym, ap, ◌∙◌, arith, get_or}
+use Rattle.std.proofs.Common.{◌≡◌, ℕ, zero, suc, ◌<◌, List, [], ◌∷◌, ◌++◌, map, length}
+use Rattle.std.proofs.Common.{Some, ◌⊎◌, inl, inr, refl, sym, ap, ◌∙◌, arith, get_or}
 use Rattle.std.specs.Prelude.{slice_get}
 
 module _ {A : Type 0} where
@@ -49,7 +49,8 @@ module _ {A : Type 0} where
       → slice_get xs i ≡ Some y → x ≡ y
   one_item xs i x y e h = let f : Some x ≡ Some y = sym e ∙ h in cc
 
-  pub got : (xs : List A) (i : ℕ) (x : A) → i < length xs → x ≡ get_or xs i x → slice_get xs i ≡ Some x
+  pub got : (xs : List A) (i : ℕ) (x : A) → i < length xs → x ≡ get_or xs i x
+      → slice_get xs i ≡ Some x
   got xs i x low e = get_at xs i x low ∙ ap (λ z. Some z) (sym e)
 
 module _ {A B : Type 0} (f : A → B) where

@@ -1,29 +1,28 @@
 -- The parts of a plan describe the order of the places of a table.
-use Rattle.std.proofs.Common.{◌≡◌, ℕ, zero, suc, ◌+◌, ◌<◌, ◌≤◌, Bool, true, false, not, ◌&&◌, ◌⊎◌}
-use Rattle.std.proofs.Common.{inl, inr, List, [], ◌∷◌, map, length, Option, Some, None, refl, sym, ap}
+use Rattle.std.proofs.Common.{◌≡◌, ℕ, zero, suc, ◌+◌, ◌<◌, Bool, true, false, not, ◌&&◌}
+use Rattle.std.proofs.Common.{inl, inr, List, [], ◌∷◌, map, length, Some, refl, sym, ap}
 use Rattle.std.proofs.Common.{◌∙◌, arith, subst, get_or}
-use Rattle.std.specs.Prelude.{slice_get, Contains, IsPermutation}
+use Rattle.std.specs.Prelude.{slice_get, IsPermutation}
 use Rattle.std.specs.List.{All, range_with_len}
-use Rattle.std.proofs.lemmas.Bool.{cases_Bool, and_left, and_right, and_cases, not-true, not-false}
-use Rattle.std.proofs.lemmas.List.Elements.{All-from_get_or, All-get_or, Contains-get_or, All-map}
+use Rattle.std.proofs.lemmas.Bool.{and_left, and_right, and_cases, not-true, not-false}
+use Rattle.std.proofs.lemmas.List.Elements.{All-from_get_or, Contains-get_or, All-map}
 use Rattle.std.proofs.lemmas.List.Sorted.{All-permutation, length_permutation}
 use Rattle.dap_message.specs.Message.{Sent}
 use Rattle.dap_mask.specs.Swaps.{SwapRule, swaps_of}
 use Rattle.dap_order.specs.Swaps.{Swaps}
-use Rattle.dap_order.specs.ByPlace.{passes_both, places_answered}
 use Rattle.dap_order.specs.declared.plan.Plan.{Plan}
-use Rattle.dap_order.specs.Plan.{place_count, group_of, block_rows, is_blocked_by_group}
+use Rattle.dap_order.specs.Plan.{group_of, block_rows, is_blocked_by_group}
 use Rattle.dap_order.specs.Plan.{followed_by, place_at_rank, IsWellFormed, IsPlan, HasToFollow}
-use Rattle.dap_swaps.specs.Free.{free, may_swap}
-use Rattle.dap_swaps.specs.Entries.{sent_by, request_by}
-use Rattle.dap_swaps.specs.Keys.{Key, look_key}
+use Rattle.dap_swaps.specs.Free.{may_swap}
+use Rattle.dap_swaps.specs.Entries.{sent_by}
+use Rattle.dap_swaps.specs.Keys.{look_key}
 use Rattle.dap_swaps.specs.Looks.{blocks_at, block_table, AreGroups}
 use Rattle.dap_swaps.specs.Waits.{are_tied, at_both, Covers}
 use Rattle.dap_swaps.specs.Plan.{AreByKey}
 use Rattle.dap_swaps.specs.Table.{place_order}
 use Rattle.dap_swaps.specs.declared.entries.Entry.{Entry}
 use Rattle.dap_swaps.specs.declared.table.Table.{Table}
-use Rattle.dap_swaps.proofs.Lists.{there, get_map, get_mapped, len_map, one_item, get_at}
+use Rattle.dap_swaps.proofs.Lists.{get_below, there, get_map, get_mapped, len_map}
 use Rattle.dap_swaps.proofs.Covering.{both_at}
 use Rattle.dap_swaps.proofs.SameLooks.{swap_alike, free_parts}
 use Rattle.dap_swaps.proofs.TableOrder.{less_is, free_at}
@@ -94,7 +93,8 @@ module _ (t : Table) (plan : Plan) (firsts : List ℕ) where
       after_len = h.after_len ∙ sym h.groups.len;
       earlier = λ place low. All-from_get_or (λ a. a < place) (followed_by plan place) 0
           (λ i in_row. (h.after place (omega (arith, h.groups.len))).earlier
-          (get_or (followed_by plan place) i 0) (Contains-get_or (followed_by plan place) i 0 in_row));
+          (get_or (followed_by plan place) i 0)
+          (Contains-get_or (followed_by plan place) i 0 in_row));
       ranks = subst (λ (n : ℕ). IsPermutation (range_with_len 0 n) plan.by_key.items)
           (sym h.groups.len) h.ranks;
     }
@@ -110,15 +110,11 @@ module _ (t : Table) (plan : Plan) (firsts : List ℕ) where
         × (slice_get ms (get_or firsts (group_of plan i) 0) ≡ Some x)
         × (look_key rules x ≡ look_key rules (sent_by e))
     looks i e at =
-        let low : i < length es = below es i e at in
+        let low : i < length es = get_below es i e at in
         get_mapped (look_key rules) ms (get_or firsts (group_of plan i) 0)
         (look_key rules (sent_by e))
-        (h.groups.same i low ∙ get_map (look_key rules) ms i (sent_by e) (get_map sent_by es i e at))
-      where
-        below : {A : Type 0} (xs : List A) (j : ℕ) (x : A) → slice_get xs j ≡ Some x → j < length xs
-        below [] j x e = absurd (cc)
-        below (y ∷ xs) zero x e = omega arith
-        below (y ∷ xs) (suc j) x e = omega (arith, below xs j x e)
+        (h.groups.same i low
+        ∙ get_map (look_key rules) ms i (sent_by e) (get_map sent_by es i e at))
 
     -- Groups block each other if their messages may not be swapped.
     blocked_is : (i j : ℕ) (e f : Entry) → i < length es → j < length es
@@ -180,12 +176,12 @@ module _ (t : Table) (plan : Plan) (firsts : List ℕ) where
           | inl m ↦ inl (blocked_is i j e.0 f.0 (omega arith) below e.1 f.1 ∙ ap not m)
           | inr m ↦ elim ((h.after j below).all i before (tied_is i j e.0 f.0 e.1 f.1
               ∙ not-false (are_tied (sent_by e.0) (sent_by f.0)) m)) [
-            | inl w ↦ inr (i, w, inl refl)
-            | inr w ↦ (
-                let later : w.0 < j = (h.after j below).earlier w.0 w.1 in
-                inr (w.0, w.1, inr (w.2, tied_not_free i w.0 (omega arith) (omega arith) w.3))
-                )
-          ]
+                | inl w ↦ inr (i, w, inl refl)
+                | inr w ↦ (
+                    let later : w.0 < j = (h.after j below).earlier w.0 w.1 in
+                    inr (w.0, w.1, inr (w.2, tied_not_free i w.0 (omega arith) (omega arith) w.3))
+                    )
+              ]
         ]
 
     pub is_plan : IsPlan s plan

@@ -1,9 +1,8 @@
 -- The last place with a key, as a list grows.
-use Rattle.std.proofs.Common.{◌≡◌, ℕ, zero, suc, ◌+◌, ◌<◌, ◌≤◌, Bool, true, false, cond, List, [], ◌∷◌}
-use Rattle.std.proofs.Common.{◌++◌, map, length, Option, Some, None, ◌⊎◌, inl, inr, refl, sym, ap, ◌∙◌}
+use Rattle.std.proofs.Common.{◌≡◌, ℕ, ◌+◌, ◌<◌, ◌≤◌, Bool, true, false, cond, List, [], ◌∷◌}
+use Rattle.std.proofs.Common.{◌++◌, map, length, Option, Some, None, inl, inr, refl, sym, ap, ◌∙◌}
 use Rattle.std.proofs.Common.{arith, subst, length-append, get_or}
 use Rattle.std.specs.Prelude.{slice_get}
-use Rattle.std.proofs.lemmas.Bool.{cases_eq}
 use Rattle.dap_swaps.specs.Keys.{Key, IsLastBelow, IsKeyAt, ArePrevious}
 use Rattle.std.specs.Ordering.{is_eq}
 use Rattle.dap_swaps.specs.Keys.{key_of}
@@ -17,8 +16,7 @@ pub last_kept : (own : List Key) (x k : Key) (n : ℕ) (o : Option ℕ) → n �
 last_kept own x k n None low last =
     λ i below at. last i below (sym (get_old own x i (omega arith)) ∙ at)
 last_kept own x k n (Some p) low last =
-    let before : p < n = last.0 in
-    (
+    let before : p < n = last.0 in (
       last.0,
       get_old own x p (omega arith) ∙ last.1,
       λ i after below at. last.2 i after below (sym (get_old own x i (omega arith)) ∙ at),
@@ -40,8 +38,7 @@ last_more own x k false None n long there back last =
       | inr new ↦ absurd (let h = back new.1 in cc)
     ]
 last_more own x k false (Some p) n long there back last =
-    let before : p < n = last.0 in
-    (
+    let before : p < n = last.0 in (
       omega arith,
       get_old own x p (omega arith) ∙ last.1,
       λ i after below at. elim (get_cases own x i k at) [
@@ -59,7 +56,8 @@ pub previous_more : (own sought : List Key) (previous : List (Option ℕ)) (x k 
     → IsLastBelow (IsKeyAt own k) (length own) o
     → ArePrevious (own ++ x ∷ []) (sought ++ k ∷ []) (previous ++ o ∷ [])
 previous_more own sought previous x k o long are last = record {
-  len = length-append previous (o ∷ []) ∙ ap (λ z. z + 1) are.len ∙ sym (length-append sought (k ∷ []));
+  len = length-append previous (o ∷ []) ∙ ap (λ z. z + 1) are.len
+      ∙ sym (length-append sought (k ∷ []));
   each = λ j l p at found. elim (get_cases sought k j l at) [
     | inl old ↦ (
         let low = get_below sought j l old in
@@ -105,12 +103,12 @@ pub one_more : (own sought : List Key) (previous : List (Option ℕ)) (x k : Key
     → ArePrevious own sought previous → HasLast own n old
     → ArePrevious (own ++ x ∷ []) (sought ++ k ∷ []) (previous ++ o ∷ [])
     × HasLast (own ++ x ∷ []) (n + 1) new
-one_more own sought previous x k n place r t old new o own_len sought_len at x_is k_is found more are
-    has = (
+one_more own sought previous x k n place r t old new o own_len sought_len at x_is k_is found more
+    are has = (
       previous_more own sought previous x k o (sought_len ∙ sym own_len) are
-      (subst (λ (m : ℕ). IsLastBelow (IsKeyAt own k) m o) (sym own_len)
-      (subst (λ (q : Option ℕ). IsLastBelow (IsKeyAt own k) n q) (sym found)
-      (subst (λ (l : Key). IsLastBelow (IsKeyAt own l) n (old t)) k_is (has.last t)))),
+          (subst (λ (m : ℕ). IsLastBelow (IsKeyAt own k) m o) (sym own_len)
+          (subst (λ (q : Option ℕ). IsLastBelow (IsKeyAt own k) n q) (sym found)
+          (subst (λ (l : Key). IsLastBelow (IsKeyAt own l) n (old t)) k_is (has.last t)))),
       record {
         last = λ q.
             subst (IsLastBelow (IsKeyAt (own ++ x ∷ []) (key_of q)) (n + 1))

@@ -1,5 +1,5 @@
 -- Messages of one look may pass the same other messages.
-use Rattle.std.proofs.Common.{◌≡◌, ℕ, ◌+◌, ◌*◌, Bool, true, false, cond, not, ◌&&◌, ◌⊎◌, inl, inr}
+use Rattle.std.proofs.Common.{◌≡◌, ℕ, Bool, true, false, cond, not, ◌&&◌, inl, inr}
 use Rattle.std.proofs.Common.{List, [], ◌∷◌, Option, Some, None, refl, sym, ap, ◌∙◌, arith}
 use Rattle.std.specs.Prelude.{◌||◌}
 use Rattle.std.specs.List.{list_any}
@@ -13,9 +13,9 @@ use Rattle.dap_session.specs.Messages.{is_configuration_done, is_farewell}
 use Rattle.dap_mask.specs.Swaps.{Half, SwapRule}
 use Rattle.dap_swaps.specs.Free.{fits_name, fits_half, names_both, begins, is_client_request}
 use Rattle.dap_swaps.specs.Free.{is_fixed, may_swap, of_one_class, answers, depends, free}
-use Rattle.dap_swaps.specs.Keys.{Key, has_name, is_mentioned, bit_of, with_bit, kind_code}
+use Rattle.dap_swaps.specs.Keys.{Key, has_name, is_mentioned, with_bit, kind_code}
 use Rattle.dap_swaps.specs.Keys.{session_code, look_key}
-use Rattle.dap_swaps.specs.Waits.{talk, are_tied}
+use Rattle.dap_swaps.specs.Waits.{are_tied}
 use Rattle.dap_swaps.proofs.Conversations.{one_class_back}
 
 -- ---- numbers that have tests as digits

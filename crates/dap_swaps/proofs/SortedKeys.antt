@@ -1,6 +1,6 @@
 -- Places are sorted by keys that compare as the places do.
-use Rattle.std.proofs.Common.{◌≡◌, ℕ, ℤ, zero, suc, ◌+◌, ◌<◌, ◌≤◌, Bool, true, false, cond, ◌&&◌, List}
-use Rattle.std.proofs.Common.{[], ◌∷◌, map, length, Option, Some, None, refl, sym, ap, ◌∙◌, arith, subst}
+use Rattle.std.proofs.Common.{◌≡◌, ℕ, ◌<◌, true, false, ◌&&◌, List}
+use Rattle.std.proofs.Common.{[], ◌∷◌, map, length, Option, Some, None, refl, sym, ap, ◌∙◌, arith}
 use Rattle.std.proofs.Common.{get_or}
 use Rattle.std.specs.Prelude.{◌||◌, slice_get, nat_lt, is_none, unwrap_or}
 use Rattle.std.specs.List.{All}
@@ -17,11 +17,9 @@ use Rattle.std.proofs.lemmas.Cmp.{on_total, then_total}
 use Rattle.std.proofs.lemmas.List.Sorted.{sorted_far, ranks_by}
 use Rattle.dap_message.specs.Message.{Sent}
 use Rattle.dap_order.specs.ByPlace.{less_by_place}
-use Rattle.dap_swaps.specs.Free.{Class, class_of, class_rank, class_number, class_name, class_cmp}
-use Rattle.dap_swaps.specs.Free.{less_class, same_class}
+use Rattle.dap_swaps.specs.Free.{Class, class_of, class_cmp}
 use Rattle.dap_swaps.specs.Order.{message_answers}
 use Rattle.dap_swaps.specs.Entries.{sent_by, request_by}
-use Rattle.dap_swaps.specs.Keys.{Key, key_of, class_key}
 use Rattle.dap_swaps.specs.Plan.{less_entry, AreByKey}
 use Rattle.dap_swaps.specs.SortKeys.{SortKey, sort_key_of, entry_key}
 use Rattle.dap_swaps.specs.declared.entries.Entry.{Entry}

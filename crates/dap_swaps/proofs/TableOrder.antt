@@ -1,10 +1,10 @@
 -- Two places of a table are ordered as the messages there are, and are free if they are.
 use Rattle.std.proofs.Common.{◌≡◌, ℕ, Bool, true, false, ◌&&◌, List, [], ◌∷◌, map, take, Option}
-use Rattle.std.proofs.Common.{◌<◌, length, arith, zero, suc, inl, inr}
+use Rattle.std.proofs.Common.{arith, zero, suc, inl, inr}
 use Rattle.std.proofs.Common.{Some, None, refl, sym, ap, ◌∙◌, ◌⊎◌}
-use Rattle.std.specs.Prelude.{◌||◌, slice_get, option_map, cond, nat_lt}
+use Rattle.std.specs.Prelude.{◌||◌, slice_get, option_map, nat_lt}
 use Rattle.std.proofs.lemmas.Bool.{and_parts, or_left, or_right, cases_Bool, cases_order, lt-ltb}
-use Rattle.std.proofs.lemmas.Bool.{cond-true, cond-false, and_left, and_right}
+use Rattle.std.proofs.lemmas.Bool.{cond-true, cond-false, and_left}
 use Rattle.dap_tree.specs.declared.side.Side.TheVariants.{Client}
 use Rattle.dap_message.specs.Message.{Sent}
 use Rattle.dap_session.specs.Messages.{is_from}

@@ -1,12 +1,12 @@
 -- Walking back through a conversation.
-use Rattle.std.proofs.Common.{◌≡◌, ℕ, ◌+◌, ◌<◌, ◌≤◌, Bool, true, false, ◌⊎◌, inl, inr, List, [], ◌∷◌}
-use Rattle.std.proofs.Common.{◌++◌, map, length, Option, Some, None, refl, sym, ap, ◌∙◌, arith, subst}
-use Rattle.std.specs.Prelude.{slice_get, Contains}
+use Rattle.std.proofs.Common.{◌≡◌, ℕ, ◌+◌, ◌<◌, ◌≤◌, ◌⊎◌, inl, inr, List, [], ◌∷◌}
+use Rattle.std.proofs.Common.{◌++◌, map, Option, Some, None, sym, arith, subst}
+use Rattle.std.specs.Prelude.{Contains}
 use Rattle.std.proofs.lemmas.Bool.{cases_order}
 use Rattle.std.proofs.lemmas.List.Elements.{Contains-push, Contains-push_cases}
 use Rattle.std.proofs.lemmas.List.Elements.{Contains-append_left}
 use Rattle.dap_message.specs.Message.{Sent}
-use Rattle.dap_swaps.specs.Keys.{Key, is_numbered_response, conversation_key, IsLastBelow, IsKeyAt}
+use Rattle.dap_swaps.specs.Keys.{Key, conversation_key, IsLastBelow, IsKeyAt}
 use Rattle.dap_swaps.specs.Waits.{IsResponseAt, AreBack}
 
 -- The walk has come to this place with the key, or to the end.

@@ -1,12 +1,9 @@
 -- Keys of messages (own). Messages with equal keys form a thread, in which some messages wait for
 -- earlier ones, or a group, whose messages block the same other messages.
-use Rattle.std.specs.Prelude.{◌≡◌, ℕ, ℤ, ◌+◌, ◌*◌, ◌<◌, Bool, false, cond, ◌&&◌, ◌||◌, List, [], length}
+use Rattle.std.specs.Prelude.{◌≡◌, ℕ, ℤ, ◌+◌, ◌*◌, ◌<◌, Bool, false, cond, ◌&&◌, ◌||◌, List, []}
+use Rattle.std.specs.Prelude.{length}
 use Rattle.std.specs.Prelude.{Option, Some, None, is_some, slice_get}
 use Rattle.std.specs.List.{list_any}
-use Rattle.std.specs.Option.{option_cmp}
-use Rattle.std.specs.Cmp.Lexicographic.{slice_cmp}
-use Rattle.std.specs.declared.cmp.Ordering.{Ordering}
-use Rattle.std.specs.Ordering.{nat_cmp, int_cmp, ordering_then}
 use Rattle.dap_tree.specs.declared.side.Side.{Side}
 use Rattle.dap_tree.specs.declared.side.Side.TheVariants.{Client, Adapter}
 use Rattle.dap_profile.specs.declared.profile.Kind.{Kind}
@@ -20,7 +17,8 @@ use Rattle.dap_swaps.specs.Free.{class_of, class_rank, class_number, class_name,
 use Rattle.dap_swaps.specs.Free.{is_client_request}
 use Rattle.dap_swaps.specs.declared.keys.Key.{Key as ReadKey}
 use Rattle.dap_swaps.specs.declared.keys.By.{By}
-use Rattle.dap_swaps.specs.declared.keys.By.TheVariants.{Class, Conversation, Response as OfResponse}
+use Rattle.dap_swaps.specs.declared.keys.By.TheVariants.{Class, Conversation}
+use Rattle.dap_swaps.specs.declared.keys.By.TheVariants.{Response as OfResponse}
 use Rattle.dap_swaps.specs.declared.keys.By.TheVariants.{Look}
 
 pub record Key : Type 0 where

@@ -1,5 +1,5 @@
 -- The keys by which places are sorted, for private clauses.
-use Rattle.std.specs.Prelude.{ℕ, Bool, Option, is_none, unwrap_or}
+use Rattle.std.specs.Prelude.{ℕ, Bool, is_none, unwrap_or}
 use Rattle.dap_swaps.specs.Keys.{Key, key_of, class_key}
 use Rattle.dap_swaps.specs.Entries.{sent_by, request_by}
 use Rattle.dap_swaps.specs.declared.entries.Entry.{Entry}

@@ -1,6 +1,6 @@
 -- The earlier messages that a message has to follow because of its class or its conversation, for
 -- private clauses.
-use Rattle.std.specs.Prelude.{◌≡◌, ℕ, ◌<◌, Bool, true, ◌||◌, ◌⊎◌, List, Option, Some, map, slice_get}
+use Rattle.std.specs.Prelude.{◌≡◌, ℕ, ◌<◌, Bool, true, ◌||◌, ◌⊎◌, List, Some, map, slice_get}
 use Rattle.std.specs.Prelude.{Contains}
 use Rattle.dap_message.specs.Message.{Sent}
 use Rattle.dap_order.specs.ByPlace.{passes_both}

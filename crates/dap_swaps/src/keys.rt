@@ -13,8 +13,8 @@ use dap_mask::{Half, SwapRule};
 use dap_message::{Kind, Side};
 use dap_session::envelope::Envelope;
 use dap_session::message::{
-    is_configuration_done, is_farewell, is_initialized, is_output, is_request, is_response, kind_of,
-    name_of, request_seq_of, seq_of, side_of,
+    is_configuration_done, is_farewell, is_initialized, is_output, is_request, is_response,
+    kind_of, name_of, request_seq_of, seq_of, side_of,
 };
 
 /// A key of messages.

@@ -18,9 +18,9 @@ use std::alloc::{AllocError, Global};
 /// Two recordings have the same order if and only if the rules allow swaps of neighbours that turn
 /// one into the other. The order of a recording that obeys the rules of the session obeys them too.
 ///
-/// The time grows as n log n + n l + l² r for n messages and r rules, where l is the number of looks
-/// of messages: their kinds, and the names that the rules have. The order of the messages and their
-/// ids do not matter for it.
+/// The time grows as n log n + n (l + r) + l² r for n messages and r rules. Here l is the number of
+/// looks: messages have one look if they have the same kind and name, or the same kind and names
+/// that no rule has, and the rules of the session treat them alike.
 ///
 /// # Errors
 ///

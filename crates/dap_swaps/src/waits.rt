@@ -48,11 +48,7 @@ impl Earlier {
     }
 
     /// Returns the places in the conversation of `place` before it, back to the last response.
-    fn back_to_response(
-        &self,
-        alloc: Global,
-        place: usize,
-    ) -> Result<Vec<usize>, AllocError>
+    fn back_to_response(&self, alloc: Global, place: usize) -> Result<Vec<usize>, AllocError>
         requires { (ms : List Sent) × words.IsEarlier ms self.now × (place < length ms) }
         ensures { (ms : List Sent) (k : ModelKey) → words.IsEarlier ms self.now
             → IsKeyAt (map conversation_key ms) k place
@@ -73,11 +69,7 @@ impl Earlier {
 
     /// Returns the earlier places that the message has to follow because one of the two messages is
     /// a response to the other.
-    fn of_conversation(
-        &self,
-        alloc: Global,
-        place: usize,
-    ) -> Result<Vec<usize>, AllocError>
+    fn of_conversation(&self, alloc: Global, place: usize) -> Result<Vec<usize>, AllocError>
         requires { (ms : List Sent) × words.IsEarlier ms self.now × (place < length ms) }
         ensures { (ms : List Sent) → words.IsEarlier ms self.now
             → IfOk result (λ waits. words.Covers words.talk ms place waits.items) }
@@ -94,11 +86,7 @@ impl Earlier {
 
     /// Returns earlier places that the message has to follow whatever the rules are. What such a
     /// place itself has to follow may be left out.
-    pub fn waits_of(
-        &self,
-        alloc: Global,
-        place: usize,
-    ) -> Result<Vec<usize>, AllocError>
+    pub fn waits_of(&self, alloc: Global, place: usize) -> Result<Vec<usize>, AllocError>
         requires { (ms : List Sent) × words.IsEarlier ms self.now × (place < length ms) }
         ensures { (ms : List Sent) → words.IsEarlier ms self.now
             → IfOk result (λ waits. words.Covers words.are_tied ms place waits.items) }

@@ -1,12 +1,12 @@
-use Rattle.std.proofs.Common.{◌≡◌, ℕ, ◌+◌, List, [], ◌∷◌, ◌++◌, map, length, take, Some, sym, ap, ◌∙◌}
+use Rattle.std.proofs.Common.{◌≡◌, ℕ, List, [], ◌∷◌, ◌++◌, map, length, sym, ap, ◌∙◌}
 use Rattle.std.proofs.Common.{subst, arith}
 use Rattle.std.specs.Prelude.{slice_get, IsPermutation}
-use Rattle.std.specs.List.{All, range_with_len}
+use Rattle.std.specs.List.{range_with_len}
 use Rattle.std.proofs.lemmas.List.{take_all, map-append}
 use Rattle.std.proofs.lemmas.List.Elements.{All-push, All-same}
 use Rattle.std.proofs.lemmas.List.Sorted.{IsPermutation-map, All-permutation}
 use Rattle.dap_swaps.specs.Plan.{AreByKey}
-use Rattle.dap_swaps.specs.SortKeys.{SortKey, sort_key_of, entry_key}
+use Rattle.dap_swaps.specs.SortKeys.{SortKey, entry_key}
 use Rattle.dap_swaps.specs.declared.by_key.SortKey.{SortKey as ReadSortKey}
 use Rattle.dap_swaps.proofs.Lists.{got, len_map}
 use Rattle.dap_swaps.proofs.Planning.{range_len}
@@ -36,9 +36,11 @@ loop-entry-preserved c =
           ∙ ap (λ p. range_with_len 0 i ++ p ∷ []) place ∙ sym (range_more i);
       keys = All-same (IsKeyOf all) c.push.new.self.items (keys ++ k ∷ [])
           c.in_ok-push.ensures.items
-          (All-push (IsKeyOf all) keys k inv.keys
-          (e, ap (slice_get all) place ∙ got all i e c.loop-entry-test.true c.entry-item.is,
-          c.sort_key.ensures ∙ ap (entry_key e) (sym given)));
+          (All-push (IsKeyOf all) keys k inv.keys (
+            e,
+            ap (slice_get all) place ∙ got all i e c.loop-entry-test.true c.entry-item.is,
+            c.sort_key.ensures ∙ ap (entry_key e) (sym given),
+          ));
     }
 
 pub returns-clause-once : goal.returns-clause-once

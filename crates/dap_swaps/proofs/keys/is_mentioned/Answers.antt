@@ -1,4 +1,4 @@
-use Rattle.std.proofs.Common.{◌≡◌, ◌∙◌}
+use Rattle.std.proofs.Common.{◌∙◌}
 use Rattle.dap_session.specs.EnvelopeView.{message_of}
 use Rattle.dap_swaps.specs.Keys.{has_name_in}
 use Rattle.dap_swaps.proofs.RuleLists.{any_swap}

@@ -1,4 +1,5 @@
-use Rattle.std.proofs.Common.{◌≡◌, ℕ, ◌+◌, ◌<◌, List, [], ◌∷◌, ◌++◌, map, length, Option, Some, sym, ap}
+use Rattle.std.proofs.Common.{◌≡◌, ℕ, ◌+◌, ◌<◌, List, [], ◌∷◌, ◌++◌, map, length, Option, Some}
+use Rattle.std.proofs.Common.{sym, ap}
 use Rattle.std.proofs.Common.{◌∙◌, subst, arith, get_or, length-append, Vec, Global}
 use Rattle.std.specs.Prelude.{slice_get}
 use Rattle.dap_mask.specs.Swaps.{swaps_of}
@@ -59,8 +60,10 @@ loop-place-preserved c =
           (group_again ks n groups firsts inv p there_is.0 there_is.1))
           )
       | in-None+in_ok-push-in-None w ↦ (
-          let long : length (firsts ++ n ∷ []) ≡ length firsts + 1 = length-append firsts (n ∷ []) in
-          let items : w.push.new.self.items ≡ firsts ++ n ∷ [] = w.in_ok-push-in-None.ensures.items in
+          let long : length (firsts ++ n ∷ []) ≡ length firsts + 1 =
+          length-append firsts (n ∷ []) in
+          let items : w.push.new.self.items ≡ firsts ++ n ∷ [] =
+          w.in_ok-push-in-None.ensures.items in
           let group : c.match-index.group ≡ length firsts =
           omega (arith, w.group-is, w.len.ensures, w.push.new.self.ok.0, ap length items, long) in
           subst (AreGroups ks (n + 1) c.push-in-loop-place.new.self.items)

@@ -1,4 +1,3 @@
-use Rattle.std.proofs.Common.{◌≡◌}
 use Rattle.dap_swaps.proofs.Planning.{has_parts, well_formed, is_plan}
 use Rattle.dap_swaps.proofs.plan.plan_of.Goals as goal
 

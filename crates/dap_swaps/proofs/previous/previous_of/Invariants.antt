@@ -1,4 +1,4 @@
-use Rattle.std.proofs.Common.{◌≡◌, map, take}
+use Rattle.std.proofs.Common.{map, take}
 use Rattle.std.specs.BTreeMap.{get}
 use Rattle.dap_swaps.specs.Entries.{sent_by}
 use Rattle.dap_swaps.specs.Keys.{own_key, sought_key, ArePrevious}

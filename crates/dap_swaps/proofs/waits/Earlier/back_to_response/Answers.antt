@@ -1,4 +1,4 @@
-use Rattle.std.proofs.Common.{◌≡◌, ℕ, ◌+◌, ◌<◌, List, [], ◌∷◌, ◌++◌, map, length, Option, Some, None}
+use Rattle.std.proofs.Common.{◌≡◌, ℕ, ◌<◌, map, length, Option, Some, None}
 use Rattle.std.proofs.Common.{true, sym, ap, ◌∙◌, subst, arith}
 use Rattle.std.specs.Prelude.{slice_get}
 use Rattle.dap_swaps.specs.Keys.{IsKeyAt, conversation_key, is_numbered_response}
@@ -24,8 +24,14 @@ index-requires c =
     (omega (arith, c.requires.2, len_map conversation_key ms)) in
     let before = (next_is (map conversation_key ms) k.0 c.args.place c.loop-next.next
     c.in-Some.earlier c.in-Some.is (c.loop-next.invariant ms k.0 is k.1).now).0 in
-    omega (arith, before, c.requires.2, c.args.self.now.are_responses.ok.0,
-    ap length is.are_responses, len_map is_numbered_response ms)
+    omega (
+      arith,
+      before,
+      c.requires.2,
+      c.args.self.now.are_responses.ok.0,
+      ap length is.are_responses,
+      len_map is_numbered_response ms,
+    )
 
 pub index-requires-else-index : goal.index-requires-else-index
 index-requires-else-index c =
@@ -35,9 +41,14 @@ index-requires-else-index c =
     (omega (arith, c.requires.2, len_map conversation_key ms)) in
     let before = (next_is (map conversation_key ms) k.0 c.args.place c.loop-next.next
     c.in-Some.earlier c.in-Some.is (c.loop-next.invariant ms k.0 is k.1).now).0 in
-    omega (arith, before, c.requires.2, c.args.self.now.in_conversation.ok.0,
-    previous_len (map conversation_key ms) conversation_key ms
-    c.args.self.now.in_conversation.items is.in_conversation)
+    omega (
+      arith,
+      before,
+      c.requires.2,
+      c.args.self.now.in_conversation.ok.0,
+      previous_len (map conversation_key ms) conversation_key ms
+          c.args.self.now.in_conversation.items is.in_conversation,
+    )
 
 pub loop-next-preserved-then-index : goal.loop-next-preserved-then-index
 loop-next-preserved-then-index c ms k is at =
@@ -50,8 +61,12 @@ loop-next-preserved-then-index c ms k is at =
     let before : p < c.args.place = back.now.0 in
     let read : slice_get c.args.self.now.are_responses.items p ≡ Some c.index.result.now =
     got c.args.self.now.are_responses.items p c.index.result.now
-    (omega (arith, ap length is.are_responses, len_map is_numbered_response ms,
-    len_map conversation_key ms)) c.index.ensures in
+    (omega (
+      arith,
+      ap length is.are_responses,
+      len_map is_numbered_response ms,
+      len_map conversation_key ms,
+    )) c.index.ensures in
     let response : slice_get (map is_numbered_response ms) p ≡ Some true =
     ap (λ bs. slice_get bs p) (sym is.are_responses) ∙ read ∙ ap (λ b. Some b) c.if-index.true in
     subst (AreBackTo ms k c.args.place None) (sym c.in_ok-push.ensures.items)

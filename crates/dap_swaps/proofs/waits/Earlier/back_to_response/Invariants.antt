@@ -1,4 +1,4 @@
-use Rattle.std.proofs.Common.{◌≡◌, ℕ, ◌+◌, List, map, Option, Some, None}
+use Rattle.std.proofs.Common.{List, map}
 use Rattle.dap_message.specs.Message.{Sent}
 use Rattle.dap_swaps.specs.Keys.{Key, conversation_key, IsKeyAt}
 use Rattle.dap_swaps.specs.Waits.{IsEarlier}

@@ -1,5 +1,5 @@
-use Rattle.std.proofs.Common.{◌≡◌, ℕ, ◌<◌, Bool, true, false, List, [], ◌∷◌, ◌++◌, map, length, Option}
-use Rattle.std.proofs.Common.{Some, None, sym, ap, ◌∙◌, subst, arith, Vec, Global}
+use Rattle.std.proofs.Common.{◌≡◌, ℕ, ◌<◌, Bool, List, [], ◌∷◌, ◌++◌, map, length, Option}
+use Rattle.std.proofs.Common.{Some, sym, ap, ◌∙◌, subst, arith, Vec, Global}
 use Rattle.std.specs.Prelude.{slice_get}
 use Rattle.std.proofs.lemmas.Result.{IfOk-weaker}
 use Rattle.dap_message.specs.Message.{Sent}
@@ -17,8 +17,13 @@ use Rattle.dap_swaps.proofs.waits.Earlier.of_conversation.Goals.{in-Some+in_ok-p
 within : (e : Earlier) (ms ns : List Sent) (place : ℕ) → IsEarlier ms e → IsEarlier ns e
     → place < length ns → place < length ms
 within e ms ns place is was low =
-    omega (arith, ap length is.are_responses, ap length was.are_responses,
-    len_map is_numbered_response ms, len_map is_numbered_response ns)
+    omega (
+      arith,
+      ap length is.are_responses,
+      ap length was.are_responses,
+      len_map is_numbered_response ms,
+      len_map is_numbered_response ns,
+    )
 
 -- The test that was read is that of the message.
 tested : (ms : List Sent) (bs : List Bool) (place : ℕ) (b : Bool) (y : Sent)

@@ -1,4 +1,4 @@
-use Rattle.std.proofs.Common.{◌≡◌, ℕ, ◌<◌, List, [], ◌∷◌, ◌++◌, map, length, Option, Some, None, sym, ap}
+use Rattle.std.proofs.Common.{ℕ, ◌<◌, map, length, Option, sym, ap}
 use Rattle.std.proofs.Common.{◌∙◌, subst, arith, Vec, Global}
 use Rattle.dap_swaps.specs.Keys.{class_key, is_numbered_response, IsKeyAt, IsLastBelow}
 use Rattle.dap_swaps.specs.Waits.{are_tied, Covers}
@@ -12,8 +12,14 @@ pub returns : goal.returns
 returns c ms is =
     let e = c.args.self.now in
     let low : c.args.place < length ms =
-    omega (arith, c.requires.2, ap length is.are_responses, ap length c.requires.1.are_responses,
-    len_map is_numbered_response ms, len_map is_numbered_response c.requires.0) in
+    omega (
+      arith,
+      c.requires.2,
+      ap length is.are_responses,
+      ap length c.requires.1.are_responses,
+      len_map is_numbered_response ms,
+      len_map is_numbered_response c.requires.0,
+    ) in
     let y = there ms c.args.place low in
     let covers = c.in_ok-waits.ensures ms is in
     let last = previous_at (map class_key ms) class_key ms e.in_class.items is.in_class
