@@ -10,7 +10,9 @@ use Rattle.std.specs.Cmp.Lexicographic.{slice_cmp}
 use Rattle.std.specs.Ordering.{is_eq, ordering_then, nat_cmp, int_cmp}
 use Rattle.std.proofs.lemmas.Bool.{and_parts, or_cases, or_left, or_right}
 use Rattle.std.proofs.lemmas.Bool.Decides.{Decides-and, Decides-or, Decides-not, Decides-int_eq}
-use Rattle.std.proofs.lemmas.Cmp.{ranked, by_ranked, tied_itself}
+use Rattle.std.specs.Cmp.Lexicographic.{options_total}
+use Rattle.std.proofs.lemmas.Cmp.{ranked, by_ranked, tied_itself, nat_cmp_total, int_cmp_total}
+use Rattle.std.proofs.lemmas.Cmp.{nat_list_cmp_total}
 use Rattle.dap_tree.specs.declared.side.Side.TheVariants.{Client, Adapter}
 use Rattle.dap_profile.specs.declared.profile.Kind.{Kind}
 use Rattle.dap_profile.specs.declared.profile.Kind.TheVariants.{Request, Response, Event}
@@ -29,12 +31,12 @@ use Rattle.dap_swaps.proofs.RenamedOrder.{equal_then}
 
 -- ---- classes
 
-one_nat : (a b : ℕ) → is_eq (nat_cmp a b) ≡ true → a ≡ b
+pub one_nat : (a b : ℕ) → is_eq (nat_cmp a b) ≡ true → a ≡ b
 one_nat a b h =
     by_ranked _ _ _ (nat_cmp a b) (ranked a b (nat_cmp a b) refl) (λ o l. absurd (cc))
     (λ o e. e) (λ o l. absurd (cc))
 
-one_list : (a b : List ℕ) → is_eq (slice_cmp nat_cmp a b) ≡ true → a ≡ b
+pub one_list : (a b : List ℕ) → is_eq (slice_cmp nat_cmp a b) ≡ true → a ≡ b
 one_list [] [] h = refl
 one_list [] (y ∷ b) h = absurd (cc)
 one_list (x ∷ a) [] h = absurd (cc)
@@ -43,11 +45,20 @@ one_list (x ∷ a) (y ∷ b) h =
     (sym (equal_then (nat_cmp x y) (slice_cmp nat_cmp a b)) ∙ h) in
     ap (λ z. z ∷ a) (one_nat x y w.0) ∙ ap (λ t. y ∷ t) (one_list a b w.1)
 
-one_option : (a b : Option ℤ) → is_eq (option_cmp int_cmp a b) ≡ true → a ≡ b
+pub one_option : (a b : Option ℤ) → is_eq (option_cmp int_cmp a b) ≡ true → a ≡ b
 one_option None None h = refl
 one_option None (Some y) h = absurd (cc)
 one_option (Some x) None h = absurd (cc)
 one_option (Some x) (Some y) h = ap (λ z. Some z) ((Decides-int_eq x y).0 h)
+
+pub nat_itself : (a : ℕ) → is_eq (nat_cmp a a) ≡ true
+nat_itself a = ap is_eq (tied_itself nat_cmp_total a)
+
+pub option_itself : (a : Option ℤ) → is_eq (option_cmp int_cmp a a) ≡ true
+option_itself a = ap is_eq (tied_itself (options_total int_cmp_total) a)
+
+pub list_itself : (a : List ℕ) → is_eq (slice_cmp nat_cmp a a) ≡ true
+list_itself a = ap is_eq (tied_itself nat_list_cmp_total a)
 
 one_kind : (k l : Kind) → kind_rank k ≡ kind_rank l → k ≡ l
 one_kind Request Request h = refl
@@ -65,7 +76,7 @@ other_rank Request = (λ h. omega (arith, h), λ h. omega (arith, h))
 other_rank Response = (λ h. omega (arith, h), λ h. omega (arith, h))
 other_rank Event = (λ h. omega (arith, h), λ h. omega (arith, h))
 
-one_class : (a b : Class) → class_rank a ≡ class_rank b → class_number a ≡ class_number b
+pub one_class : (a b : Class) → class_rank a ≡ class_rank b → class_number a ≡ class_number b
     → class_name a ≡ class_name b → a ≡ b
 one_class of_client of_client r n m = refl
 one_class of_client (to_number o) r n m = absurd (omega (arith, r))
@@ -78,7 +89,7 @@ one_class (with_name k w) (to_number o) r n m = absurd ((other_rank k).1 r)
 one_class (with_name k w) (with_name l v) r n m =
     ap (λ (j : Kind). with_name j w) (one_kind k l r) ∙ ap (λ (u : List ℕ). with_name l u) m
 
-one_class-Decides : (a b : Class) → Decides (same_class a b) (a ≡ b)
+pub one_class-Decides : (a b : Class) → Decides (same_class a b) (a ≡ b)
 one_class-Decides a b = (
   λ h.
       let w = and_parts (is_eq (nat_cmp (class_rank a) (class_rank b)))

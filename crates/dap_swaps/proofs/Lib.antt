@@ -14,3 +14,13 @@ pub mod RequestPlaces
 pub mod TableOrder
 pub mod Ranges
 pub mod PlacesInOrder
+pub mod Lists
+pub mod PreviousPlaces
+pub mod KeyEquality
+pub mod Conversations
+pub mod Covering
+pub mod SameLooks
+pub mod Planning
+pub mod SortedKeys
+pub mod Walking
+pub mod Grouping

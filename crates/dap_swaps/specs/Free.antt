@@ -100,26 +100,41 @@ answers x y = is_request y && is_response_to (side_of y) (seq_of y) x
 abbrev pub is_initialize_response : Sent → Bool
 is_initialize_response m = is_from Adapter m && is_response m && is_named (codes "initialize") m
 
+-- It is the client's `initialize` request or the adapter's response to `initialize`.
+abbrev pub begins : Sent → Bool
+begins m = is_client_initialize m || is_initialize_response m
+
 -- x is the client's `initialize` request or the adapter's response to `initialize`, and y is not an
 -- `output` event of the adapter (rules `NotInitialized` and `StillInitializing`).
 abbrev pub initializes : Sent → Sent → Bool
-initializes x y = (is_client_initialize x || is_initialize_response x) && not (is_output y)
+initializes x y = begins x && not (is_output y)
 
 -- x is an `initialized` event, and y is the client's `configurationDone` request (rule
 -- `ConfiguredEarly`).
 abbrev pub allows_configuration : Sent → Sent → Bool
 allows_configuration x y = is_initialized x && is_configuration_done y
 
+-- It is a request of the client.
+abbrev pub is_client_request : Sent → Bool
+is_client_request m = is_from Client m && is_request m
+
 -- x is a successful `disconnect` response, and y is a request of the client (rule
 -- `AfterDisconnect`).
 abbrev pub ends_requests : Sent → Sent → Bool
-ends_requests x y = is_farewell x && (is_from Client y && is_request y)
+ends_requests x y = is_farewell x && is_client_request y
+
+-- A rule of the session fixes the order of x and y, whatever their ids are.
+abbrev pub is_fixed : Sent → Sent → Bool
+is_fixed x y = initializes x y || (allows_configuration x y || ends_requests x y)
 
 -- The order of x and y is fixed: by their class, or by a rule of the session.
 abbrev pub depends : Sent → Sent → Bool
-depends x y =
-    of_one_class x y
-    || (answers x y || (initializes x y || (allows_configuration x y || ends_requests x y)))
+depends x y = of_one_class x y || (answers x y || is_fixed x y)
+
+-- A rule names the messages, and no rule of the session fixes their order, whatever their ids are.
+abbrev pub may_swap : List SwapRule → Sent → Sent → Bool
+may_swap rules x y =
+    list_any (λ r. names_both r x y) rules && (not (is_fixed x y) && not (is_fixed y x))
 
 -- The messages may change places if they are neighbours: a rule names them, and their order is not
 -- fixed.

@@ -6,3 +6,8 @@ pub mod Requests
 pub mod Entries
 pub mod Table
 pub mod Laws
+pub mod Keys
+pub mod Waits
+pub mod Looks
+pub mod Plan
+pub mod SortKeys

@@ -8,7 +8,7 @@ use dap_session::envelope::Envelope;
 use dap_session::message::{is_from, is_response, kind_of, name_of, request_seq_of};
 use std::cmp::Ordering;
 
-fn class_rank(message: &Envelope<'_>) -> u8
+pub fn class_rank(message: &Envelope<'_>) -> u16
     ensures { result ≡ words.class_rank (words.class_of (message_of message.now)) }
 {
     if is_from(message, Side::Client) {
@@ -24,7 +24,7 @@ fn class_rank(message: &Envelope<'_>) -> u8
     }
 }
 
-fn class_number(message: &Envelope<'_>) -> Option<i64>
+pub fn class_number(message: &Envelope<'_>) -> Option<i64>
     ensures { result ≡ words.class_number (words.class_of (message_of message.now)) }
 {
     if is_from(message, Side::Client) || !is_response(message) {
@@ -33,7 +33,7 @@ fn class_number(message: &Envelope<'_>) -> Option<i64>
     request_seq_of(message)
 }
 
-fn class_name<'m>(message: &Envelope<'m>) -> &'m str
+pub fn class_name<'m>(message: &Envelope<'m>) -> &'m str
     ensures { result.now ≡ words.class_name (words.class_of (message_of message.now)) }
 {
     if is_from(message, Side::Client) || is_response(message) {

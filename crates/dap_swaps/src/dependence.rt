@@ -19,7 +19,7 @@ fn of_one_class(x: &Envelope<'_>, y: &Envelope<'_>) -> bool
     class_cmp(x, y) == Ordering::Equal
 }
 
-fn other(side: Side) -> Side
+pub fn other(side: Side) -> Side
     ensures { result ≡ tests.other side }
 {
     match side {
@@ -53,10 +53,17 @@ fn is_initialize_response(message: &Envelope<'_>) -> bool
     is_from(message, Side::Adapter) && is_response(message) && name_of(message) == "initialize"
 }
 
+/// Returns whether it is the client's `initialize` request or the adapter's response to it.
+pub fn begins(message: &Envelope<'_>) -> bool
+    ensures { result ≡ words.begins (message_of message.now) }
+{
+    is_client_initialize(message) || is_initialize_response(message)
+}
+
 fn initializes(x: &Envelope<'_>, y: &Envelope<'_>) -> bool
     ensures { result ≡ words.initializes (message_of x.now) (message_of y.now) }
 {
-    (is_client_initialize(x) || is_initialize_response(x)) && !is_output(y)
+    begins(x) && !is_output(y)
 }
 
 fn allows_configuration(x: &Envelope<'_>, y: &Envelope<'_>) -> bool
@@ -65,17 +72,29 @@ fn allows_configuration(x: &Envelope<'_>, y: &Envelope<'_>) -> bool
     is_initialized(x) && is_configuration_done(y)
 }
 
+pub fn is_client_request(message: &Envelope<'_>) -> bool
+    ensures { result ≡ words.is_client_request (message_of message.now) }
+{
+    is_from(message, Side::Client) && is_request(message)
+}
+
 fn ends_requests(x: &Envelope<'_>, y: &Envelope<'_>) -> bool
     ensures { result ≡ words.ends_requests (message_of x.now) (message_of y.now) }
 {
-    is_farewell(x) && (is_from(y, Side::Client) && is_request(y))
+    is_farewell(x) && is_client_request(y)
+}
+
+/// Returns whether a rule of the session fixes the order of `x` and `y`, whatever their ids are, if
+/// `x` comes first.
+pub fn is_fixed(x: &Envelope<'_>, y: &Envelope<'_>) -> bool
+    ensures { result ≡ words.is_fixed (message_of x.now) (message_of y.now) }
+{
+    initializes(x, y) || (allows_configuration(x, y) || ends_requests(x, y))
 }
 
 /// Returns whether the order of `x` and `y` is fixed if `x` comes first.
 pub fn depends(x: &Envelope<'_>, y: &Envelope<'_>) -> bool
     ensures { result ≡ words.depends (message_of x.now) (message_of y.now) }
 {
-    of_one_class(x, y)
-        || (answers(x, y)
-            || (initializes(x, y) || (allows_configuration(x, y) || ends_requests(x, y))))
+    of_one_class(x, y) || (answers(x, y) || is_fixed(x, y))
 }

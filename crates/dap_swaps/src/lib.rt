@@ -6,14 +6,20 @@
 //! [`laws`] has the theorems.
 #![tactic(auto)]
 
+mod by_key;
 mod classes;
 mod dependence;
 mod entries;
+mod keys;
 pub mod laws;
+mod looks;
 mod ordering;
+mod plan;
+mod previous;
 mod requests;
 mod rules;
 mod table;
+mod waits;
 
 pub use dap_mask::{Half, SwapRule};
 pub use dap_message::{Kind, Message};

@@ -6,6 +6,7 @@ ghost use Rattle.dap_message.specs.Message.{sent};
 ghost use Rattle.dap_swaps.specs.Order.{ordered};
 
 use crate::entries::entries_of;
+use crate::plan::plan_of;
 use crate::table::Table;
 use dap_mask::SwapRule;
 use dap_message::Message;
@@ -17,9 +18,9 @@ use std::alloc::{AllocError, Global};
 /// Two recordings have the same order if and only if the rules allow swaps of neighbours that turn
 /// one into the other. The order of a recording that obeys the rules of the session obeys them too.
 ///
-/// Each message is compared with the messages before it, from the nearest on, up to the first that
-/// is not free with it. So the time grows with the square of the number of messages if all of them
-/// are free with each other, and in proportion to that number if few neighbours are.
+/// The time grows as n log n + n (l + r) + l² r for n messages and r rules. Here l is the number of
+/// looks: messages have one look if they have the same kind and name, or the same kind and names
+/// that no rule has, and the rules of the session treat them alike.
 ///
 /// # Errors
 ///
@@ -36,19 +37,7 @@ pub fn put_in_order(
         ≡ map Some (ordered (swaps_of rules.now) (map sent messages.now))) }
 {
     let entries = entries_of(alloc, messages)?;
-    let mut places = places_below(alloc, messages.len())?;
     let table = Table { rules, entries };
-    dap_order::put_in_order(&table, &mut places);
-    Ok(places)
-}
-
-/// Returns the numbers below `count`, from 0 on.
-fn places_below(alloc: Global, count: usize) -> Result<Vec<usize>, AllocError>
-    ensures { IfOk result (λ places. places.items ≡ range_with_len 0 count) }
-{
-    let mut places = Vec::new(alloc);
-    for place in 0..count {
-        places.push(place)?;
-    }
-    Ok(places)
+    let plan = plan_of(alloc, &table)?;
+    dap_order::order_of_places(alloc, &plan)
 }

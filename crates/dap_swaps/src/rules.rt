@@ -7,7 +7,7 @@ ghost use Rattle.dap_session.specs.EnvelopeView.{message_of};
 ghost use Rattle.dap_swaps.specs.Free as words;
 ghost use Rattle.dap_swaps.specs.Words.{IsFree};
 
-use crate::dependence::depends;
+use crate::dependence::{depends, is_fixed};
 use dap_mask::{Half, SwapRule};
 use dap_message::Message;
 use dap_session::envelope::{Envelope, envelope_of};
@@ -64,4 +64,13 @@ pub(crate) fn frees(rules: &[SwapRule], x: &Envelope<'_>, y: &Envelope<'_>) -> b
         ≡ words.free (swaps_of rules.now) (message_of x.now) (message_of y.now) }
 {
     some_names_both(rules, x, y) && (!depends(x, y) && !depends(y, x))
+}
+
+/// Returns whether a rule names the two messages and no rule of the session fixes their order,
+/// whatever their ids are.
+pub(crate) fn may_swap(rules: &[SwapRule], x: &Envelope<'_>, y: &Envelope<'_>) -> bool
+    ensures { result
+        ≡ words.may_swap (swaps_of rules.now) (message_of x.now) (message_of y.now) }
+{
+    some_names_both(rules, x, y) && (!is_fixed(x, y) && !is_fixed(y, x))
 }

@@ -1,49 +1,63 @@
-use Rattle.std.proofs.Common.{◌≡◌, ℕ, List, map, length, take, drop, ◌++◌, sym, ap, ◌∙◌, subst}
-use Rattle.std.specs.Prelude.{slice_get, IsPermutation}
+use Rattle.std.proofs.Common.{◌≡◌, ℕ, List, map, length, sym, ap, ◌∙◌, subst, Vec, Global}
+use Rattle.std.specs.Prelude.{slice_get, IsPermutation, Some}
 use Rattle.std.specs.List.{range_with_len}
-use Rattle.std.proofs.lemmas.List.{take_at, length-map}
-use Rattle.dap_mask.specs.Swaps.{swaps_of}
+use Rattle.std.proofs.lemmas.List.{length-map}
+use Rattle.std.proofs.lemmas.Result.{IfOk-weaker}
+use Rattle.dap_mask.specs.Swaps.{SwapRule, swaps_of}
 use Rattle.dap_message.specs.Message.{Sent, sent}
+use Rattle.dap_order.specs.Swaps.{Swaps}
 use Rattle.dap_order.specs.Order.{order}
 use Rattle.dap_order.specs.Labels.{label, by_label}
 use Rattle.dap_order.specs.ByPlace.{by_place}
+use Rattle.dap_order.specs.Plan.{place_count}
 use Rattle.dap_order.proofs.Kept.{reordered_permutation}
+use Rattle.dap_order.proofs.Moves.{order_reordered}
 use Rattle.dap_swaps.specs.Entries.{sent_by}
-use Rattle.dap_swaps.specs.Order.{message_labels}
+use Rattle.dap_swaps.specs.Order.{message_labels, ordered}
 use Rattle.dap_swaps.proofs.PlacesInOrder.{are_swaps_of_places, places_in_order}
 use Rattle.dap_swaps.proofs.ordering.put_in_order.Goals as goal
 
-pub put_in_order-requires : goal.put_in_order-requires
-put_in_order-requires c =
-    are_swaps_of_places (swaps_of c.args.rules.now) (map sent_by c.in_ok-entries.entries.items)
-
--- What was written back to the vector.
-written : (n : ℕ) (new old : List ℕ) → length new ≡ n → take n (new ++ drop (length new) old) ≡ new
-written n new old e = take_at new (drop (length new) old) n e
+-- the order of the places of these messages
+abbrev order_of : List SwapRule → List Sent → Swaps ℕ
+order_of rules ms = by_place (by_label (message_labels rules)) (label (message_labels rules) ms)
 
 pub returns-clause-once : goal.returns-clause-once
 returns-clause-once c =
-    let new = c.put_in_order.new.items in
-    subst (IsPermutation (range_with_len 0 (length c.args.messages.now)))
-    (sym (written c.in_ok-places.places.len new c.in_ok-places.places.items
-    (c.put_in_order.auto.items ∙ c.deref_mut.ensures.len)))
-    (subst (λ (zs : List ℕ). IsPermutation zs new)
-    (c.deref_mut.ensures.value ∙ c.in_ok-places.ensures)
-    (reordered_permutation _ c.deref_mut.result.now new c.put_in_order.ensures.reordered))
+    let rules = swaps_of c.args.rules.now in
+    let ms = map sent_by c.in_ok-entries.entries.items in
+    let are = are_swaps_of_places rules ms in
+    let count : place_count c.in_ok-plan.plan ≡ length c.args.messages.now =
+    c.in_ok-plan.ensures.count ∙ sym (length-map c.in_ok-entries.entries.items sent_by)
+    ∙ ap length c.in_ok-entries.ensures.messages ∙ length-map c.args.messages.now sent in
+    IfOk-weaker c.order_of_places.result
+    (λ (places : Vec ℕ Global). places.items
+    ≡ order (order_of rules ms) (range_with_len 0 (place_count c.in_ok-plan.plan)))
+    (λ (places : Vec ℕ Global).
+    IsPermutation (range_with_len 0 (length c.args.messages.now)) places.items)
+    (λ places is.
+    subst (λ (n : ℕ). IsPermutation (range_with_len 0 n) places.items) count
+    (subst (IsPermutation (range_with_len 0 (place_count c.in_ok-plan.plan))) (sym is)
+    (reordered_permutation (order_of rules ms).free
+    (range_with_len 0 (place_count c.in_ok-plan.plan)) _
+    (order_reordered (order_of rules ms) are
+    (range_with_len 0 (place_count c.in_ok-plan.plan))))))
+    (c.order_of_places.ensures.ordered (order_of rules ms) are c.in_ok-plan.ensures.plan)
 
 pub returns-clause-order : goal.returns-clause-order
 returns-clause-order c =
-    let new = c.put_in_order.new.items in
     let rules = swaps_of c.args.rules.now in
-    let ms = map sent c.args.messages.now in
-    let s = message_labels rules in
-    let is : new ≡ order (by_place (by_label s) (label s ms)) (range_with_len 0 (length ms)) =
-    c.put_in_order.ensures.after
-    ∙ ap (λ (zs : List Sent). order (by_place (by_label s) (label s zs)) c.deref_mut.result.now)
-    c.in_ok-entries.ensures.messages
-    ∙ ap (order (by_place (by_label s) (label s ms)))
-    (c.deref_mut.ensures.value ∙ c.in_ok-places.ensures
-    ∙ ap (range_with_len 0) (sym (length-map c.args.messages.now sent))) in
-    ap (map (slice_get ms)) (written c.in_ok-places.places.len new c.in_ok-places.places.items
-    (c.put_in_order.auto.items ∙ c.deref_mut.ensures.len))
-    ∙ places_in_order rules ms new is
+    let ms = map sent_by c.in_ok-entries.entries.items in
+    let ns = map sent c.args.messages.now in
+    let same : ms ≡ ns = c.in_ok-entries.ensures.messages in
+    let are = are_swaps_of_places rules ms in
+    let count : place_count c.in_ok-plan.plan ≡ length ms =
+    c.in_ok-plan.ensures.count ∙ sym (length-map c.in_ok-entries.entries.items sent_by) in
+    IfOk-weaker c.order_of_places.result
+    (λ (places : Vec ℕ Global). places.items
+    ≡ order (order_of rules ms) (range_with_len 0 (place_count c.in_ok-plan.plan)))
+    (λ (places : Vec ℕ Global).
+    map (slice_get ns) places.items ≡ map Some (ordered rules ns))
+    (λ places is. places_in_order rules ns places.items
+    (is ∙ ap (λ n. order (order_of rules ms) (range_with_len 0 n)) count
+    ∙ ap (λ (zs : List Sent). order (order_of rules zs) (range_with_len 0 (length zs))) same))
+    (c.order_of_places.ensures.ordered (order_of rules ms) are c.in_ok-plan.ensures.plan)

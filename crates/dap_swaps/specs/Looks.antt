@@ -1,0 +1,25 @@
+-- The groups of messages by their looks, for private clauses.
+use Rattle.std.specs.Prelude.{◌≡◌, ℕ, ◌<◌, Bool, not, List, length, map, slice_get}
+use Rattle.std.specs.List.{slice_index_or}
+use Rattle.dap_message.specs.Message.{Sent}
+use Rattle.dap_mask.specs.Swaps.{SwapRule}
+use Rattle.dap_order.specs.ByPlace.{passes_both}
+use Rattle.dap_swaps.specs.Free.{may_swap}
+use Rattle.dap_swaps.specs.Keys.{Key}
+
+-- No message with the look of that at the first place is free with a message with the look of that
+-- at the second place.
+abbrev pub blocks_at : List SwapRule → List Sent → ℕ → ℕ → Bool
+blocks_at rules ms i j = not (passes_both (may_swap rules) (slice_get ms i) (slice_get ms j))
+
+-- the groups of these places block each other by the first place of each
+abbrev pub block_table : List SwapRule → List Sent → List ℕ → List (List Bool)
+block_table rules ms firsts = map (λ i. map (blocks_at rules ms i) firsts) firsts
+
+-- The first n keys have these groups, and `firsts` has the first place of each group.
+pub record AreGroups (ks : List Key) (n : ℕ) (groups firsts : List ℕ) : Type 0 where
+  pub len : length groups ≡ n
+  pub in_range : (j : ℕ) → j < n → slice_index_or groups j 0 < length firsts
+  pub earlier : (g : ℕ) → g < length firsts → slice_index_or firsts g 0 < n
+  pub same : (j : ℕ) → j < n
+      → slice_get ks (slice_index_or firsts (slice_index_or groups j 0) 0) ≡ slice_get ks j
