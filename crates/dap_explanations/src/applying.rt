@@ -7,8 +7,8 @@ use dap_mask::MaskRules;
 use dap_rules_input::{ApplyRefused, mask_bytes};
 use std::alloc::{AllocError, Global};
 
-/// Explains why rules cannot be applied to a recording. The text is empty if a read failed, an
-/// allocation failed, or the text in order exceeds a limit.
+/// Explains why rules cannot be applied to a recording. The text is empty if a read or an allocation
+/// failed.
 pub fn explain_applying(
     alloc: Global,
     recording: &[u8],
@@ -25,7 +25,8 @@ pub fn explain_applying(
     }
 }
 
-/// Explains why the masked recording is rejected, which is made again.
+/// Explains why the masked recording is rejected, which is made again. The text is empty if its text
+/// in order exceeds a limit: the records of that text are not those of the masked recording.
 pub(crate) fn explain_session(
     alloc: Global,
     recording: &[u8],
@@ -35,7 +36,9 @@ pub(crate) fn explain_session(
 ) -> Result<String, AllocError>
     requires { AreSound limits }
 {
-    if let Refused::Grew(_) = why {
+    if let Refused::Grew(_) = why
+        && !rules.swaps().is_empty()
+    {
         return Ok(String::new(alloc));
     }
     match mask_bytes(alloc, rules, recording, limits) {

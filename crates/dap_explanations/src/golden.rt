@@ -1,8 +1,9 @@
 //! Explains why an input has no golden text.
 ghost use Rattle.dap_input.specs.Limits.{AreSound};
 
+use crate::applying::explain_session;
 use dap_explain::{explain, explain_masked};
-use dap_golden::{GoldenRefused, apply_rules, recording_of};
+use dap_golden::{GoldenRefused, recording_of};
 use dap_input::{Limits, Refused};
 use dap_mask::MaskRules;
 use std::alloc::{AllocError, Global};
@@ -21,7 +22,7 @@ pub fn explain_golden(
     match refused {
         GoldenRefused::Trace(why) => explain(alloc, input, why, limits),
         GoldenRefused::Mask(why) => explain_rules_on(alloc, input, rules, why, limits),
-        GoldenRefused::Session(why) => explain_session(alloc, input, rules, why, limits),
+        GoldenRefused::Session(why) => explain_session_of(alloc, input, rules, why, limits),
         GoldenRefused::NoRecords | GoldenRefused::Memory => Ok(String::new(alloc)),
     }
 }
@@ -44,8 +45,8 @@ fn explain_rules_on(
     }
 }
 
-/// Explains why the masked recording of an input is refused.
-fn explain_session(
+/// Explains why the recording of an input is rejected, after the rules if there are some.
+fn explain_session_of(
     alloc: Global,
     input: &[u8],
     rules: Option<&MaskRules>,
@@ -57,8 +58,8 @@ fn explain_session(
     let Ok(recording) = recording_of(alloc, input, limits) else {
         return Ok(String::new(alloc));
     };
-    match apply_rules(alloc, recording, rules, limits) {
-        Ok(masked) => explain(alloc, masked.as_slice(), why, limits),
-        Err(_) => Ok(String::new(alloc)),
+    match rules {
+        Some(rules) => explain_session(alloc, recording.as_slice(), rules, why, limits),
+        None => explain(alloc, recording.as_slice(), why, limits),
     }
 }

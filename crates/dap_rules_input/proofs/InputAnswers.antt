@@ -16,15 +16,15 @@ use Rattle.dap_input.specs.declared.refused.Refused.TheVariants.{Record}
 use Rattle.dap_rules_input.specs.Applying.{AppliesRules, IsRefusedByRules}
 use Rattle.dap_rules_input.specs.ApplyingSteps.{result_of_input}
 use Rattle.dap_rules_input.specs.Inputs.{ReadsByRules}
-use Rattle.dap_rules_input.specs.declared.fault.RulesRefused.{RulesRefused}
-use Rattle.dap_rules_input.specs.declared.fault.RulesRefused.TheVariants as because
+use Rattle.dap_rules_input.specs.declared.fault.ApplyRefused.{ApplyRefused}
+use Rattle.dap_rules_input.specs.declared.fault.ApplyRefused.TheVariants as because
 
 module _ {R : Type 0} (source : Source R) (limits : Limits) (mode : Mode) (mask : Mask)
     (old new : R) (bytes : List ℕ) where
   abbrev Came : Stop → Type 0
   Came stop = HasCome source old new limits.input bytes stop
 
-  abbrev Returns : Result (Vec ℕ Global) RulesRefused → Type 0
+  abbrev Returns : Result (Vec ℕ Global) ApplyRefused → Type 0
   Returns = ReadsByRules source limits mode mask old new
 
   -- An input that passes its limit is not cut.
@@ -40,7 +40,7 @@ module _ {R : Type 0} (source : Source R) (limits : Limits) (mode : Mode) (mask 
   refuses why stop came is cut =
       record { bytes = bytes; stop = stop; came = came; is_refused = is; cut = cut }
 
-  returned : (made : Result (Vec ℕ Global) RulesRefused) (stop : Stop) → Came stop
+  returned : (made : Result (Vec ℕ Global) ApplyRefused) (stop : Stop) → Came stop
       → IfOk made (λ written. AppliesRules limits mode mask bytes written.items)
       → IfErr made (IsRefusedByRules limits mode mask bytes)
       → Returns (result_of_input made stop)
@@ -66,7 +66,7 @@ module _ {R : Type 0} (source : Source R) (limits : Limits) (mode : Mode) (mask 
   returned (Err because.Memory) stop came none is = tt
 
   -- What is returned, if it is what the result of the bytes gives.
-  pub answers : (made given : Result (Vec ℕ Global) RulesRefused) (stop : Stop) → Came stop
+  pub answers : (made given : Result (Vec ℕ Global) ApplyRefused) (stop : Stop) → Came stop
       → IfOk made (λ written. AppliesRules limits mode mask bytes written.items)
       → IfErr made (IsRefusedByRules limits mode mask bytes)
       → given ≡ result_of_input made stop → Returns given

@@ -17,7 +17,7 @@ use Rattle.dap_order_input.proofs.OneOutcome.{ordered_has_no_error}
 use Rattle.dap_order_input.proofs.OrderedTexts.{one_ordered_text}
 use Rattle.dap_rules_input.specs.Applying.{IsNotOrderedBy, OrdersBy}
 use Rattle.dap_rules_input.specs.Laws.{AppliedHasNoError, OneTextByRules}
-use Rattle.dap_rules_input.specs.declared.fault.RulesRefused.TheVariants as because
+use Rattle.dap_rules_input.specs.declared.fault.ApplyRefused.TheVariants as because
 
 module _ (limits : Limits) where
   pub one_masked : (mask : Mask) (recording masked other : List ℕ)

@@ -11,8 +11,8 @@ use Rattle.dap_input.specs.Refusals.{IsRefused}
 use Rattle.dap_mask_input.specs.MaskedRecordings.{IsMaskedTo}
 use Rattle.dap_mask_input.specs.Masking.{masking}
 use Rattle.dap_order_input.specs.Ordering.{IsNotOrdered, Orders}
-use Rattle.dap_rules_input.specs.declared.fault.RulesRefused.{RulesRefused}
-use Rattle.dap_rules_input.specs.declared.fault.RulesRefused.TheVariants as because
+use Rattle.dap_rules_input.specs.declared.fault.ApplyRefused.{ApplyRefused}
+use Rattle.dap_rules_input.specs.declared.fault.ApplyRefused.TheVariants as because
 
 -- ---- the text
 
@@ -38,7 +38,7 @@ IsNotOrderedBy limits mode (rule ∷ rules) recording refused =
     IsNotOrdered limits mode (rule ∷ rules) recording refused
 
 -- The rules make no text of the recording. Ordering was reached only if masking succeeded.
-abbrev pub IsRefusedByRules : Limits → Mode → Mask → List ℕ → RulesRefused → Type 0
+abbrev pub IsRefusedByRules : Limits → Mode → Mask → List ℕ → ApplyRefused → Type 0
 IsRefusedByRules limits mode mask recording (because.Mask refused) =
     IsRefused (masking limits mask) recording refused
 IsRefusedByRules limits mode mask recording (because.Order refused) =

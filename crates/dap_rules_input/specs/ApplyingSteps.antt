@@ -6,23 +6,23 @@ use Rattle.dap_device.specs.declared.reading.Stop.TheVariants.{Failed}
 use Rattle.dap_input.specs.declared.refused.Refused.{Refused}
 use Rattle.dap_input.specs.declared.refused.Refused.TheVariants.{Memory, Record}
 use Rattle.dap_recording.specs.declared.record_fault.RecordCause.TheVariants.{Cut}
-use Rattle.dap_rules_input.specs.declared.fault.RulesRefused.{RulesRefused}
-use Rattle.dap_rules_input.specs.declared.fault.RulesRefused.TheVariants as because
+use Rattle.dap_rules_input.specs.declared.fault.ApplyRefused.{ApplyRefused}
+use Rattle.dap_rules_input.specs.declared.fault.ApplyRefused.TheVariants as because
 
 -- the error of masking, with its step
-abbrev pub mask_refusal : Refused → RulesRefused
+abbrev pub mask_refusal : Refused → ApplyRefused
 mask_refusal Memory = because.Memory
 mask_refusal refused = because.Mask refused
 
 -- the error of putting in order, with its step
-abbrev pub order_refusal : Refused → RulesRefused
+abbrev pub order_refusal : Refused → ApplyRefused
 order_refusal Memory = because.Memory
 order_refusal refused = because.Order refused
 
 -- What `read_by_rules` returns for an input whose reader stopped for this reason, if applying the
 -- rules to the bytes that came gave this result.
-abbrev pub result_of_input : Result (Vec ℕ Global) RulesRefused → Stop
-    → Result (Vec ℕ Global) RulesRefused
+abbrev pub result_of_input : Result (Vec ℕ Global) ApplyRefused → Stop
+    → Result (Vec ℕ Global) ApplyRefused
 result_of_input (Ok text) Failed = Err because.ReadFault
 result_of_input (Err (because.Mask (Record n Cut))) Failed = Err because.ReadFault
 result_of_input result stop = result

@@ -10,8 +10,8 @@ use Rattle.dap_input.specs.declared.limits.Limits.{Limits}
 use Rattle.dap_input.specs.declared.refused.Refused.{Refused}
 use Rattle.dap_input.specs.Engine.{Accepts, FailsToRead, RefusesInput}
 use Rattle.dap_rules_input.specs.Applying.{AppliesRules, IsRefusedByRules}
-use Rattle.dap_rules_input.specs.declared.fault.RulesRefused.{RulesRefused}
-use Rattle.dap_rules_input.specs.declared.fault.RulesRefused.TheVariants as because
+use Rattle.dap_rules_input.specs.declared.fault.ApplyRefused.{ApplyRefused}
+use Rattle.dap_rules_input.specs.declared.fault.ApplyRefused.TheVariants as because
 
 -- A reader, by what is known of its bytes and its failures, and rules.
 module _ {R : Type 0} (source : Source R) (limits : Limits) (mode : Mode) (mask : Mask) where
@@ -30,7 +30,7 @@ module _ {R : Type 0} (source : Source R) (limits : Limits) (mode : Mode) (mask 
   -- The whole input gives the text; or the first step that fails is named. An input that cannot be
   -- masked because it ends too early is reported only if the reader came to its end. If the reader
   -- failed, the bytes that came have no error but that they may end too early to be masked.
-  abbrev pub ReadsByRules : R → R → Result (Vec ℕ Global) RulesRefused → Type 0
+  abbrev pub ReadsByRules : R → R → Result (Vec ℕ Global) ApplyRefused → Type 0
   ReadsByRules old new (Ok text) =
       Accepts source limits.input (AppliesRules limits mode mask) old new text.items
   ReadsByRules old new (Err (because.Mask refused)) =

@@ -4,8 +4,8 @@ use Rattle.dap_mask.specs.Mask.{Mask}
 use Rattle.dap_rename.specs.declared.mode.Mode.{Mode}
 use Rattle.dap_input.specs.declared.limits.Limits.{Limits}
 use Rattle.dap_rules_input.specs.Applying.{AppliesRules, IsRefusedByRules}
-use Rattle.dap_rules_input.specs.declared.fault.RulesRefused.{RulesRefused}
-use Rattle.dap_rules_input.specs.declared.fault.RulesRefused.TheVariants.{Memory}
+use Rattle.dap_rules_input.specs.declared.fault.ApplyRefused.{ApplyRefused}
+use Rattle.dap_rules_input.specs.declared.fault.ApplyRefused.TheVariants.{Memory}
 
 -- Rules make at most one text of a recording.
 abbrev pub OneTextByRules : Type 0
@@ -16,5 +16,5 @@ OneTextByRules = (limits : Limits) (mode : Mode) (mask : Mask) (recording writte
 -- If rules make a text of a recording, there is no error, unless an allocation fails.
 abbrev pub AppliedHasNoError : Type 0
 AppliedHasNoError = (limits : Limits) (mode : Mode) (mask : Mask) (recording written : List ℕ)
-    (because : RulesRefused) → AppliesRules limits mode mask recording written
+    (because : ApplyRefused) → AppliesRules limits mode mask recording written
     → IsRefusedByRules limits mode mask recording because → because ≡ Memory

@@ -6,7 +6,7 @@ ghost use Rattle.dap_rules_input.specs.Applying.{AppliesRules, IsRefusedByRules,
 ghost use Rattle.dap_rules_input.specs.Applying.{RefusesOrderBy};
 ghost use Rattle.dap_rules_input.specs.ApplyingSteps.{mask_refusal, order_refusal};
 
-use crate::fault::RulesRefused;
+use crate::fault::ApplyRefused;
 use crate::masking::mask_bytes;
 use dap_input::{Limits, Refused};
 use dap_mask::MaskRules;
@@ -41,22 +41,22 @@ pub fn order_masked(
 }
 
 /// Names the step that cannot mask a recording.
-fn mask_refusal(refused: Refused) -> RulesRefused
+fn mask_refusal(refused: Refused) -> ApplyRefused
     ensures { result ≡ mask_refusal refused }
 {
     match refused {
-        Refused::Memory => RulesRefused::Memory,
-        refused => RulesRefused::Mask(refused),
+        Refused::Memory => ApplyRefused::Memory,
+        refused => ApplyRefused::Mask(refused),
     }
 }
 
 /// Names the step that cannot put a recording in order.
-fn order_refusal(refused: Refused) -> RulesRefused
+fn order_refusal(refused: Refused) -> ApplyRefused
     ensures { result ≡ order_refusal refused }
 {
     match refused {
-        Refused::Memory => RulesRefused::Memory,
-        refused => RulesRefused::Order(refused),
+        Refused::Memory => ApplyRefused::Memory,
+        refused => ApplyRefused::Order(refused),
     }
 }
 
@@ -79,7 +79,7 @@ pub fn apply_rules(
     recording: &[u8],
     limits: Limits,
     mode: Mode,
-) -> Result<Vec<u8>, RulesRefused>
+) -> Result<Vec<u8>, ApplyRefused>
     requires limits { AreSound limits }
 
     // The text is that of the recording and the rules, and an error names the first step that

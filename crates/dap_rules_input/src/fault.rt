@@ -4,7 +4,7 @@ use thiserror::Error;
 
 /// Why rules cannot be applied to a recording. The variants are in the order of the steps.
 #[derive(Clone, Copy, Debug, PartialEq, Eq, Error)]
-pub enum RulesRefused {
+pub enum ApplyRefused {
     /// The rules cannot mask the recording. Records count from 1 in the recording.
     #[error("{0}")]
     Mask(Refused),

@@ -13,7 +13,7 @@ mod reading;
 mod text_sink;
 
 pub use applying::{apply_rules, order_masked};
-pub use fault::RulesRefused;
+pub use fault::ApplyRefused;
 pub use masking::mask_bytes;
 pub use reading::read_by_rules;
 pub use text_sink::{TextSink, is_out_of_memory};

@@ -6,7 +6,7 @@ ghost use Rattle.dap_rules_input.specs.ApplyingSteps.{result_of_input};
 ghost use Rattle.dap_rules_input.specs.Inputs.{ReadsByRules};
 
 use crate::applying::apply_rules;
-use crate::fault::RulesRefused;
+use crate::fault::ApplyRefused;
 use dap_device::{Source, Stop, read_all};
 use dap_input::{Limits, Refused};
 use dap_mask::MaskRules;
@@ -31,7 +31,7 @@ pub fn read_by_rules<R: Source>(
     reader: &mut R,
     limits: Limits,
     mode: Mode,
-) -> Result<Vec<u8>, RulesRefused>
+) -> Result<Vec<u8>, ApplyRefused>
     requires limits { AreSound limits }
     requires given { R.given reader.old < 2 ^ 62 }
     requires failures { R.failures reader.old < 2 ^ 62 }
@@ -45,7 +45,7 @@ pub fn read_by_rules<R: Source>(
     ensures taken { R.given reader.new ≤ R.given reader.old + limits.input + 1 }
 {
     let Ok(input) = read_all(alloc, reader, limits.input) else {
-        return Err(RulesRefused::Memory);
+        return Err(ApplyRefused::Memory);
     };
     text_of_input(
         apply_rules(alloc, rules, input.bytes.as_slice(), limits, mode),
@@ -56,15 +56,15 @@ pub fn read_by_rules<R: Source>(
 /// Returns what the rules made of the bytes of an input, or `ReadFault` if the reader failed after
 /// them and they contain no error other than being incomplete.
 fn text_of_input(
-    applied: Result<Vec<u8>, RulesRefused>,
+    applied: Result<Vec<u8>, ApplyRefused>,
     stop: Stop,
-) -> Result<Vec<u8>, RulesRefused>
+) -> Result<Vec<u8>, ApplyRefused>
     ensures { result ≡ result_of_input applied stop }
 {
     match (applied, stop) {
-        (Ok(_), Stop::Failed) => Err(RulesRefused::ReadFault),
-        (Err(RulesRefused::Mask(Refused::Record(_, RecordCause::Cut))), Stop::Failed) => {
-            Err(RulesRefused::ReadFault)
+        (Ok(_), Stop::Failed) => Err(ApplyRefused::ReadFault),
+        (Err(ApplyRefused::Mask(Refused::Record(_, RecordCause::Cut))), Stop::Failed) => {
+            Err(ApplyRefused::ReadFault)
         }
         (applied, _) => applied,
     }

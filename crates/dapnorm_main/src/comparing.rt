@@ -9,8 +9,8 @@ use dap_explanations::{explain_applying, explain_comparison};
 use dap_file::{KeptInput, is_standard, open_input};
 use dap_matching::run_diff_all_with;
 use dapnorm::{
-    Comparison, MaskRules, MemorySource, Mode, Printed, ApplyRefused, Source, StdSink, StdSource,
-    Which, read_by_rules, report_unapplied, run_compare_with, run_diff_with,
+    ApplyRefused, Comparison, MaskRules, MemorySource, Mode, Printed, Refused, Source, StdSink,
+    StdSource, Which, check_with, read_by_rules, report_unapplied, run_compare_with, run_diff_with,
 };
 use std::hash::RandomState;
 
@@ -43,14 +43,6 @@ fn open_both(
     Ok((input_a, open_side(rt, "B: ", b, setting)?))
 }
 
-/// Explains why one of two recordings was refused.
-fn explain_texts(rt: &HostRuntime, a: &[u8], b: &[u8], mode: Mode, hasher: RandomState) {
-    print(
-        rt,
-        explain_comparison(rt.alloc(), a, b, LIMITS, mode, hasher),
-    );
-}
-
 /// Explains why one of two inputs was refused, or could not be read.
 fn explain(
     rt: &HostRuntime,
@@ -66,7 +58,10 @@ fn explain(
     if let (Some(a), Some(b)) = (a.bytes(), b.bytes())
         && status == REFUSED
     {
-        explain_texts(rt, a, b, mode, setting.hasher);
+        print(
+            rt,
+            explain_comparison(rt.alloc(), a, b, LIMITS, mode, setting.hasher),
+        );
     }
 }
 
@@ -150,7 +145,42 @@ fn report_refusal(
     status
 }
 
-/// Reads one of two inputs, and applies the rules to its recording.
+/// Checks a masked recording. Putting it in order checks it too, so this is for rules without an
+/// order.
+fn check_masked(
+    rt: &HostRuntime,
+    masked: &[u8],
+    mode: Mode,
+    hasher: RandomState,
+) -> Result<(), ApplyRefused> {
+    let alloc = rt.alloc();
+    let mut reader = MemorySource::new(masked);
+    let tables = tables(alloc, LIMITS, hasher);
+    match check_with(alloc, &mut reader, LIMITS, false, tables, mode) {
+        Ok(_) => Ok(()),
+        Err(Refused::Memory) => Err(ApplyRefused::Memory),
+        Err(refused) => Err(ApplyRefused::Order(refused)),
+    }
+}
+
+/// Reads one of two inputs, and applies the rules to its recording. The text is an accepted
+/// recording.
+fn text_by_rules(
+    rt: &HostRuntime,
+    input: &mut KeptInput,
+    rules: &MaskRules,
+    mode: Mode,
+    hasher: RandomState,
+) -> Result<Vec<u8>, ApplyRefused> {
+    let text = read_by_rules(rt.alloc(), rules, &mut StdSource::new(input), LIMITS, mode)?;
+    if rules.swaps().is_empty() {
+        check_masked(rt, text.as_slice(), mode, hasher)?;
+    }
+    Ok(text)
+}
+
+/// Reads one of two inputs, and applies the rules to its recording. Reports why they cannot be
+/// applied.
 fn read_side(
     rt: &HostRuntime,
     which: Which,
@@ -158,9 +188,9 @@ fn read_side(
     input: &mut KeptInput,
     rules: &MaskRules,
     mode: Mode,
+    hasher: RandomState,
 ) -> Result<Vec<u8>, u8> {
-    let read = read_by_rules(rt.alloc(), rules, &mut StdSource::new(input), LIMITS, mode);
-    match read {
+    match text_by_rules(rt, input, rules, mode, hasher) {
         Ok(text) => Ok(text),
         Err(refused) => Err(report_refusal(rt, which, name, input, rules, refused)),
     }
@@ -174,21 +204,17 @@ fn compare_by_rules(
     inputs: (&mut KeptInput, &mut KeptInput),
     setting: Setting,
 ) -> Result<u8, u8> {
-    let mode = comparison.mode();
-    let a = read_side(rt, Which::A, comparison.a, inputs.0, rules, mode)?;
-    let b = read_side(rt, Which::B, comparison.b, inputs.1, rules, mode)?;
-    let status = compare_sources(
+    let (mode, hasher) = (comparison.mode(), setting.hasher);
+    let a = read_side(rt, Which::A, comparison.a, inputs.0, rules, mode, hasher)?;
+    let b = read_side(rt, Which::B, comparison.b, inputs.1, rules, mode, hasher)?;
+    Ok(compare_sources(
         rt,
         &mut MemorySource::new(a.as_slice()),
         &mut MemorySource::new(b.as_slice()),
         mode,
         comparison.printed,
-        setting.hasher,
-    );
-    if setting.explain && status == REFUSED {
-        explain_texts(rt, a.as_slice(), b.as_slice(), mode, setting.hasher);
-    }
-    Ok(status)
+        hasher,
+    ))
 }
 
 /// Makes a comparison, by the rules if it has some.
