@@ -2,6 +2,9 @@
 //!
 //! Which items are free with each other, and which item goes first, is a [`SwapOrder`]; this crate
 //! knows nothing else of the items. `specs/` defines the terms, and [`laws`] has the theorems.
+//!
+//! [`put_in_order`] compares the items in turn, which takes quadratic time. [`order_of_places`] is
+//! given a [`Plan`] of how the places of a list depend on each other, and is fast on any input.
 #![tactic(auto)]
 
 mod by_plan;
