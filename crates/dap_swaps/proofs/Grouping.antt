@@ -20,14 +20,6 @@ or_new [] y (suc i) d e = absurd (omega (arith, e))
 or_new (x ∷ xs) y zero d e = absurd (omega (arith, e))
 or_new (x ∷ xs) y (suc i) d e = or_new xs y i d (omega (arith, e))
 
-pub no_groups : (ks : List Key) → AreGroups ks 0 [] []
-no_groups ks = record {
-  len = refl;
-  in_range = λ j low. absurd (omega arith);
-  earlier = λ g low. absurd (omega arith);
-  same = λ j low. absurd (omega arith);
-}
-
 module _ (ks : List Key) (n : ℕ) (groups firsts : List ℕ) (are : AreGroups ks n groups firsts) where
   -- The next place has the key of an earlier one.
   pub group_again : (p : ℕ) → p < n → slice_get ks p ≡ slice_get ks n

@@ -47,9 +47,6 @@ last_more own x k false (Some p) n long there back last =
       ],
     )
 
-pub no_previous : ArePrevious [] [] []
-no_previous = record { len = refl; each = λ j k o e h. absurd (cc) }
-
 -- One more place.
 pub previous_more : (own sought : List Key) (previous : List (Option ℕ)) (x k : Key) (o : Option ℕ)
     → length sought ≡ length own → ArePrevious own sought previous

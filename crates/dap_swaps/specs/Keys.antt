@@ -1,5 +1,5 @@
--- Keys of messages (own). Messages with equal keys form a thread, in which some messages wait for
--- earlier ones, or a group, whose messages block the same other messages.
+-- Keys of messages (own). Messages with equal keys are of one class, of one conversation or of one
+-- look, by the kind of the key.
 use Rattle.std.specs.Prelude.{◌≡◌, ℕ, ℤ, ◌+◌, ◌*◌, ◌<◌, Bool, false, cond, ◌&&◌, ◌||◌, List, []}
 use Rattle.std.specs.Prelude.{length}
 use Rattle.std.specs.Prelude.{Option, Some, None, is_some, slice_get}
@@ -67,7 +67,7 @@ response_key m =
 
 -- ---- looks
 
--- A rule has this name for the messages of a half.
+-- The name of a half is the name of the message.
 abbrev pub has_name : Option (List ℕ) → Sent → Bool
 has_name None m = false
 has_name (Some name) m = is_named name m
@@ -100,8 +100,8 @@ session_code m =
     (begins m)) (is_output m)) (is_initialized m)) (is_configuration_done m)) (is_farewell m))
     (is_client_request m)
 
--- Messages of one look may pass the same other messages, as far as their ids and names that no rule
--- has do not matter. So the rules bound the number of looks.
+-- Messages of one look may be swapped with the same messages, except for what their ids, and names
+-- that no rule has, forbid. The rules bound the number of looks, not the recording.
 abbrev pub look_key : List SwapRule → Sent → Key
 look_key rules m = record {
   code = with_bit (session_code m) (is_mentioned rules m);

@@ -7,12 +7,11 @@ use Rattle.dap_order.specs.ByPlace.{passes_both}
 use Rattle.dap_swaps.specs.Free.{may_swap}
 use Rattle.dap_swaps.specs.Keys.{Key}
 
--- No message with the look of that at the first place is free with a message with the look of that
--- at the second place.
+-- The messages at the two places may not be swapped, by their looks alone.
 abbrev pub blocks_at : List SwapRule → List Sent → ℕ → ℕ → Bool
 blocks_at rules ms i j = not (passes_both (may_swap rules) (slice_get ms i) (slice_get ms j))
 
--- the groups of these places block each other by the first place of each
+-- for each two of these places, whether they block each other
 abbrev pub block_table : List SwapRule → List Sent → List ℕ → List (List Bool)
 block_table rules ms firsts = map (λ i. map (blocks_at rules ms i) firsts) firsts
 
