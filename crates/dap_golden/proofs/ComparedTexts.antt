@@ -16,6 +16,8 @@ use Rattle.dap_normal.specs.Accepting.{accepting, text}
 use Rattle.dap_normal.specs.Normalising.{Normalises}
 use Rattle.dap_normal.proofs.NormalFormLaws.{equal_texts_tell, has_one_normal_form}
 use Rattle.dap_normal.proofs.WholeInput.{memory}
+use Rattle.dap_order_input.proofs.MemoryInputs.{came_of, reported}
+use Rattle.dap_order_input.proofs.OrderedTexts.{one_accepted}
 use Rattle.dap_compare.specs.Comparing.{are_same, differ}
 use Rattle.dap_compare.specs.Verdicts.{HasCompared, IsRecordingVerdict, TellsVerdict}
 use Rattle.dap_compare.specs.declared.verdict.CompareRefused.{CompareRefused}
@@ -28,8 +30,6 @@ use Rattle.dap_diff.specs.Diffs.{TellsDifference}
 use Rattle.dap_diff.specs.declared.answer.Diff.{Diff}
 use Rattle.dap_diff.specs.declared.answer.Diff.TheVariants.{Same, Differ}
 use Rattle.dap_golden.specs.GoldenFiles.{DiffersAt, IsNormalText, IsRefusedFile, all_of}
-use Rattle.dap_golden.proofs.MemoryRuns.{came_of, reported}
-use Rattle.dap_golden.proofs.SessionCounts.{one_accepted}
 
 module _ (limits : Limits) (mode : Mode) (sound : AreSound limits) (golden later : List ℕ)
     (normal : IsNormalText limits mode later) where

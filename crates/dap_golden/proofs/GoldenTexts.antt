@@ -1,16 +1,26 @@
 -- The golden text of a session by its numbers.
 use Rattle.std.proofs.Common.{◌≡◌, ◌≢◌, Bool, false, List, ℕ, ◌∙◌, length, ap, refl, sym}
-use Rattle.std.proofs.Common.{Option, Some, None}
+use Rattle.std.proofs.Common.{Option, Some, None, inl, inr}
 use Rattle.dap_mask.specs.Mask.{Mask}
+use Rattle.dap_mask.specs.Swaps.{SwapRule}
 use Rattle.dap_tree.specs.declared.side.Side.{Side}
 use Rattle.dap_tree.specs.declared.side.Side.TheVariants.{Client, Adapter}
 use Rattle.dap_message.specs.Message.{Sent}
 use Rattle.dap_rename.specs.declared.mode.Mode.{Mode}
 use Rattle.dap_input.specs.declared.limits.Limits.{Limits}
+use Rattle.dap_input.specs.declared.refused.Refused.{Refused}
+use Rattle.dap_input.specs.declared.refused.Refused.TheVariants.{Memory}
+use Rattle.dap_mask_input.specs.MaskedRecordings.{IsMaskedTo}
 use Rattle.dap_normal.specs.declared.checked.Checked.{Checked}
 use Rattle.dap_normal.specs.Checking.{AreCounted}
-use Rattle.dap_golden.specs.Golden.{AreAnswered, IsGoldenOf, IsRecordingOf, IsRefusedGolden}
-use Rattle.dap_golden.specs.GoldenSteps.{RefusesMaskBy}
+use Rattle.dap_rules_input.specs.Applying.{IsRefusedByRules, RefusesOrderBy, RefusesToMask}
+use Rattle.dap_rules_input.specs.Memory.{IsOutOfMemory}
+use Rattle.dap_rules_input.specs.declared.fault.ApplyRefused.{ApplyRefused}
+use Rattle.dap_rules_input.specs.declared.fault.ApplyRefused.TheVariants as step
+use Rattle.dap_golden.specs.Golden.{AreAnswered, HasNoSession, IsGoldenOf, IsRecordingOf}
+use Rattle.dap_golden.specs.Golden.{IsRefusedGolden, IsSessionOf}
+use Rattle.dap_golden.specs.GoldenSteps.{RefusesGolden, RefusesMask, RefusesOrder, RefusesRules}
+use Rattle.dap_golden.specs.GoldenSteps.{RefusesRulesBy}
 use Rattle.dap_golden.specs.NormalSession.{IsNormalSession}
 use Rattle.dap_golden.specs.declared.fault.GoldenRefused.{GoldenRefused}
 use Rattle.dap_golden.specs.declared.fault.GoldenRefused.TheVariants as because
@@ -39,19 +49,74 @@ golden allow_open session some zero limits mode recording is = record {
   count = is.counted.records;
 }
 
--- Rules that cannot mask the recording leave its input without a golden text.
-pub mask_refuses : (limits : Limits) (mode : Mode) (mask : Option Mask) (allow_open : Bool)
-    (input recording : List ℕ) → IsRecordingOf limits input recording → (refused : GoldenRefused)
-    → RefusesMaskBy limits mask recording refused
-    → IsRefusedGolden limits mode mask allow_open input refused
-mask_refuses limits mode None allow_open input recording of_input refused is = absurd is
-mask_refuses limits mode (Some mask) allow_open input recording of_input (because.Mask refused) is =
-    record {
-      recording = recording;
-      of_input = of_input;
-      rules = mask;
-      are_given = refl;
-      is_refused = is;
-    }
-mask_refuses limits mode (Some mask) allow_open input recording of_input because.Memory is = tt
-mask_refuses limits mode (Some mask) allow_open input recording of_input refused is = absurd is
+-- ---- the rules
+
+-- The step that cannot mask a recording is named.
+pub mask_refuses : (limits : Limits) (mask : Mask) (recording : List ℕ) (why : Refused)
+    → (IsOutOfMemory why → ⊥) → RefusesToMask limits mask recording why
+    → RefusesMask limits mask recording (because.Mask why)
+mask_refuses limits mask recording Memory some is = absurd (some tt)
+mask_refuses limits mask recording why some is = is
+
+-- The step that cannot put a masked recording in order is named.
+pub order_refuses : (limits : Limits) (mode : Mode) (rules : List SwapRule) (masked : List ℕ)
+    (why : Refused) → (IsOutOfMemory why → ⊥) → RefusesOrderBy limits mode rules masked why
+    → RefusesOrder limits mode rules masked (because.Session why)
+order_refuses limits mode rules masked Memory some is = absurd (some tt)
+order_refuses limits mode rules masked why some is = is
+
+module _ (limits : Limits) (mode : Mode) (mask : Mask) (recording : List ℕ) where
+  -- A recording that cannot be masked has no session.
+  pub none_masked : (refused : GoldenRefused) → RefusesMask limits mask recording refused
+      → RefusesRules limits mode mask recording refused
+  none_masked (because.Mask refused) is = is
+  none_masked because.Memory is = tt
+  none_masked refused is = absurd is
+
+  -- A recording whose masked form cannot be put in order has no session.
+  pub none_ordered : (masked : List ℕ) → IsMaskedTo limits mask recording masked
+      → (refused : GoldenRefused) → RefusesOrder limits mode mask.swaps masked refused
+      → RefusesRules limits mode mask recording refused
+  none_ordered masked masks (because.Session refused) is = (masked, masks, is)
+  none_ordered masked masks because.Memory is = tt
+  none_ordered masked masks refused is = absurd is
+
+module _ (limits : Limits) (mode : Mode) (mask : Option Mask) (allow_open : Bool)
+    (input : List ℕ) where
+  -- Rules that make no session of the recording leave its input without a golden text.
+  pub no_session : (recording : List ℕ) → IsRecordingOf limits input recording
+      → (refused : GoldenRefused) → RefusesRulesBy limits mode mask recording refused
+      → IsRefusedGolden limits mode mask allow_open input refused
+  no_session recording of_input refused is = by_rules mask refl is
+    where
+      by_rules : (given : Option Mask) → mask ≡ given
+          → RefusesRulesBy limits mode given recording refused
+          → IsRefusedGolden limits mode mask allow_open input refused
+      by_rules None same is = absurd is
+      by_rules (Some rules) same is = named refused is
+        where
+          has : (why : ApplyRefused) → IsRefusedByRules limits mode rules recording why
+              → HasNoSession limits mode mask input why
+          has why is = record {
+            recording = recording;
+            of_input = of_input;
+            rules = rules;
+            are_given = same;
+            is_refused = is;
+          }
+
+          named : (why : GoldenRefused) → RefusesRules limits mode rules recording why
+              → IsRefusedGolden limits mode mask allow_open input why
+          named (because.Mask why) is = has (step.Mask why) is
+          named (because.Session why) is = inl (has (step.Order why) is)
+          named because.Memory is = tt
+          named why is = absurd is
+
+  -- A session without a golden text leaves its input without one.
+  pub session_refused : (session : List ℕ) → IsSessionOf limits mode mask input session
+      → (refused : GoldenRefused) → RefusesGolden limits mode allow_open session refused
+      → IsRefusedGolden limits mode mask allow_open input refused
+  session_refused session of_input (because.Session refused) is = inr (session, of_input, is)
+  session_refused session of_input because.NoRecords is = (session, of_input, is)
+  session_refused session of_input because.Memory is = tt
+  session_refused session of_input refused is = absurd is

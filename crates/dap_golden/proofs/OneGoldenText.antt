@@ -1,7 +1,7 @@
--- An input has at most one recording, one masked recording and one golden text, and if it has a
--- golden text, it is not refused.
+-- An input has at most one recording, one session and one golden text, and if it has a golden text,
+-- it is not refused.
 use Rattle.std.proofs.Common.{◌≡◌, ℕ, Bool, List, [], Option, Some, None, refl, sym, ◌∙◌, ap, subst}
-use Rattle.std.proofs.Common.{length}
+use Rattle.std.proofs.Common.{inl, inr, length}
 use Rattle.dap_message.specs.Message.{Sent}
 use Rattle.dap_session.specs.Rules.{open_requests}
 use Rattle.dap_tree.specs.declared.side.Side.TheVariants.{Client, Adapter}
@@ -13,24 +13,24 @@ use Rattle.dap_input.specs.Limits.{AreSound}
 use Rattle.dap_rename.specs.declared.mode.Mode.{Mode}
 use Rattle.dap_input.specs.declared.refused.Refused.{Refused}
 use Rattle.dap_input.specs.declared.refused.Refused.TheVariants.{Incomplete}
-use Rattle.dap_input.specs.Refusals.{IsRefused}
 use Rattle.dap_input.proofs.ItemReaders.{shown_cause}
 use Rattle.dap_input.proofs.OneOutcome.{has_one_outcome}
-use Rattle.dap_input.proofs.Outcomes.{one_list}
 use Rattle.dap_trace.proofs.TraceOutcomes.{traces_have_one_outcome}
-use Rattle.dap_mask_input.specs.Masking.{masked_text, masking}
-use Rattle.dap_mask_input.proofs.MaskingFacts.{accepted_facts, value_facts, value_laws}
 use Rattle.dap_normal.specs.Accepting.{IsAccepted, accepting}
 use Rattle.dap_normal.specs.Normalising.{Normalises}
 use Rattle.dap_normal.proofs.AcceptingFacts as normal
 use Rattle.dap_normal.proofs.NormalFormLaws.{one_normal_text}
-use Rattle.dap_golden.specs.Golden.{IsGoldenOf, IsMaskedInput, IsRecordingOf, MasksBy}
-use Rattle.dap_golden.specs.Golden.{IsRefusedByMask, LeavesOpen, RefusesSession, of_trace}
+use Rattle.dap_order_input.proofs.OrderedTexts.{one_accepted}
+use Rattle.dap_rules_input.specs.Applying.{IsRefusedByRules}
+use Rattle.dap_rules_input.specs.declared.fault.ApplyRefused.{ApplyRefused}
+use Rattle.dap_rules_input.specs.declared.fault.ApplyRefused.TheVariants as step
+use Rattle.dap_rules_input.proofs.OneOutcome.{applied_has_no_error, one_text_by_rules}
+use Rattle.dap_golden.specs.Golden.{AppliesBy, HasNoSession, IsGoldenOf, IsRecordingOf}
+use Rattle.dap_golden.specs.Golden.{IsSessionOf, LeavesOpen, RefusesSession, of_trace}
 use Rattle.dap_golden.specs.Golden.{unchanged}
 use Rattle.dap_golden.specs.Laws.{GoldenIsNotRefused, OneGoldenText}
 use Rattle.dap_golden.specs.declared.fault.GoldenRefused.TheVariants as because
 use Rattle.dap_golden.specs.declared.golden.GoldenText.{GoldenText}
-use Rattle.dap_golden.proofs.SessionCounts.{one_accepted}
 
 module _ (limits : Limits) (sound : AreSound limits) where
   one_recording : (input recording other : List ℕ) → IsRecordingOf limits input recording
@@ -46,36 +46,33 @@ module _ (limits : Limits) (sound : AreSound limits) where
   one_recording input recording other (unchanged no_head is) (unchanged also_none also) =
       is ∙ sym also
 
-  one_mask : (mask : Option Mask) (recording masked other : List ℕ)
-      → MasksBy limits mask recording masked → MasksBy limits mask recording other
-      → masked ≡ other
-  one_mask None recording masked other one two = one ∙ sym two
-  one_mask (Some mask) recording masked other one two =
-      one.masks.text_is ∙ ap (masked_text mask)
-      (one_list (masking limits mask) (readable limits.frame) (value_laws limits mask)
-      (accepted_facts limits mask) recording one.masks.messages two.masks.messages
-      one.masks.accepts two.masks.accepts)
-      ∙ sym two.masks.text_is
+  one_by_rules : (mode : Mode) (mask : Option Mask) (recording session other : List ℕ)
+      → AppliesBy limits mode mask recording session
+      → AppliesBy limits mode mask recording other → session ≡ other
+  one_by_rules mode None recording session other one two = one ∙ sym two
+  one_by_rules mode (Some mask) recording session other one two =
+      one_text_by_rules limits mode mask recording session other one two
 
-  one_masked : (mask : Option Mask) (input masked other : List ℕ)
-      → IsMaskedInput limits mask input masked → IsMaskedInput limits mask input other
-      → masked ≡ other
-  one_masked mask input masked other one two =
-      one_mask mask two.recording masked other
-      (subst (λ recording. MasksBy limits mask recording masked)
-      (one_recording input one.recording two.recording one.of_input two.of_input) one.masks)
-      two.masks
+  one_session : (mode : Mode) (mask : Option Mask) (input session other : List ℕ)
+      → IsSessionOf limits mode mask input session → IsSessionOf limits mode mask input other
+      → session ≡ other
+  one_session mode mask input session other one two =
+      one_by_rules mode mask two.recording session other
+      (subst (λ recording. AppliesBy limits mode mask recording session)
+      (one_recording input one.recording two.recording one.of_input two.of_input) one.applies)
+      two.applies
 
 pub one_golden_text : OneGoldenText
 one_golden_text limits mode mask sound allow_open either input a b one two =
-    let same = one_masked limits sound mask input one.masked two.masked one.of_input two.of_input in
-    let first = one.of_masked.canonical.normalises in
-    let second = two.of_masked.canonical.normalises in
-    let messages = one_accepted limits mode one.masked first.messages second.messages first.accepts
-    (subst (λ masked. IsAccepted limits mode masked second.messages) (sym same) second.accepts) in (
-      one_normal_text limits mode sound one.masked a.bytes.items b.bytes.items first
-          (subst (λ masked. Normalises limits mode masked b.bytes.items) (sym same) second),
-      one.of_masked.count ∙ ap (λ (ms : List Sent). length ms) messages ∙ sym two.of_masked.count,
+    let same = one_session limits sound mode mask input one.session two.session one.of_input
+    two.of_input in
+    let first = one.of_session.canonical.normalises in
+    let second = two.of_session.canonical.normalises in
+    let messages = one_accepted limits mode one.session first.messages second.messages first.accepts
+    (subst (λ bytes. IsAccepted limits mode bytes second.messages) (sym same) second.accepts) in (
+      one_normal_text limits mode sound one.session a.bytes.items b.bytes.items first
+          (subst (λ bytes. Normalises limits mode bytes b.bytes.items) (sym same) second),
+      one.of_session.count ∙ ap (λ (ms : List Sent). length ms) messages ∙ sym two.of_session.count,
     )
 
 -- ---- not refused
@@ -106,18 +103,18 @@ module _ (limits : Limits) (mode : Mode) (allow_open : Bool) (recording : List �
       (normal.value_facts limits mode) (normal.accepted_facts limits mode)).not_both recording
       golden.canonical.normalises.messages refused golden.canonical.normalises.accepts is
 
-module _ (limits : Limits) (sound : AreSound limits) (input masked : List ℕ) (mask : Option Mask)
-    (of_input : IsMaskedInput limits mask input masked) where
-  mask_not_refused : (refused : Refused) → IsRefusedByMask limits mask input refused → ⊥
-  mask_not_refused refused is =
-      let masks : MasksBy limits (Some is.rules) of_input.recording masked =
-      subst (λ m. MasksBy limits m of_input.recording masked) is.are_given of_input.masks in
+module _ (limits : Limits) (mode : Mode) (sound : AreSound limits) (input session : List ℕ)
+    (mask : Option Mask) (of_input : IsSessionOf limits mode mask input session) where
+  has_session : (refused : ApplyRefused) → HasNoSession limits mode mask input refused
+      → refused ≡ step.Memory
+  has_session refused is =
+      let applies : AppliesBy limits mode (Some is.rules) of_input.recording session =
+      subst (λ m. AppliesBy limits mode m of_input.recording session) is.are_given
+      of_input.applies in
       let same = one_recording limits sound input is.recording of_input.recording is.of_input
       of_input.of_input in
-      (has_one_outcome (masking limits is.rules) (shown_cause limits.frame) (readable limits.frame)
-      (value_facts limits is.rules) (accepted_facts limits is.rules)).not_both of_input.recording
-      masks.masks.messages refused masks.masks.accepts
-      (subst (λ recording. IsRefused (masking limits is.rules) recording refused) same
+      applied_has_no_error limits mode is.rules of_input.recording session refused applies
+      (subst (λ recording. IsRefusedByRules limits mode is.rules recording refused) same
       is.is_refused)
 
 pub golden_is_not_refused : GoldenIsNotRefused
@@ -132,16 +129,26 @@ golden_is_not_refused limits mode mask sound allow_open input text (because.Trac
     trace (unchanged no_head same) = absurd (no_head head)
 golden_is_not_refused limits mode mask sound allow_open input text (because.Mask refused) golden
     is =
-    absurd (mask_not_refused limits sound input golden.masked mask golden.of_input refused is)
+    let no = has_session limits mode sound input golden.session mask golden.of_input
+    (step.Mask refused) is in
+    absurd (let e = no in cc)
 golden_is_not_refused limits mode mask sound allow_open input text (because.Session refused) golden
-    (masked, of_input, is) =
-    let same = one_masked limits sound mask input masked golden.masked of_input golden.of_input in
-    absurd (session_not_refused limits mode allow_open golden.masked text golden.of_masked refused
+    (inl is) =
+    let no = has_session limits mode sound input golden.session mask golden.of_input
+    (step.Order refused) is in
+    absurd (let e = no in cc)
+golden_is_not_refused limits mode mask sound allow_open input text (because.Session refused) golden
+    (inr (session, of_input, is)) =
+    let same = one_session limits sound mode mask input session golden.session of_input
+    golden.of_input in
+    absurd (session_not_refused limits mode allow_open golden.session text golden.of_session
+    refused
     (subst (λ recording. RefusesSession limits mode allow_open recording refused) same is))
 golden_is_not_refused limits mode mask sound allow_open input text because.NoRecords golden
-    (masked, of_input, is) =
-    let same = one_masked limits sound mask input masked golden.masked of_input golden.of_input in
-    absurd (golden.of_masked.some
-    (same_messages limits mode allow_open golden.masked text golden.of_masked []
+    (session, of_input, is) =
+    let same = one_session limits sound mode mask input session golden.session of_input
+    golden.of_input in
+    absurd (golden.of_session.some
+    (same_messages limits mode allow_open golden.session text golden.of_session []
     (subst (λ recording. IsAccepted limits mode recording []) same is)))
 golden_is_not_refused limits mode mask sound allow_open input text because.Memory golden is = refl

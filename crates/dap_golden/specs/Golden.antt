@@ -1,6 +1,6 @@
 -- The text of a golden file: how it is made from an input, and why an input has none. Source: own,
--- over traces, recordings, masks and normal forms.
-use Rattle.std.specs.Prelude.{◌≡◌, ◌≢◌, ℕ, Bool, false, List, [], length, Option, Some, None}
+-- over traces, recordings, the rules of a file and normal forms.
+use Rattle.std.specs.Prelude.{◌≡◌, ◌≢◌, ◌⊎◌, ℕ, Bool, false, List, [], length, Option, Some, None}
 use Rattle.std.specs.Borrow.{Bor}
 use Rattle.std.specs.Option.{option_map}
 use Rattle.dap_recording.specs.Recording.{recording_text}
@@ -18,7 +18,9 @@ use Rattle.dap_input.specs.declared.refused.Refused.TheVariants.{Incomplete}
 use Rattle.dap_input.specs.Refusals.{IsRefused}
 use Rattle.dap_trace.specs.Tracing.{IsRecordedAs, IsTraceRefused}
 use Rattle.dap_mask_input.specs.MaskedRecordings.{IsMaskedTo}
-use Rattle.dap_mask_input.specs.Masking.{masking}
+use Rattle.dap_rules_input.specs.Applying.{AppliesRules, IsRefusedByRules}
+use Rattle.dap_rules_input.specs.declared.fault.ApplyRefused.{ApplyRefused}
+use Rattle.dap_rules_input.specs.declared.fault.ApplyRefused.TheVariants as step
 use Rattle.dap_normal.specs.Accepting.{IsAccepted, accepting}
 use Rattle.dap_normal.specs.Normalising.{IsCanonical}
 use Rattle.dap_golden.specs.declared.fault.GoldenRefused.{GoldenRefused}
@@ -26,7 +28,7 @@ use Rattle.dap_golden.specs.declared.fault.GoldenRefused.TheVariants as because
 use Rattle.dap_golden.specs.declared.golden.GoldenText.{GoldenText}
 use Rattle.dap_golden.specs.TraceHead.{IsTraceHead}
 
--- ---- the recording of an input, and what the rules leave of it
+-- ---- the recording of an input, and what the rules make of it
 
 -- the mask that the rules are, if there are any
 abbrev pub mask_given : Option (Bor MaskRules) → Option Mask
@@ -45,12 +47,19 @@ abbrev pub MasksBy : Limits → Option Mask → List ℕ → List ℕ → Type 0
 MasksBy limits None recording masked = masked ≡ recording
 MasksBy limits (Some mask) recording masked = IsMaskedTo limits mask recording masked
 
--- The input has a recording, and this is the masked one.
-pub record IsMaskedInput (limits : Limits) (mask : Option Mask) (input masked : List ℕ) : Type 0
-  where
-    pub recording : List ℕ
-    pub of_input : IsRecordingOf limits input recording
-    pub masks : MasksBy limits mask recording masked
+-- The rules make this session of the recording: it is masked, and then put in order if there are
+-- rules for the order. Without rules it is unchanged.
+abbrev pub AppliesBy : Limits → Mode → Option Mask → List ℕ → List ℕ → Type 0
+AppliesBy limits mode None recording session = session ≡ recording
+AppliesBy limits mode (Some mask) recording session =
+    AppliesRules limits mode mask recording session
+
+-- The input has a recording, and this is the session that the rules make of it.
+pub record IsSessionOf (limits : Limits) (mode : Mode) (mask : Option Mask)
+    (input session : List ℕ) : Type 0 where
+  pub recording : List ℕ
+  pub of_input : IsRecordingOf limits input recording
+  pub applies : AppliesBy limits mode mask recording session
 
 -- ---- the golden text
 
@@ -67,18 +76,18 @@ pub record IsGoldenOf (limits : Limits) (mode : Mode) (allow_open : Bool) (recor
   pub answered : allow_open ≡ false → AreAnswered canonical.normalises.messages
   pub count : text.records ≡ length canonical.normalises.messages
 
--- The text is the golden text of the input: that of its masked recording.
+-- The text is the golden text of the input: that of its session.
 pub record IsGolden (limits : Limits) (mode : Mode) (mask : Option Mask) (allow_open : Bool)
     (input : List ℕ) (text : GoldenText) : Type 0 where
-  pub masked : List ℕ
-  pub of_input : IsMaskedInput limits mask input masked
-  pub of_masked : IsGoldenOf limits mode allow_open masked text
+  pub session : List ℕ
+  pub of_input : IsSessionOf limits mode mask input session
+  pub of_session : IsGoldenOf limits mode allow_open session text
 
--- the messages of the masked recording
+-- the messages of the session
 abbrev pub messages_of : {limits : Limits} {mode : Mode} {mask : Option Mask} {allow_open : Bool}
     {input : List ℕ} {text : GoldenText} → IsGolden limits mode mask allow_open input text
     → List Sent
-messages_of is = is.of_masked.canonical.normalises.messages
+messages_of is = is.of_session.canonical.normalises.messages
 
 -- ---- refusals
 
@@ -100,25 +109,28 @@ RefusesSession limits mode allow_open recording (Incomplete client adapter) =
 RefusesSession limits mode allow_open recording refused =
     IsRefused (accepting limits mode) recording refused
 
--- The rules cannot mask the input's recording.
-pub record IsRefusedByMask (limits : Limits) (mask : Option Mask) (input : List ℕ)
-    (refused : Refused) : Type 0 where
+-- The rules make no session of the input's recording, for this.
+pub record HasNoSession (limits : Limits) (mode : Mode) (mask : Option Mask) (input : List ℕ)
+    (refused : ApplyRefused) : Type 0 where
   pub recording : List ℕ
   pub of_input : IsRecordingOf limits input recording
   pub rules : Mask
   pub are_given : mask ≡ Some rules
-  pub is_refused : IsRefused (masking limits rules) recording refused
+  pub is_refused : IsRefusedByRules limits mode rules recording refused
 
 -- Why an input has no golden text. Each step was reached only if all steps before it succeeded.
+-- `Session` is an error of putting the masked recording in order, or of the session made so.
 abbrev pub IsRefusedGolden : Limits → Mode → Option Mask → Bool → List ℕ → GoldenRefused → Type 0
 IsRefusedGolden limits mode mask allow_open input (because.Trace refused) =
     IsTraceHead input
     × ((messages : List (Side × List ℕ)) × IsTraceRefused limits input refused messages)
 IsRefusedGolden limits mode mask allow_open input (because.Mask refused) =
-    IsRefusedByMask limits mask input refused
+    HasNoSession limits mode mask input (step.Mask refused)
 IsRefusedGolden limits mode mask allow_open input (because.Session refused) =
-    (masked : List ℕ) × IsMaskedInput limits mask input masked
-    × RefusesSession limits mode allow_open masked refused
+    HasNoSession limits mode mask input (step.Order refused)
+    ⊎ ((session : List ℕ) × IsSessionOf limits mode mask input session
+    × RefusesSession limits mode allow_open session refused)
 IsRefusedGolden limits mode mask allow_open input because.NoRecords =
-    (masked : List ℕ) × IsMaskedInput limits mask input masked × IsAccepted limits mode masked []
+    (session : List ℕ) × IsSessionOf limits mode mask input session
+    × IsAccepted limits mode session []
 IsRefusedGolden limits mode mask allow_open input because.Memory = Unit {0}

@@ -3,11 +3,14 @@ use Rattle.std.specs.Prelude.{ℕ, Bool, List, [], Option, Some, None}
 use Rattle.dap_tree.specs.declared.side.Side.{Side}
 use Rattle.dap_rename.specs.declared.mode.Mode.{Mode}
 use Rattle.dap_mask.specs.Mask.{Mask}
+use Rattle.dap_mask.specs.Swaps.{SwapRule}
 use Rattle.dap_input.specs.declared.limits.Limits.{Limits}
 use Rattle.dap_input.specs.Refusals.{IsRefused}
 use Rattle.dap_trace.specs.Tracing.{IsTraceRefused}
 use Rattle.dap_mask_input.specs.Masking.{masking}
 use Rattle.dap_normal.specs.Accepting.{IsAccepted}
+use Rattle.dap_rules_input.specs.Applying.{IsNotOrderedBy, IsRefusedByRules}
+use Rattle.dap_rules_input.specs.declared.fault.ApplyRefused.TheVariants as step
 use Rattle.dap_golden.specs.declared.fault.GoldenRefused.{GoldenRefused}
 use Rattle.dap_golden.specs.declared.fault.GoldenRefused.TheVariants as because
 use Rattle.dap_golden.specs.Golden.{RefusesSession}
@@ -33,10 +36,33 @@ abbrev pub RefusesMaskBy : Limits → Option Mask → List ℕ → GoldenRefused
 RefusesMaskBy limits None recording refused = ⊥
 RefusesMaskBy limits (Some mask) recording refused = RefusesMask limits mask recording refused
 
--- The masked recording has no golden text for this, or an allocation failed.
-abbrev pub RefusesMasked : Limits → Mode → Bool → List ℕ → GoldenRefused → Type 0
-RefusesMasked limits mode allow_open masked (because.Session refused) =
-    RefusesSession limits mode allow_open masked refused
-RefusesMasked limits mode allow_open masked because.NoRecords = IsAccepted limits mode masked []
-RefusesMasked limits mode allow_open masked because.Memory = Unit {0}
-RefusesMasked limits mode allow_open masked _ = ⊥
+-- The rules make no session of the recording for this, or an allocation failed.
+abbrev pub RefusesRules : Limits → Mode → Mask → List ℕ → GoldenRefused → Type 0
+RefusesRules limits mode mask recording (because.Mask refused) =
+    IsRefusedByRules limits mode mask recording (step.Mask refused)
+RefusesRules limits mode mask recording (because.Session refused) =
+    IsRefusedByRules limits mode mask recording (step.Order refused)
+RefusesRules limits mode mask recording because.Memory = Unit {0}
+RefusesRules limits mode mask recording _ = ⊥
+
+-- The same of rules that may not be given.
+abbrev pub RefusesRulesBy : Limits → Mode → Option Mask → List ℕ → GoldenRefused → Type 0
+RefusesRulesBy limits mode None recording refused = ⊥
+RefusesRulesBy limits mode (Some mask) recording refused =
+    RefusesRules limits mode mask recording refused
+
+-- The masked recording is not put in order by the rules for this, or an allocation failed.
+abbrev pub RefusesOrder : Limits → Mode → List SwapRule → List ℕ → GoldenRefused → Type 0
+RefusesOrder limits mode rules masked (because.Session refused) =
+    IsNotOrderedBy limits mode rules masked refused
+RefusesOrder limits mode rules masked because.Memory = Unit {0}
+RefusesOrder limits mode rules masked _ = ⊥
+
+-- The session has no golden text for this, or an allocation failed.
+abbrev pub RefusesGolden : Limits → Mode → Bool → List ℕ → GoldenRefused → Type 0
+RefusesGolden limits mode allow_open session (because.Session refused) =
+    RefusesSession limits mode allow_open session refused
+RefusesGolden limits mode allow_open session because.NoRecords =
+    IsAccepted limits mode session []
+RefusesGolden limits mode allow_open session because.Memory = Unit {0}
+RefusesGolden limits mode allow_open session _ = ⊥

@@ -12,7 +12,7 @@ use Rattle.dap_golden.specs.declared.golden.GoldenText.{GoldenText}
 use Rattle.dap_golden.specs.Golden.{IsGolden, IsRefusedGolden, messages_of}
 
 -- The golden texts of two inputs, made in one mode by whatever rules, are equal if and only if a
--- renaming of ids maps the messages of the first masked recording to those of the second.
+-- renaming of ids maps the messages of the first session to those of the second.
 abbrev pub EqualGoldenTexts : Type 0
 EqualGoldenTexts = (limits : Limits) (mode : Mode) (mask rules : Option Mask)
     (allow_open either : Bool) (input other : List ℕ) (a b : GoldenText)

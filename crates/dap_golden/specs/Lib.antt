@@ -3,6 +3,5 @@ pub mod GoldenFiles
 pub mod GoldenSteps
 pub mod GoldenUpdates
 pub mod Laws
-pub mod Memory
 pub mod NormalSession
 pub mod TraceHead

@@ -15,7 +15,8 @@ pub enum GoldenRefused {
     #[error("{0}")]
     Mask(Refused),
     /// The masked recording was rejected, or leaves a request without a response. Records count
-    /// from 1 in the masked recording.
+    /// from 1 in the masked recording. If its text in order exceeds the limits, they count from 1
+    /// in that text.
     #[error("{0}")]
     Session(Refused),
     /// The masked recording has no records.

@@ -2,26 +2,26 @@
 ghost use Rattle.std.specs.Prelude.{◌≡◌, ◌↔◌, IfErr, IfOk, IsTrue, List, ℕ};
 ghost use Rattle.std.specs.Cow.{cow_slice_items};
 ghost use Rattle.dap_input.specs.Limits.{AreSound};
-ghost use Rattle.dap_mask.specs.KeptRules.{mask_of};
+ghost use Rattle.dap_mask.specs.KeptRules.{mask_of, swaps_of_mask};
 ghost use Rattle.dap_mask_input.specs.MaskedRecordings.{IsMaskedTo};
-ghost use Rattle.dap_golden.specs.Golden.{IsGolden, IsGoldenOf, IsRecordingOf, IsRefusedGolden};
-ghost use Rattle.dap_golden.specs.Golden.{MasksBy, mask_given};
+ghost use Rattle.dap_rules_input.specs.Applying.{OrdersBy};
+ghost use Rattle.dap_golden.specs.Golden.{AppliesBy, IsGolden, IsGoldenOf, IsRecordingOf};
+ghost use Rattle.dap_golden.specs.Golden.{IsRefusedGolden, MasksBy, mask_given};
 ghost use Rattle.dap_golden.specs.GoldenFiles.{IsNormalText};
-ghost use Rattle.dap_golden.specs.GoldenSteps.{RefusesMask, RefusesMaskBy, RefusesMasked};
-ghost use Rattle.dap_golden.specs.GoldenSteps.{RefusesTrace};
+ghost use Rattle.dap_golden.specs.GoldenSteps.{RefusesGolden, RefusesMask, RefusesMaskBy};
+ghost use Rattle.dap_golden.specs.GoldenSteps.{RefusesOrder, RefusesRulesBy, RefusesTrace};
 ghost use Rattle.dap_golden.specs.NormalSession.{IsNormalSession};
 ghost use Rattle.dap_golden.specs.TraceHead.{IsTraceHead};
 
 use crate::fault::GoldenRefused;
 use crate::normal_session::{NormalSession, normalise_session};
-use crate::text_sink::{TextSink, is_out_of_memory};
 use crate::trace_head::is_trace;
 use dap_device::MemorySource;
 use dap_input::{Limits, Refused};
 use dap_mask::MaskRules;
-use dap_mask_input::mask;
 use dap_normal::Checked;
 use dap_rename::Mode;
+use dap_rules_input::{TextSink, is_out_of_memory, mask_bytes, order_masked};
 use dap_trace::record;
 use std::alloc::Global;
 use std::borrow::CowSlice;
@@ -73,28 +73,49 @@ pub fn recording_of<'a>(
     Ok(CowSlice::Owned(recording))
 }
 
-/// Masks a recording.
+/// Masks a recording, and frees it then.
 fn mask_recording(
     alloc: Global,
-    recording: &[u8],
+    recording: CowSlice<'_, u8>,
     rules: &MaskRules,
     limits: Limits,
 ) -> Result<Vec<u8>, GoldenRefused>
     requires { AreSound limits }
-    ensures ok { IfOk result
-        (λ masked. IsMaskedTo limits (mask_of rules.now) recording.now masked.items) }
-    ensures err { IfErr result (RefusesMask limits (mask_of rules.now) recording.now) }
+    ensures ok { IfOk result (λ masked. IsMaskedTo limits (mask_of rules.now)
+        (cow_slice_items recording.entry) masked.items) }
+    ensures err { IfErr result
+        (RefusesMask limits (mask_of rules.now) (cow_slice_items recording.entry)) }
 {
-    let mut reader = MemorySource::new(recording);
-    let mut writer = TextSink::new(alloc);
-    match mask(alloc, rules, &mut reader, &mut writer, limits) {
-        Ok(()) => Ok(writer.into_bytes()),
+    match mask_bytes(alloc, rules, recording.as_slice(), limits) {
+        Ok(masked) => Ok(masked),
         Err(refused) if is_out_of_memory(refused) => Err(GoldenRefused::Memory),
         Err(refused) => Err(GoldenRefused::Mask(refused)),
     }
 }
 
+/// Puts a masked recording in order, if there are rules for the order.
+fn order_recording(
+    alloc: Global,
+    masked: Vec<u8>,
+    rules: &MaskRules,
+    limits: Limits,
+    mode: Mode,
+) -> Result<Vec<u8>, GoldenRefused>
+    requires { AreSound limits }
+    ensures ok { IfOk result (λ session. OrdersBy limits mode (swaps_of_mask rules.now)
+        masked.items session.items) }
+    ensures err { IfErr result
+        (RefusesOrder limits mode (swaps_of_mask rules.now) masked.items) }
+{
+    match order_masked(alloc, rules, masked, limits, mode) {
+        Ok(session) => Ok(session),
+        Err(refused) if is_out_of_memory(refused) => Err(GoldenRefused::Memory),
+        Err(refused) => Err(GoldenRefused::Session(refused)),
+    }
+}
+
 /// Masks a recording if there are rules, and frees it then. Otherwise the recording is unchanged.
+/// The masked recording is not put in order.
 ///
 /// # Errors
 ///
@@ -116,8 +137,31 @@ pub fn apply_rules<'a>(
     let Some(rules) = rules else {
         return Ok(recording);
     };
-    let masked = mask_recording(alloc, recording.as_slice(), rules, limits)?;
+    let masked = mask_recording(alloc, recording, rules, limits)?;
     Ok(CowSlice::Owned(masked))
+}
+
+/// Masks a recording and puts it in order, if there are rules. Otherwise it is unchanged.
+fn session_of<'a>(
+    alloc: Global,
+    recording: CowSlice<'a, u8>,
+    rules: Option<&MaskRules>,
+    limits: Limits,
+    mode: Mode,
+) -> Result<CowSlice<'a, u8>, GoldenRefused>
+    requires { AreSound limits }
+    ensures ok { IfOk result
+        (λ session. AppliesBy limits mode (mask_given rules.entry)
+        (cow_slice_items recording.entry) (cow_slice_items session)) }
+    ensures err { IfErr result
+        (RefusesRulesBy limits mode (mask_given rules.entry) (cow_slice_items recording.entry)) }
+{
+    let Some(rules) = rules else {
+        return Ok(recording);
+    };
+    let masked = mask_recording(alloc, recording, rules, limits)?;
+    let session = order_recording(alloc, masked, rules, limits, mode)?;
+    Ok(CowSlice::Owned(session))
 }
 
 /// Returns whether each request has a response.
@@ -135,7 +179,7 @@ fn golden_of(session: NormalSession, allow_open: bool) -> Result<GoldenText, Gol
         → IsGoldenOf limits mode allow_open recording text) }
     ensures err { IfErr result (λ refused. (limits : Limits) (mode : Mode) (recording : List ℕ)
         → IsNormalSession limits mode recording session
-        → RefusesMasked limits mode allow_open recording refused) }
+        → RefusesGolden limits mode allow_open recording refused) }
 {
     let NormalSession { bytes, counts } = session;
     if counts.records == 0 {
@@ -161,7 +205,7 @@ fn golden_of_recording(
 ) -> Result<GoldenText, GoldenRefused>
     requires { AreSound limits }
     ensures ok { IfOk result (IsGoldenOf limits mode allow_open recording.now) }
-    ensures err { IfErr result (RefusesMasked limits mode allow_open recording.now) }
+    ensures err { IfErr result (RefusesGolden limits mode allow_open recording.now) }
 {
     match normalise_session(alloc, recording, limits, mode) {
         Ok(session) => golden_of(session, allow_open),
@@ -173,9 +217,10 @@ fn golden_of_recording(
 /// Makes the text of a golden file from a trace or a recording in memory.
 ///
 /// An input that starts with a marker, decimal digits and LF is a trace, and is recorded. Any other
-/// input is a recording. If there are rules, the recording is masked. The masked recording is
-/// checked as [`check`](dap_normal::check) does and normalised. It must have at least one record,
-/// and each request a response, unless `allow_open` is set.
+/// input is a recording. If there are rules, the recording is masked, and then put in order if
+/// there are rules for the order. This session is checked as [`check`](dap_normal::check) does and
+/// normalised. It must have at least one record, and each request a response, unless `allow_open`
+/// is set.
 ///
 /// The input is not copied. Each intermediate text is freed after its last use.
 ///
@@ -185,8 +230,8 @@ fn golden_of_recording(
 ///
 /// - `Trace`: the trace was rejected, or ends inside a piece or a frame.
 /// - `Mask`: the rules cannot mask a record of the recording.
-/// - `Session`: the masked recording was rejected, or `allow_open` is not set and a request has no
-///   response (`Incomplete`).
+/// - `Session`: the masked recording was rejected, or its text in order was, or `allow_open` is not
+///   set and a request has no response (`Incomplete`).
 /// - `NoRecords`: the masked recording has no records.
 /// - `Memory`: an allocation failed.
 pub fn golden_text(
@@ -209,6 +254,6 @@ pub fn golden_text(
     ensures normal { IfOk result (λ text. IsNormalText limits mode text.bytes.items) }
 {
     let recording = recording_of(alloc, input, limits)?;
-    let masked = apply_rules(alloc, recording, rules, limits)?;
-    golden_of_recording(alloc, masked.as_slice(), allow_open, limits, mode)
+    let session = session_of(alloc, recording, rules, limits, mode)?;
+    golden_of_recording(alloc, session.as_slice(), allow_open, limits, mode)
 }

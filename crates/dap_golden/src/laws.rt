@@ -3,7 +3,7 @@
 ghost use Rattle.dap_golden.specs.Laws.{EqualGoldenTexts, GoldenIsNotRefused, OneGoldenText};
 
 /// The golden texts of two inputs are equal if and only if a renaming of ids maps the messages of
-/// the first masked recording to those of the second.
+/// the first session to those of the second.
 pub fn equal_golden_texts()
     ensures { EqualGoldenTexts }
 {}

@@ -9,12 +9,11 @@ pub mod laws;
 mod normal_session;
 #[cfg(test)]
 mod tests;
-mod text_sink;
 mod trace_head;
 mod updates;
 
 pub use comparing::{GoldenVerdict, compare_golden};
+pub use dap_rules_input::TextSink;
 pub use fault::{GoldenFault, GoldenRefused};
 pub use golden::{GoldenText, apply_rules, golden_text, recording_of};
-pub use text_sink::TextSink;
 pub use updates::{GoldenDone, GoldenRequest, GoldenStop, golden_file};

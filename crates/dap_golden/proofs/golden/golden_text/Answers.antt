@@ -1,14 +1,14 @@
 use Rattle.std.specs.Cow.{cow_slice_items}
 use Rattle.std.proofs.lemmas.Result.{err_from_is_err_and}
 use Rattle.dap_golden.specs.Golden.{mask_given}
-use Rattle.dap_golden.proofs.GoldenTexts.{mask_refuses}
+use Rattle.dap_golden.proofs.GoldenTexts.{no_session}
 use Rattle.dap_golden.proofs.golden.golden_text.Goals as goal
 
-pub returns-in_err-masked-clause-err : goal.returns-in_err-masked-clause-err
-returns-in_err-masked-clause-err c =
-    let because = err_from_is_err_and c.from_residual-in_err-masked.result
-    c.from_residual-in_err-masked.ensures.1 in
+pub returns-in_err-session-clause-err : goal.returns-in_err-session-clause-err
+returns-in_err-session-clause-err c =
+    let because = err_from_is_err_and c.from_residual-in_err-session.result
+    c.from_residual-in_err-session.ensures.1 in
     rw (because.1, because.2)
-    (mask_refuses c.args.limits c.args.mode (mask_given c.args.rules) c.args.allow_open
+    (no_session c.args.limits c.args.mode (mask_given c.args.rules) c.args.allow_open
     c.args.input.now (cow_slice_items c.in_ok-recording.recording) c.in_ok-recording.ensures.ok
-    c.in_err-masked.field-0.0 c.in_err-masked.ensures.err)
+    c.in_err-session.field-0.0 c.in_err-session.ensures.err)
