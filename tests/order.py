@@ -318,9 +318,9 @@ def events_without_rules(count):
 
 
 def many_rules(count):
-    """A thousand rules, and events of all their names: each passes the one before it, or none."""
-    rules = "".join(f"swap event e{number:03} event f{number:03}\n" for number in range(1000))
-    pairs = [(f"f{number % 1000:03}", f"e{number % 1000:03}") for number in range(count // 2)]
+    """A hundred rules, and events of all their names: each passes the one before it, or none."""
+    rules = "".join(f"swap event e{number:03} event f{number:03}\n" for number in range(100))
+    pairs = [(f"f{number % 100:03}", f"e{number % 100:03}") for number in range(count // 2)]
     return rules.encode(), events(name for pair in pairs for name in pair), events(name for pair in pairs for name in reversed(pair))
 
 
