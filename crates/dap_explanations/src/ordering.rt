@@ -37,7 +37,14 @@ fn explain_ordering(
 {
     let mut reader = MemorySource::new(input);
     let mut writer = StdSink::new(io::sink());
-    match order(alloc, rules.swaps(), &mut reader, &mut writer, limits, Mode::Whole) {
+    match order(
+        alloc,
+        rules.swaps(),
+        &mut reader,
+        &mut writer,
+        limits,
+        Mode::Whole,
+    ) {
         Ok(()) | Err(Refused::Grew(_)) => Ok(String::new(alloc)),
         Err(refused) => explain(alloc, input, refused, limits),
     }

@@ -13,7 +13,8 @@ use Rattle.dap_runs.specs.Reporting.{refused_status}
 -- The recording is rejected after the rules. Its records are counted as they are then.
 abbrev pub after_rules_line : Which → Refused → List ℕ
 after_rules_line which refused =
-    fault_line (which_text which ++ codes ": after the rules: " ++ refused_text refused)
+    codes "dapnorm: " ++ which_text which ++ codes ": after the rules: " ++ refused_text refused
+    ++ codes "\n"
 
 -- the line that reports why the rules cannot be applied
 abbrev pub unapplied_line : Which → ApplyRefused → List ℕ

@@ -232,7 +232,13 @@ pub fn run_comparison(rt: &HostRuntime, comparison: &Comparison<'_>, setting: Se
         Ok(inputs) => inputs,
         Err(status) => return status,
     };
-    match compare_by_rules(rt, comparison, &rules, (&mut input_a, &mut input_b), setting) {
+    match compare_by_rules(
+        rt,
+        comparison,
+        &rules,
+        (&mut input_a, &mut input_b),
+        setting,
+    ) {
         Ok(status) | Err(status) => status,
     }
 }
