@@ -154,7 +154,7 @@ def refused(report, folder):
         for title, a, b in (("A", text, recording(BEGUN)), ("B", recording(BEGUN), text)):
             for command in ("compare", "diff"):
                 answer = folder.compare(ALL.encode(), a, b, command)
-                report.check(f"{command} with {name} in {title}", answer == (2, b"", refusal(f"{title}: {why}")), repr(answer))
+                report.check(f"{command} with {name} in {title}", answer == (2, b"", refusal(f"{title}: after the rules: {why}")), repr(answer))
 
 
 def differing(report, folder):

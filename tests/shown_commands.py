@@ -17,7 +17,7 @@ INPUTS = {
     "session.trace": os.path.join(CAPTURES, "dlv-l-stopentry.3.trace"), "later.trace": os.path.join(CAPTURES, "dlv-l-stopentry.5.trace"),
     "session.rec": os.path.join(CAPTURES, "dlv-l-stopentry.3.rec"), "later.rec": os.path.join(CAPTURES, "dlv-l-stopentry.5.rec"),
     "session.frames": os.path.join(EXAMPLES, "debugpy-adapter.frames"),
-    **{name: os.path.join(EXAMPLES, "rules", "lldb.rules") for name in ("lldb.rules", "lldb.mask")},
+    "lldb.rules": os.path.join(EXAMPLES, "rules", "lldb.rules"),
     "examples/rules/debugpy.rules": os.path.join(EXAMPLES, "rules", "debugpy.rules"),
 }
 GOLDEN = "session.golden"

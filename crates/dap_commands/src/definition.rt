@@ -204,7 +204,7 @@ fn mask_command<'a>(alloc: Global) -> Result<Command<'a>, AllocError>
         alloc,
         "mask",
         "Removes from a recording what changes from run to run, as the rules say",
-        "Example: dapnorm mask lldb.mask session.rec -o session.masked",
+        "Example: dapnorm mask lldb.rules session.rec -o session.masked",
     )
     .arg(file(alloc, "RULES", RULES))?
     .arg(explain_flag(alloc))?
