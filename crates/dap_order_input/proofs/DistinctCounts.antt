@@ -1,6 +1,6 @@
 -- A class has as many distinct numbers in messages as in the same messages in another order, if the
 -- whole recording is one numbering.
-use Rattle.std.proofs.Common.{◌≡◌, ℕ, ℤ, ◌≤◌, Bool, true, false, ◌||◌, List, [], ◌∷◌, ◌++◌, length, map}
+use Rattle.std.proofs.Common.{◌≡◌, ℕ, ℤ, Bool, true, false, ◌||◌, List, [], ◌∷◌, ◌++◌, length, map}
 use Rattle.std.proofs.Common.{refl, sym, ◌∙◌, ap, subst, arith, append_assoc}
 use Rattle.std.specs.List.{list_any}
 use Rattle.std.specs.Ordering.{int_eq}
@@ -17,7 +17,7 @@ use Rattle.dap_names.specs.Numbering.{add, add_all, numbers, table}
 use Rattle.dap_names.proofs.Additions.{add_all-append, any-add, by_bool, numbers-append}
 use Rattle.dap_rename.specs.Messages.{Class, HasFewIds, in_whole, numbers_of_class, occurrence}
 use Rattle.dap_rename.specs.Messages.{occurrences, same_class}
-use Rattle.dap_order.specs.Swaps.{Reordered, Swapped, unmoved, swapped}
+use Rattle.dap_order.specs.Swaps.{Reordered, unmoved, swapped}
 
 -- ---- numbers added to a list of distinct ones
 

@@ -1,6 +1,6 @@
 -- What the text of messages in order can be refused for: it is too long, or, if ids are numbered
 -- per stop, it has too many ids.
-use Rattle.std.proofs.Common.{◌≡◌, ℕ, ◌+◌, ◌<◌, ◌≤◌, List, [], ◌∷◌, ◌++◌, length, Some, None, refl}
+use Rattle.std.proofs.Common.{◌≡◌, ℕ, ◌+◌, ◌≤◌, List, [], ◌∷◌, ◌++◌, length, Some, None, refl}
 use Rattle.std.proofs.Common.{sym, ◌∙◌, ap, subst, arith, append_assoc, append-nil, length-append}
 use Rattle.std.proofs.Common.{zero-add}
 use Rattle.std.proofs.lemmas.List.{append_cancel_left}
@@ -18,7 +18,6 @@ use Rattle.dap_rename.specs.declared.mode.Mode.{Mode}
 use Rattle.dap_rename.specs.declared.mode.Mode.TheVariants.{Whole, PerStop}
 use Rattle.dap_rename.proofs.NormalForms.{front_has_few_ids}
 use Rattle.dap_session.specs.Rules.{KeepsRules, first_broken}
-use Rattle.dap_session.specs.declared.rule.Rule.{Rule}
 use Rattle.dap_mask.specs.Swaps.{SwapRule}
 use Rattle.dap_input.specs.Judging.{Judging, IsFirstRefusal, Objection, Reason, Refuses, broken, cut}
 use Rattle.dap_input.specs.Judging.{faulty, grew, input_too_long, no_message, objected}
@@ -31,7 +30,7 @@ use Rattle.dap_input.specs.declared.refused.Refused.TheVariants.{InputTooLong, R
 use Rattle.dap_input.specs.declared.refused.Refused.TheVariants.{Fraction, Message, Rule as Breaks}
 use Rattle.dap_input.specs.declared.refused.Refused.TheVariants.{TooManyIds, Grew}
 use Rattle.dap_input.proofs.NextRecord.{refuses_some}
-use Rattle.dap_input.proofs.Runs.{Run, some_bytes}
+use Rattle.dap_input.proofs.Runs.{Run}
 use Rattle.dap_normal.specs.Accepting.{AreMessages, Held, IsAccepted, IsMessage, Objects}
 use Rattle.dap_normal.specs.Accepting.{accepting, id_limit, text}
 use Rattle.dap_normal.proofs.AcceptingFacts.{accepted_facts, message_once}

@@ -1,4 +1,4 @@
-use Rattle.std.proofs.Common.{◌≢◌, ◌∙◌, ap, refl, rules}
+use Rattle.std.proofs.Common.{◌∙◌, ap, refl, rules}
 use Rattle.dap_device.specs.Memory.{GivenBytes}
 use Rattle.dap_golden.specs.GoldenFiles.{IsNotNormal}
 use Rattle.dap_golden.proofs.ComparedTexts.{differs, differs_at, differs_not_normal, normalises}

@@ -1,4 +1,4 @@
-use Rattle.std.proofs.Common.{◌≡◌, ⊎_elim, inl, inr, sym, subst, ℕ}
+use Rattle.std.proofs.Common.{⊎_elim, inl, inr, sym, subst, ℕ}
 use Rattle.dap_file.specs.Crash.{Content, LeavesOnly}
 use Rattle.dap_golden.specs.Golden.{mask_given}
 use Rattle.dap_golden.specs.GoldenUpdates.{RunsOn}
