@@ -94,6 +94,12 @@ REFUSED = {
 }
 
 
+def reported(arguments, given=b""):
+    """The status, the output and the first line of the errors: `order` explains a refusal in further lines."""
+    status, output, errors = run(arguments, given)
+    return status, output, errors[: errors.find(b"\n") + 1]
+
+
 class Folder(NamedTuple):
     """A folder for the files that runs name."""
     path: str
@@ -105,7 +111,7 @@ class Folder(NamedTuple):
         return path
 
     def order(self, rules, given):
-        return run(["order", self.file("rules", rules)], given)
+        return reported(["order", self.file("rules", rules)], given)
 
     def compare(self, rules, a, b, command="compare"):
         return run([command, "--rules", self.file("rules", rules), self.file("a", a), self.file("b", b)])
@@ -175,7 +181,7 @@ def rules_that_are_refused(report, folder):
         for command in ("compare", "diff"):
             answer = folder.compare(rules, b"", b"", command)
             report.check(f"{command} by {rules!r}", answer == (2, b"", line), repr(answer))
-    answer = run(["order", os.path.join(folder.path, "none")])
+    answer = reported(["order", os.path.join(folder.path, "none")])
     report.check("rules that do not open", answer == (4, b"", b"dapnorm: rules: read fault\n"), repr(answer))
     report.check("no rules are a usage error", run(["order"])[0] == 3)
 

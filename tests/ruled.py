@@ -14,7 +14,7 @@ ANSWERED_FIRST = [INITIALIZE, FILLED, CONTINUE, CONTINUED % 2, STOPPED % ("step"
 STOPPED_FIRST = [INITIALIZE, FILLED, CONTINUE, STOPPED % ("step", 2), CONTINUED % 3]
 # What `order` makes of the second.
 IN_ORDER = [INITIALIZE, FILLED, CONTINUE, CONTINUED % 3, STOPPED % ("step", 2)]
-PAIRS = b"client-seq 1 1\nclient-seq 2 2\nadapter-seq 1 1\nadapter-seq 2 3\nadapter-seq 3 2\n"
+PAIRS = b"client-seq 1 1\nclient-seq 2 2\nadapter-seq 1 1\nadapter-seq 2 3\nadapter-seq 3 2\nthread 1 1\n"
 # Without its `initialized` event the session breaks a rule of the protocol.
 CONFIGURED = recording([INITIALIZE, FILLED, INITIALIZED, DONE])
 EARLY = "after the rules: record 3: ConfiguredEarly"
