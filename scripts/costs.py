@@ -14,7 +14,7 @@ from compact_reference import canonical, compacted
 from compare_reference import compared
 from generated_inputs import MARKERS, begin_session, record, request, response
 from measuring import Figures, digest, measure, options
-from normalise_reference import OTHER, normalised
+from normalise_reference import OTHER, fill, normalised
 from one_direction import records
 from record_reference import recorded
 
@@ -132,10 +132,12 @@ SWAPS = "swap response * response *\n"
 
 
 def in_order(recording):
-    """The recording with canonical contents, and with its responses, which are its last records, in the order of their requests."""
+    """The recording with canonical contents and all capabilities, and with its responses, which are its last records, in the order of
+    their requests."""
     out, responses = [], {}
     for side, _, content in records(recording):
         message = json.loads(content)
+        fill(side, message)
         content = canonical(message)
         text = b"%sContent-Length: %d\r\n\r\n%s\n" % (MARKERS[side], len(content), content)
         if message.get("request_seq"):
