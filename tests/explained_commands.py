@@ -30,14 +30,31 @@ EXPLAINED = [
     (["compare", "fraction", "good"], [PLACE]),
     (["diff", "good", "answered"], ["record 2"]),
     (["diff", "--per-stop", "answered", "good"], ["record 2"]),
+    (["compare", "--rules", "events", "fraction", "good"], [PLACE]),
+    (["compare", "--rules", "early", "good", "good"], ['> request "configurationDone"', "initialized event"]),
+    (["diff", "--rules", "swaps", "good", "answered"], ["record 2"]),
+    (["diff", "--all", "--rules", "swaps", "answered", "good"], ["record 2"]),
+    (["compare", "--rules", "bad", "good", "good"], ['"hide"']),
+    (["compare", "--rules", "none", "good", "good"], ["none: No such file or directory"]),
+    (["compare", "--rules", "swaps", "none", "good"], ["none: No such file or directory"]),
     (["check", "folder"], ["folder: Is a directory"]),
     (["check", "none"], ["none: No such file or directory"]),
     (["mask", "none", "good"], ["none: No such file or directory"]),
     (["compare", "none", "good"], ["none: No such file or directory"]),
     (["diff", "good", "folder"], ["folder: Is a directory"]),
 ]
+# `order` explains without the option.
+EXPLAINS = [
+    (["order", "swaps", "answered"], ["record 2"]),
+    (["order", "swaps", "fraction"], [PLACE]),
+    (["order", "swaps", "trace"], ["this looks like a trace"]),
+    (["order", "bad", "good"], ['"hide"']),
+    (["order", "none", "good"], ["none: No such file or directory"]),
+    (["order", "swaps", "none"], ["none: No such file or directory"]),
+]
 FILES = {
     "fraction": FRACTION, "answered": ANSWERED, "open": OPEN, "frames": frame('{"x":0.5}'), "rules": RULES, "bad": b"hide event output\n", "events": b"drop event *\n",
+    "early": b"drop event initialized\n", "swaps": b"swap response * request *\n",
     "trace": b">10\nCont", "good": recording(CONFIGURED),
 }
 
@@ -59,6 +76,15 @@ def explanations(report, folder):
         for value, wanted in (("1", explained), ("0", plain), ("", plain)):
             found = ran(folder, words, DAPNORM_EXPLAIN=value)
             report.check(f"{words}: DAPNORM_EXPLAIN={value}", found == wanted, repr(found))
+
+
+def ordering(report, folder):
+    for words, parts in EXPLAINS:
+        explained = ran(folder, words)
+        report.check(f"{words}: a line and a status", explained[0] in (2, 4) and explained[2].startswith("dapnorm: "), repr(explained))
+        report.check(f"{words}: lines that begin with two spaces", all(it.startswith("  ") for it in explained[3].splitlines()), explained[3])
+        for part in parts:
+            report.check(f"{words}: {part}", part in explained[3], explained[3])
 
 
 def refusals(report, folder):
@@ -90,7 +116,7 @@ def main():
         return report.close()
     with Folder(**FILES) as folder:
         os.mkdir(folder.at("folder"))
-        for test in (explanations, refusals, successes):
+        for test in (explanations, ordering, refusals, successes):
             test(report, folder)
     return report.close()
 
