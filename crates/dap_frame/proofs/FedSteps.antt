@@ -12,12 +12,16 @@ use Rattle.dap_frame.specs.declared.progress.Progress.{Progress}
 use Rattle.dap_frame.specs.declared.progress.Progress.TheVariants.{Content}
 use Rattle.dap_frame.specs.declared.progress.HeaderTaken.{HeaderTaken}
 use Rattle.dap_frame.specs.declared.progress.HeaderTaken.TheVariants.{Unfinished, Ended}
-use Rattle.dap_frame.specs.Frame.{BeginsWith, HasContentByte, IsFrame, IsOpen}
+use Rattle.dap_frame.specs.declared.header_scan.HeaderScan.{HeaderScan}
+use Rattle.dap_frame.specs.Frame.{BeginsWith, HasContentByte, HasFrame, IsFrame, IsOpen, Shows}
 use Rattle.dap_frame.specs.Reading.{Reading, Stands, IsKeptOf, IsKeptBy}
 use Rattle.dap_frame.specs.Framer.{reading, progress_in}
-use Rattle.dap_frame.specs.Progress.{HasEnded, IsAtContent, TakesHeader, TakesRestOfHeader}
+use Rattle.dap_frame.specs.Progress.{GoesOn, HasEnded, IsAtContent, ShowsInHeader, TakesHeader}
+use Rattle.dap_frame.specs.Progress.{TakesRestOfHeader}
 use Rattle.dap_frame.proofs.MarkEnds.{BeginsWith-more}
-use Rattle.dap_frame.proofs.Frames.{frame_of, open_in_content}
+use Rattle.dap_frame.proofs.Frames.{frame_grammar, frame_of, open_in_content}
+use Rattle.dap_items.proofs.Ends.{item_not_faulty, item_not_open, one_item}
+use Rattle.dap_items.specs.Then.{first_open}
 
 -- what the fields keep is that of the rest that the framer stands for
 pub kept_of : (fields : Inside) (framer : Reading) (progress : Progress) (rest : List ℕ)
@@ -146,3 +150,89 @@ content_byte limits bytes rest piece header_len content_len used begun wanted so
         length-append front (drop used piece),
       );
     }
+
+-- ---- whether the frame ends in the piece
+
+-- the rest, so much of the piece, and what is left of it
+split_piece : (rest piece : List ℕ) (n : ℕ) → rest ++ piece ≡ (rest ++ take n piece) ++ drop n piece
+split_piece rest piece n =
+    sym (append_assoc rest (take n piece) (drop n piece)
+    ∙ ap (λ xs. rest ++ xs) (take-append-drop n piece))
+
+module _ (limits : FrameLimits) (bytes rest piece : List ℕ) (header_len content_len used : ℕ)
+    (begun : IsAtContent limits bytes rest piece header_len content_len used) where
+  abbrev content_in : ℕ → List ℕ
+  content_in more = bytes ++ take more (drop used piece)
+
+  -- the frame, if as many bytes of the piece are left as its content wants
+  whole_in : (more : ℕ) → more ≡ content_len - length bytes → more ≤ length piece - used
+      → (length (content_in more) ≡ content_len)
+      × IsFrame limits (rest ++ take (used + more) piece) (content_in more)
+  whole_in more is enough =
+      let room = begun.room in
+      let behind = length-drop used piece in
+      let taken = length-take-le more (drop used piece) (omega (arith, behind, enough)) in
+      let long : length (content_in more) ≡ content_len =
+      omega (arith, taken, room, is, length-append bytes (take more (drop used piece))) in (
+        long,
+        (fed_frame limits bytes rest piece (content_in more) header_len content_len used more begun
+            (omega (arith, behind, is, enough)) refl (omega (arith, long))).1,
+      )
+
+  pub ends_in : content_len - length bytes ≤ length piece - used
+      → (0 < length piece) × HasFrame limits (rest ++ piece)
+  ends_in enough =
+      let left : ℕ = content_len - length bytes in
+      let within = begun.within in
+      let progress = begun.progress in (
+        omega (arith, within, progress, enough),
+        record {
+          item = rest ++ take (used + left) piece;
+          more = drop (used + left) piece;
+          value = content_in left;
+          bytes_are = split_piece rest piece (used + left);
+          is_item = (whole_in left refl enough).1;
+        },
+      )
+
+  -- a frame that ends in the piece has the content that its header part says
+  module _ (content : List ℕ) (n : ℕ) (frame : IsFrame limits (rest ++ take n piece) content) where
+    pub content_len_is : content_len - length bytes ≤ length piece - used
+        → content_len ≡ length content
+    content_len_is enough =
+        let more : ℕ = content_len - length bytes in
+        let whole = whole_in more refl enough in
+        let same = one_item (frame_grammar limits) (rest ++ take (used + more) piece)
+        (rest ++ take n piece) (drop (used + more) piece) (drop n piece) (content_in more) content
+        (sym (split_piece rest piece (used + more)) ∙ split_piece rest piece n) whole.1 frame in
+        sym whole.0 ∙ ap length same.1
+
+    -- and as many bytes of the piece are left as it wants
+    pub not_short : length piece - used < content_len - length bytes → ⊥
+    not_short short =
+        let more : ℕ = length (drop used piece) in
+        let behind = length-drop used piece in
+        let within = begun.within in
+        let taken = length-take-le more (drop used piece) (omega arith) in
+        let few : length (content_in more) < content_len =
+        omega (arith, behind, taken, short, length-append bytes (take more (drop used piece))) in
+        let is_open = (fed_open limits bytes rest piece (content_in more) header_len content_len
+        used more begun (omega (arith, behind, short)) refl few).1 in
+        item_not_open (frame_grammar limits) (rest ++ take n piece) (drop n piece) content frame
+        (subst (IsOpen limits) (split_piece rest piece n) is_open)
+
+module _ (limits : FrameLimits) (rest piece content : List ℕ) (n : ℕ)
+    (frame : IsFrame limits (rest ++ take n piece) content) where
+  -- if a frame ends in the piece, its header part ends there too
+  pub not_unfinished : (scan : HeaderScan) → GoesOn limits rest piece scan → ⊥
+  not_unfinished scan goes_on =
+      item_not_open (frame_grammar limits) (rest ++ take n piece) (drop n piece) content frame
+      (subst (IsOpen limits) (split_piece rest piece n)
+      (first_open (goes_on.short, goes_on.scanned.lacks)))
+
+  -- and shows no fault
+  pub not_faulty : (fault : FrameFault) → ShowsInHeader limits rest piece fault → ⊥
+  not_faulty fault shows =
+      item_not_faulty (frame_grammar limits) (rest ++ take n piece) (drop n piece) content fault
+      shows.place frame
+      (subst (λ xs. Shows limits xs fault shows.place) (split_piece rest piece n) shows.shown)

@@ -1,8 +1,8 @@
 //! Frames read from the pieces of a stream.
 ghost use Rattle.std.specs.Prelude.{◌≡◌, ℕ, ◌≤◌, ◌+◌, ◌<◌, ◌↔◌, ◌++◌, List, [], length, Err};
-ghost use Rattle.std.specs.Prelude.{IsErrOf, IfErr, IsOk, IfOk, IfSome, take};
+ghost use Rattle.std.specs.Prelude.{IsErrOf, IfErr, IsOk, IfOk, IfSome, Some, take};
 ghost use Rattle.dap_frame.specs.Limits.{IsSound};
-ghost use Rattle.dap_frame.specs.Frame.{HasContentByte, IsFrame};
+ghost use Rattle.dap_frame.specs.Frame.{HasContentByte, HasFrame, IsFrame};
 ghost use Rattle.dap_frame.specs.Reading.{Stands, HasFailed, Gives, limits_of};
 
 use crate::content::Content;
@@ -88,7 +88,8 @@ impl Framer {
     /// Answers every fault but `Cut`. After `Memory` the framer is unchanged and has used nothing,
     /// so the call may be made again with the same piece. After another fault `feed` and
     /// [`finish`](Framer::finish) answer that fault from then on. Only bytes of a content take
-    /// memory, which the answered [`Content`] then owns.
+    /// memory, which the answered [`Content`] then owns: an empty piece takes none, and neither
+    /// does a header part that shows a fault.
     pub fn feed(&mut self, piece: &[u8]) -> Result<Fed, FrameFault>
         ensures gives { (rest : List ℕ) → Stands self.old rest
             → Gives (limits_of self.old) rest piece.now result self.new }
@@ -100,6 +101,8 @@ impl Framer {
         ensures memory_for_content { IsErrOf result FrameFault.Memory → (rest : List ℕ)
             → Stands self.old rest
             → HasContentByte (limits_of self.old) (rest ++ piece.now) }
+        ensures memory_for_bytes { IsErrOf result FrameFault.Memory → (rest : List ℕ)
+            → Stands self.old rest → 0 < length piece.now }
         ensures failed { (fault : _) → HasFailed self.old fault
             → (result ≡ Err fault) × (self.new ≡ self.old) }
 
@@ -176,6 +179,41 @@ impl Framer {
                 }
             }
             _ => None,
+        }
+    }
+
+    /// Returns the length of the content of the present frame, if the frame ends in the piece. Does
+    /// not allocate.
+    pub fn content_len_in(&self, piece: &[u8]) -> Option<usize>
+        ensures ends { IfSome result (λ len. (rest : List ℕ) → Stands self.now rest
+            → (0 < length piece.now) × HasFrame (limits_of self.now) (rest ++ piece.now)) }
+        ensures len { (rest content : List ℕ) (used : ℕ) → Stands self.now rest
+            → IsFrame (limits_of self.now) (rest ++ take used piece.now) content
+            → result ≡ Some (length content) }
+        ensures within { IfSome result (λ len. len ≤ (limits_of self.now).content) }
+    {
+        let progress = match self.state {
+            State::Open(progress) => progress,
+            State::Failed(_) => return None,
+        };
+        match take_rest_of_header(self.limits, progress, piece) {
+            Ok(
+                HeaderTaken::Ended {
+                    content_len,
+                    used,
+                    ..
+                },
+            ) => {
+                let missing = content_len - self.bytes.len();
+                let left = piece.len() - used;
+                if missing <= left {
+                    Some(content_len)
+                } else {
+                    None
+                }
+            }
+            Ok(HeaderTaken::Unfinished(_)) => None,
+            Err(_) => None,
         }
     }
 

@@ -367,8 +367,8 @@ module _ {I A R : Type 0} (g : Items A RecordCause) (stands : I → List ℕ
       kept_limit : new.pieces.limit ≡ old.pieces.limit
       kept_limit = ap (λ (w : Window). w.limit) pieces_are ∙ was.limit_is
 
-      pub no_memory : Gives new mid (Err Memory)
-      no_memory =
+      pub no_memory : new.number ≡ now.number → Gives new mid (Err Memory)
+      no_memory number_is =
           record {
             more = was.more;
             stop = None;
@@ -378,7 +378,7 @@ module _ {I A R : Type 0} (g : Items A RecordCause) (stands : I → List ℕ
             taken = λ same. same_taken;
             limit_is = kept_limit;
             over = over_is ∙ was.goes_on;
-            finds = refl;
+            finds = (refl, number_is ∙ was.number_is);
           }
 
       abbrev Faulty : RecordCause → Type 0

@@ -1,7 +1,7 @@
 -- What an engine answers that writes the text of each record once it is judged, where it goes no
 -- further: whatever it keeps of the records, their text went out.
-use Rattle.std.proofs.Common.{◌≡◌, ◌≢◌, inl, inr, ℕ, ◌+◌, true, false, List, [], length, Option}
-use Rattle.std.proofs.Common.{Some, None, Result, Ok, Err, refl, sym, ◌∙◌, ap, subst, arith}
+use Rattle.std.proofs.Common.{◌≡◌, ◌≢◌, inl, inr, ℕ, ◌+◌, ◌≤◌, true, false, List, [], length}
+use Rattle.std.proofs.Common.{Option, Some, None, Result, Ok, Err, refl, sym, ◌∙◌, ap, subst, arith}
 use Rattle.std.proofs.Common.{append-nil}
 use Rattle.std.proofs.lemmas.Bool.{true≢false}
 use Rattle.std.specs.Prelude.{is_err}
@@ -20,7 +20,7 @@ use Rattle.dap_input.specs.Engine.{Accepts}
 use Rattle.dap_input.specs.InputSteps.{Says}
 use Rattle.dap_input.specs.Judging.{Judging}
 use Rattle.dap_input.specs.Streaming.{AnswersRefusal, Flushes, HasComeTo, HasFailedToWrite}
-use Rattle.dap_input.specs.Streaming.{HasGivenUp, IsNextText, Streams}
+use Rattle.dap_input.specs.Streaming.{HasGivenUp, HasGivenUpAt, IsNextText, Streams}
 use Rattle.dap_input.specs.declared.refused.Refused.{Refused}
 use Rattle.dap_input.specs.declared.refused.Refused.TheVariants.{Record, WriteFault, Memory}
 use Rattle.dap_input.proofs.Coming.{nothing_came}
@@ -87,6 +87,33 @@ module _ {R W : Type 0} (j : Judging) (Gives Promises : List ℕ → List ℕ �
       to = to;
       written = written;
     }
+
+    not_memory : (because : Refused) → because ≢ Memory → (end : W)
+        (result : Result (Unit {0}) Refused) → Flushes sink writer end (Err because) result
+        → result ≡ Err Memory → ⊥
+    not_memory because other end result (inl done) memory =
+        other (let e = sym done.0 ∙ memory in cc)
+    not_memory because other end result (inr failed) memory = let e = sym failed.0 ∙ memory in cc
+
+    -- memory was refused, and this is the number of the next record to read
+    pub gives_up : (because : Refused) (next : ℕ) → (because ≡ Memory → next ≤ number + 1)
+        → (end : W) (result : Result (Unit {0}) Refused)
+        → AnswersRefusal sink writer end because result → result ≡ Err Memory
+        → HasGivenUpAt j Gives Promises source sink next start after before end
+    gives_up Memory next few end result (is, same) memory =
+        subst (HasGivenUpAt j Gives Promises source sink next start after before) (sym same)
+        (record {
+          given_up = record {
+            number = number;
+            stop = stop;
+            text = text;
+            to = to;
+            written = written;
+          };
+          none_lost = few refl;
+        })
+    gives_up because next few end result given memory =
+        absurd (not_memory because (λ e. absurd (let same = e in cc)) end result given memory)
 
     -- a write that fails
     pub failed_to_write : (next : List ℕ)

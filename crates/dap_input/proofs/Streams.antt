@@ -15,13 +15,13 @@ use Rattle.dap_recording.specs.declared.record_fault.RecordCause.{RecordCause}
 use Rattle.dap_recording.specs.declared.record_fault.RecordCause.TheVariants.{Cut}
 use Rattle.dap_input.specs.InputSteps.{Says}
 use Rattle.dap_input.specs.Judging.{Judging}
-use Rattle.dap_input.specs.RecordSteps.{IsAtStart, ReadsNext}
+use Rattle.dap_input.specs.RecordSteps.{Finds, IsAtStart, ReadsNext}
 use Rattle.dap_input.specs.Refusals.{RefusesHeld}
 use Rattle.dap_input.specs.Streaming.{AnswersRefusal, Flushes, HasComeTo, HasFailedToWrite}
-use Rattle.dap_input.specs.Streaming.{HasGivenUp, Streams}
+use Rattle.dap_input.specs.Streaming.{HasGivenUp, HasGivenUpAt, Streams}
 use Rattle.dap_input.specs.declared.records.Records.{Records}
 use Rattle.dap_input.specs.declared.refused.Refused.{Refused}
-use Rattle.dap_input.specs.declared.refused.Refused.TheVariants.{Record}
+use Rattle.dap_input.specs.declared.refused.Refused.TheVariants.{Memory, Record}
 use Rattle.dap_input.proofs.Coming.{came_on}
 use Rattle.dap_input.proofs.InputLoop.{ReadsAs, StandsBehind}
 use Rattle.dap_input.proofs.InputSteps as steps
@@ -154,6 +154,21 @@ module _ {I A R W : Type 0} (j : Judging) (g : Items A RecordCause) (held_of : A
           (steps.refused_read j g held_of facts stands source was.going.bytes
           records values behind new reader after because read)
 
+      -- No record has come, since memory was refused.
+      pub not_read_gives_up : (because : Refused) → Reads (Err because) → (end : W)
+          (result : Result (Unit {0}) Refused)
+          → AnswersRefusal sink writer end because result → result ≡ Err Memory
+          → HasGivenUpAt j Gives Promises source sink new.number start after before end
+      not_read_gives_up because read =
+          ends.gives_up j Gives Promises source sink start before after writer read.stop
+          records.number (text values) (to (Err because) read) was.written because new.number few
+        where
+          few : because ≡ Memory → new.number ≤ records.number + 1
+          few is =
+              let same = (subst (λ b. Finds g stands records new
+              (records.pieces.unread ++ read.more) read.more read.stop (Err b)) is read.finds).1 in
+              omega (arith, same)
+
       -- All records have come.
       pub streamed : Reads (Ok None) → (end : W) (result : Result (Unit {0}) Refused)
           → Flushes sink writer end (Ok tt) result → Answer after end result
@@ -183,6 +198,16 @@ module _ {I A R W : Type 0} (j : Judging) (g : Items A RecordCause) (held_of : A
             refused (Ok (Some held)) read because
             (steps.refused_held j g held_of facts stands source was.going.bytes
             records values behind new reader after held read because objects)
+
+        -- Memory was refused for it.
+        pub not_taken_gives_up : (because : Refused) → (end : W)
+            (result : Result (Unit {0}) Refused)
+            → AnswersRefusal sink writer end because result → result ≡ Err Memory
+            → HasGivenUpAt j Gives Promises source sink new.number start after before end
+        not_taken_gives_up because =
+            ends.gives_up j Gives Promises source sink start before after writer read.stop
+            records.number (text values) (to (Ok (Some held)) read) was.written because new.number
+            (λ is. let number = read.finds.1.number_is in omega (arith, number))
 
         -- It is accepted as the next value, and this is its text.
         module _ (value : j.Value) (is_next : j.IsNext values (held_of held) value)

@@ -13,7 +13,7 @@ use Rattle.dap_device.specs.declared.reading.Stop.TheVariants.{End, Full, Failed
 use Rattle.dap_items.specs.Items.{Items}
 use Rattle.dap_recording.specs.declared.record_fault.RecordCause.{RecordCause}
 use Rattle.dap_recording.specs.declared.record_fault.RecordCause.TheVariants.{Cut}
-use Rattle.dap_input.specs.Engine.{Answers, FailsToRead, RefusesInput}
+use Rattle.dap_input.specs.Engine.{Answers, FailsToRead, ReadsNoneOrAll, RefusesInput}
 use Rattle.dap_input.specs.InputSteps.{AcceptsAll, RefusesOne, Says}
 use Rattle.dap_input.specs.Inputs.{Fault, Input, IsRefusedAt, EndsAt, refused, read_fault}
 use Rattle.dap_input.specs.Judging.{Judging}
@@ -307,6 +307,12 @@ module _ {R : Type 0} (j : Judging) (source : Source R)
       is_refused = refuses_there because other fault tells is;
       cut = cut;
     }
+
+  -- Whatever it was refused for, all of the input was read.
+  pub all_read : (because : Refused) → RefusesRead j source old new because
+      → ReadsNoneOrAll source j.input old new
+  all_read because read =
+      inr (read.bytes, read.stop, has_come read.bytes read.stop read.came read.within)
 
   pub refused_answer : {W : Type 0} (sink : Sink W)
       (writer : W) (because : Refused) → RefusesRead j source old new because

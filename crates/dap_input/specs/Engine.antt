@@ -19,6 +19,12 @@ module _ {R : Type 0} (source : Source R) (input : ℕ) where
   abbrev pub Came : R → R → List ℕ → Stop → Type 0
   Came old new bytes stop = HasCome source old new input bytes stop
 
+  -- Nothing of the input was read; or it was read up to its end, to a byte past the limit, or to a
+  -- failure of the reader.
+  abbrev pub ReadsNoneOrAll : R → R → Type 0
+  ReadsNoneOrAll old new = (new ≡ old)
+      ⊎ ((bytes : List ℕ) × (stop : Stop) × Came old new bytes stop)
+
   module _ {T : Type 0} (Gives : List ℕ → T → Type 0) where
     -- The reader came to its end, and what it gave gives this.
     pub record Accepts (old new : R) (given : T) : Type 0 where

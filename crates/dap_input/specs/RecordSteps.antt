@@ -73,7 +73,7 @@ module _ {I A : Type 0} (g : Items A RecordCause) (stands : I → List ℕ → T
   Finds old new bytes more stop (Err (InputTooLong n)) = (n ≡ old.number) × (stop ≡ Some Full)
       × IsTooLong g old.pieces.unread more
   Finds old new bytes more stop (Err ReadFault) = (stop ≡ Some Failed) × g.IsOpen bytes
-  Finds old new bytes more stop (Err Memory) = stop ≡ None
+  Finds old new bytes more stop (Err Memory) = (stop ≡ None) × (new.number ≡ old.number)
   Finds old new bytes more stop (Err refused) = ⊥
 
   module _ {R : Type 0} (source : Source R) where

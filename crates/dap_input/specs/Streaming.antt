@@ -65,6 +65,12 @@ module _ {R W : Type 0} (j : Judging) (Gives Promises : List ℕ → List ℕ �
     pub to : HasComeTo j Gives source old new stop number text
     pub written : AllWritten sink before after text
 
+  -- The engine gave up before it read the record of this number: the text of every record before
+  -- that one went out, except perhaps of the last, for which memory was refused.
+  pub record HasGivenUpAt (next : ℕ) (old new : R) (before after : W) : Type 0 where
+    pub given_up : HasGivenUp old new before after
+    pub none_lost : next ≤ given_up.number + 1
+
   -- what is to be written of the record that the engine has come to: nothing, or with it the text
   -- of one record more
   abbrev pub IsNextText : List ℕ → Option Stop → ℕ → List ℕ → List ℕ → Type 0

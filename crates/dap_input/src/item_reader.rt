@@ -1,6 +1,6 @@
 //! What reads the items of an input, as its bytes come.
-ghost use Rattle.std.specs.Prelude.{◌≡◌, ◌<◌, ◌≤◌, ◌↔◌, ℕ, List, [], length, IfErr, IfOk, IsOk};
-ghost use Rattle.std.specs.Prelude.{IsTrue};
+ghost use Rattle.std.specs.Prelude.{◌≡◌, ◌<◌, ◌≤◌, ◌↔◌, ◌++◌, ℕ, List, [], length, IfErr, IfOk};
+ghost use Rattle.std.specs.Prelude.{IsErrOf, IsOk, IsTrue};
 ghost use Rattle.dap_items.specs.Items.{HasItem, Items};
 ghost use Rattle.dap_frame.specs.declared.limits.FrameLimits.{FrameLimits};
 ghost use Rattle.dap_recording.specs.declared.record_fault.RecordCause.{RecordCause};
@@ -33,16 +33,29 @@ pub trait ItemReader: Drop {
     /// The reader, made with these limits, stands for these bytes of an item that has not ended.
     ghost stands: { FrameLimits → Self → List ℕ → Type 0 };
 
+    /// These bytes of an item take memory under limits: a byte of a content has come.
+    ghost takes_memory: { FrameLimits → List ℕ → Type 0 };
+
     ghost use Rattle.dap_input.specs.ItemReading.{GivesItem};
 
     /// Reads to the end of one item or of the piece, whichever is first.
     ///
-    /// Answers every fault but `Cut`.
+    /// Answers every fault but `Cut`. After `Memory` the reader is unchanged and has used nothing,
+    /// so the call may be made again with the same piece. Only bytes of a content take memory: an
+    /// empty piece takes none, and neither does a fault that is shown before any content.
     fn feed(&mut self, piece: &[u8]) -> Result<FedItem<Self::Item>, RecordCause>
         ensures gives { (limits : FrameLimits) (bytes : List ℕ) → stands limits self.old bytes
             → GivesItem (items limits) (stands limits) bytes piece.now result self.new }
         ensures used { IfOk result (λ fed. fed.used ≤ length piece.now) }
-        ensures progress { IfOk result (λ fed. 0 < length piece.now → 0 < fed.used) };
+        ensures progress { IfOk result (λ fed. 0 < length piece.now → 0 < fed.used) }
+
+        // What stands after a refused growth, and what it was wanted for.
+        ensures memory { IsErrOf result RecordCause.Memory → self.new ≡ self.old }
+        ensures memory_for_content { IsErrOf result RecordCause.Memory → (limits : FrameLimits)
+            (bytes : List ℕ) → stands limits self.old bytes
+            → takes_memory limits (bytes ++ piece.now) }
+        ensures memory_for_bytes { IsErrOf result RecordCause.Memory → (limits : FrameLimits)
+            (bytes : List ℕ) → stands limits self.old bytes → 0 < length piece.now };
 
     /// Whether the piece begins with a whole item. For which bytes the reader stands is of no
     /// matter. Takes no memory.
@@ -70,11 +83,14 @@ impl ItemReader for Framer {
     type Item = Content;
 
     ghost use Rattle.std.proofs.Common.{subst};
+    ghost use Rattle.dap_frame.specs.Frame.{HasContentByte};
     ghost use Rattle.dap_input.specs.ItemReading.{StandsForFrame, frame_items};
 
     ghost items = { frame_items };
 
     ghost stands = { StandsForFrame };
+
+    ghost takes_memory = { HasContentByte };
 
     ghost is_open = { λ limits framer bytes stands.
         subst (λ l. (frame_items l).IsOpen bytes) stands.0 stands.1.is_open };
@@ -116,11 +132,14 @@ impl ItemReader for RecordReader {
 
     ghost use Rattle.std.proofs.Common.{subst};
     ghost use Rattle.dap_recording.proofs.RecordSteps.{stands_open};
+    ghost use Rattle.dap_recording.specs.RecordReading.{HasMarkedContent};
     ghost use Rattle.dap_input.specs.ItemReading.{StandsForRecord, record_items};
 
     ghost items = { record_items };
 
     ghost stands = { StandsForRecord };
+
+    ghost takes_memory = { HasMarkedContent };
 
     ghost is_open = { λ limits reader bytes stands.
         subst (λ l. (record_items l).IsOpen bytes) stands.0

@@ -1,6 +1,6 @@
 -- What the loop of `mask` over the records of its input keeps, and what it may answer.
 use Rattle.std.proofs.Common.{◌≡◌, inl, inr, ℕ, ◌+◌, ◌-◌, ◌<◌, List, [], ◌∷◌, ◌++◌}
-use Rattle.std.proofs.Common.{Option, Some, None, Result, Ok, Err, refl, sym, subst}
+use Rattle.std.proofs.Common.{Option, Some, None, Result, Ok, Err, refl, sym, ◌∙◌, subst}
 use Rattle.std.proofs.Common.{length}
 use Rattle.dap_device.specs.declared.device.Source.{Ghosts as Source}
 use Rattle.dap_device.specs.declared.device.Sink.{Ghosts as Sink}
@@ -12,7 +12,8 @@ use Rattle.dap_recording.specs.declared.record.Record.{Record as WholeRecord}
 use Rattle.dap_input.specs.ItemReading.{StandsForRecord, record_items}
 use Rattle.dap_input.specs.Limits.{AreSound}
 use Rattle.dap_input.specs.RecordSteps.{IsAtStart, ReadsNext}
-use Rattle.dap_input.specs.Streaming.{AnswersRefusal, HasFailedToWrite, HasGivenUp, Streams}
+use Rattle.dap_input.specs.Streaming.{AnswersRefusal, HasFailedToWrite, HasGivenUp, HasGivenUpAt}
+use Rattle.dap_input.specs.Streaming.{Streams}
 use Rattle.dap_input.specs.declared.limits.Limits.{Limits}
 use Rattle.dap_input.specs.declared.records.Records.{Records}
 use Rattle.dap_input.specs.declared.refused.Refused.{Refused}
@@ -150,6 +151,22 @@ module _ {R W : Type 0} (rules : MaskRules) (limits : Limits) (sound : AreSound 
       not_read because read end result (inr (front, is)) =
           subst (Answer after end) (sym is) (failed (Err because) read end front)
 
+      abbrev pub GivesUp : W → Type 0
+      GivesUp end = HasGivenUpAt (masking limits mask) (Masks limits mask) (IsMaskedTo limits mask)
+          source sink new.number start after before end
+
+      pub not_read_gives_up : (because : Refused) → Reads (Err because) → (end : W)
+          (result : Result (Unit {0}) Refused)
+          → Ends sink waiting writer end (Err because) result → result ≡ Err Memory → GivesUp end
+      not_read_gives_up because read end result (inl (mid, all, given)) memory =
+          streams.not_read_gives_up (masking limits mask) (record_items limits.frame) held_of
+          (reads_records limits mask) (StandsForRecord limits.frame) (masked_text mask)
+          (Masks limits mask) (IsMaskedTo limits mask) (masks limits mask) promised refl source sink
+          start before reader mid records was.values (all_out mid all) new after because read end
+          result (answered mid end because result given) memory
+      not_read_gives_up because read end result (inr (front, is)) memory =
+          absurd (let e = sym is ∙ memory in cc)
+
       pub all_masked : Reads (Ok None) → (end : W) (result : Result (Unit {0}) Refused)
           → Ends sink waiting writer end (Ok tt) result → Answer after end result
       all_masked read end result (inl (mid, all, given)) =
@@ -180,6 +197,18 @@ module _ {R W : Type 0} (rules : MaskRules) (limits : Limits) (sound : AreSound 
             because is end result (answered mid end because result given)
         not_masked because longer is end result (inr (front, same)) =
             subst (Answer after end) (sym same) (failed (Ok (Some whole)) read end front)
+
+        pub not_masked_gives_up : (because : Refused) → (end : W)
+            (result : Result (Unit {0}) Refused)
+            → Ends sink waiting writer end (Err because) result → result ≡ Err Memory → GivesUp end
+        not_masked_gives_up because end result (inl (mid, all, given)) memory =
+            streams.not_taken_gives_up (masking limits mask) (record_items limits.frame) held_of
+            (reads_records limits mask) (StandsForRecord limits.frame) (masked_text mask)
+            (Masks limits mask) (IsMaskedTo limits mask) (masks limits mask) promised refl source
+            sink start before reader mid records was.values (all_out mid all) new after whole read
+            because end result (answered mid end because result given) memory
+        not_masked_gives_up because end result (inr (front, is)) memory =
+            absurd (let e = sym is ∙ memory in cc)
 
         -- what is left of the record was appended to what waits
         module _ (next : ℕ) (longer : List ℕ)

@@ -1,5 +1,5 @@
 //! Masks recordings.
-ghost use Rattle.std.specs.Prelude.{◌≡◌, ◌+◌, ◌<◌, ◌≤◌, ◌^◌, List, length, true, OnErr};
+ghost use Rattle.std.specs.Prelude.{◌≡◌, ◌+◌, ◌<◌, ◌≤◌, ◌^◌, IsErrOf, List, length, true, OnErr};
 ghost use Rattle.dap_tree.specs.Doc.{is_sound};
 ghost use Rattle.dap_tree.specs.View.{view};
 ghost use Rattle.dap_message.specs.Message.{Sent};
@@ -7,7 +7,7 @@ ghost use Rattle.dap_mask.specs.KeptRules.{mask_of};
 ghost use Rattle.dap_input.specs.ItemReading.{StandsForRecord};
 ghost use Rattle.dap_input.specs.Limits.{AreSound};
 ghost use Rattle.dap_input.specs.RecordSteps.{IsAtStart};
-ghost use Rattle.dap_input.specs.Streaming.{Flushes, Streams};
+ghost use Rattle.dap_input.specs.Streaming.{Flushes, HasGivenUpAt, Streams};
 ghost use Rattle.dap_normal.specs.Accepting.{Fits};
 ghost use Rattle.dap_normal.specs.JudgingSteps.{held_of};
 ghost use Rattle.dap_normal.specs.Streaming.{Ends};
@@ -156,6 +156,13 @@ fn mask_records<R: Source, W: Sink>(
     ensures answer { Streams (masking limits (mask_of rules.now)) (Masks limits (mask_of rules.now))
         (IsMaskedTo limits (mask_of rules.now)) R.Source W.Sink reader.old reader.new
         writer.old writer.new result }
+
+    // If memory was refused, what is left of each record that was taken has gone out, but perhaps
+    // of the last.
+    ensures given_up { IsErrOf result Refused.Memory
+        → HasGivenUpAt (masking limits (mask_of rules.now)) (Masks limits (mask_of rules.now))
+        (IsMaskedTo limits (mask_of rules.now)) R.Source W.Sink records.new.number
+        reader.old reader.new writer.old writer.new }
     ensures taken { R.given reader.new ≤ R.given reader.old + limits.input + 1 }
 {
     let mut room = Room {

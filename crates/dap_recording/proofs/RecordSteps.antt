@@ -134,6 +134,7 @@ module _ (limits : FrameLimits) (number : ℕ) (bytes piece rest : List ℕ) (si
     (front : bytes ++ take from piece
     ≡ marker side ∷ rest) (gives : GivesFault limits rest (drop from piece) fault framer)
     (content : fault ≡ frame_fault.Memory → HasContentByte limits (rest ++ drop from piece))
+    (some : fault ≡ frame_fault.Memory → 0 < length piece)
     (number_is : told.number ≡ number)
     (memory : fault ≡ frame_fault.Memory
     → (told.cause ≡ Memory) × (new ≡ old)) (stands : fault ≡ frame_fault.Memory
@@ -165,6 +166,7 @@ module _ (limits : FrameLimits) (number : ℕ) (bytes piece rest : List ℕ) (si
           split_at bytes piece (marker side ∷ rest) from front,
           content e,
         );
+        for_bytes = λ _. some e;
         shown = λ apart. absurd (apart (memory e).0);
         failed = λ apart. absurd (apart (memory e).0);
       })
@@ -172,6 +174,7 @@ module _ (limits : FrameLimits) (number : ℕ) (bytes piece rest : List ℕ) (si
         number_is = number_is;
         memory = λ e. absurd (frame_no_memory told.cause fault (other d).0 e);
         for_content = λ e. absurd (frame_no_memory told.cause fault (other d).0 e);
+        for_bytes = λ e. absurd (frame_no_memory told.cause fault (other d).0 e);
         shown = λ _. (
           (gives.shown d).0 + 1,
           subst (λ cause. ShowsFault limits (bytes ++ piece) cause ((gives.shown d).0 + 1))

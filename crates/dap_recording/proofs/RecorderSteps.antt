@@ -2,7 +2,7 @@
 use Rattle.std.proofs.Common.{◌≡◌, ◌≢◌, ℕ, ◌+◌, ◌≤◌, inl, inr, true, false, List, [], ◌++◌, length}
 use Rattle.std.proofs.Common.{take, Option, Some, None, Result, Ok, Err, refl, sym, ap, ◌∙◌, subst}
 use Rattle.std.proofs.Common.{arith}
-use Rattle.std.specs.Result.{is_err, IsOk, IfOk, OnOk}
+use Rattle.std.specs.Result.{is_err, IsOk, IfOk, OnErr, OnOk}
 use Rattle.std.proofs.lemmas.List.{length-append, length-take-le}
 use Rattle.dap_frame.specs.declared.limits.FrameLimits.{FrameLimits}
 use Rattle.dap_frame.specs.declared.fault.FrameFault.{FrameFault}
@@ -15,7 +15,7 @@ use Rattle.dap_tree.specs.declared.side.Side.{Side}
 use Rattle.dap_tree.specs.declared.side.Side.TheVariants.{Client, Adapter}
 use Rattle.dap_recording.specs.declared.recorder_fault.RecorderFault.{RecorderFault}
 use Rattle.dap_recording.specs.declared.recorder_fault.RecorderFault.TheVariants.{Frame}
-use Rattle.dap_recording.specs.OneSide.{Takes, TakesAll, TakesFault}
+use Rattle.dap_recording.specs.OneSide.{Takes, TakesAll, TakesFault, WantsMemory}
 use Rattle.dap_recording.specs.RecorderReading.{RecorderReading, StandsForRests, HasNotRecorded}
 use Rattle.dap_recording.specs.RecorderReading.{GivesPiece, framer_of, with_rest, text_of}
 use Rattle.dap_recording.specs.Recorder.{IsConsistent}
@@ -24,6 +24,19 @@ use Rattle.dap_recording.proofs.FramerSteps.{fed_all}
 pub from_ok : (E : Type 0) (r : Result (Unit {0}) E) (P : Type 0) → is_err r ≡ false → OnOk r P → P
 from_ok E (Ok x) P e h = h
 from_ok E (Err x) P e h = absurd (let f : ⊥ = cc in f)
+
+pub from_err : (E : Type 0) (r : Result (Unit {0}) E) (P : Type 0) → is_err r ≡ true → OnErr r P
+    → P
+from_err E (Ok x) P e h = absurd (let f : ⊥ = cc in f)
+from_err E (Err x) P e h = h
+
+pub on_ok : (E : Type 0) (r : Result (Unit {0}) E) (P Q : Type 0) → (P → Q) → OnOk r P → OnOk r Q
+on_ok E (Ok x) P Q then h = then h
+on_ok E (Err x) P Q then h = tt
+
+pub on_err : (E : Type 0) (r : Result (Unit {0}) E) (P : Type 0) → P → OnErr r P
+on_err E (Ok x) P h = tt
+on_err E (Err x) P h = h
 
 pub not_both : (E : Type 0) (r : Result (Unit {0}) E) → is_err r ≡ true → IsOk r → ⊥
 not_both E (Ok x) e h = cc
@@ -58,10 +71,12 @@ pub takes_fault : (limits its : FrameLimits) (rest piece before after : List ℕ
     (fault : FrameFault)
     → its ≡ limits → GivesFault its rest piece fault new → after ≡ before
     → (fault ≡ Memory → new ≡ old)
+    → (fault ≡ Memory → WantsMemory its rest piece)
     → TakesFault limits rest piece before after old new fault
-takes_fault limits its rest piece before after old new fault e gives same memory = record {
+takes_fault limits its rest piece before after old new fault e gives same memory wanted = record {
   text = same;
   memory = memory;
+  wanted = λ is. subst (λ l. WantsMemory l rest piece) e (wanted is);
   shown = λ d. (
     (gives.shown d).0,
     subst (λ l. Shows l (rest ++ piece) fault (gives.shown d).0) e (gives.shown d).1,
@@ -270,6 +285,16 @@ module _ (side : Side) (piece : List ℕ) (old new : RecorderReading) (recorded 
         failed = refl;
         text = ap text_of took.new_is ∙ text_with side took.text took.framer old ∙ takes.text;
       }
+
+  -- memory was wanted
+  pub wants : (cause : FrameFault) → recorded ≡ Err cause → cause ≡ Memory
+      → (rests : Side → List ℕ) → StandsForRests old rests
+      → WantsMemory old.limits (rests side) piece
+  wants cause is memory rests was =
+      let takes =
+      subst (Takes old.limits side (rests side) piece old.text took.text (framer_of old side)
+      took.framer) is (took.takes (rests side) (was.each side)) in
+      takes.wanted memory
 
   module _ (consistent : IsConsistent old) where
     pub used_consistent : (used : ℕ) → recorded ≡ Ok used → IsConsistent new

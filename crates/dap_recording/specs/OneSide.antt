@@ -1,13 +1,20 @@
 -- What a piece of one side gives to a recording. `rest` is what came of the side's present frame
 -- before the piece.
-use Rattle.std.specs.Prelude.{◌≡◌, ◌≢◌, ℕ, ◌⊎◌, List, [], ◌++◌, length, take, Result, Ok, Err}
+use Rattle.std.specs.Prelude.{◌≡◌, ◌≢◌, ℕ, ◌<◌, ◌⊎◌, List, [], ◌++◌, length, take, Result, Ok}
+use Rattle.std.specs.Prelude.{Err}
 use Rattle.dap_frame.specs.declared.limits.FrameLimits.{FrameLimits}
 use Rattle.dap_frame.specs.declared.fault.FrameFault.{FrameFault}
 use Rattle.dap_frame.specs.declared.fault.FrameFault.TheVariants.{Memory}
-use Rattle.dap_frame.specs.Frame.{IsFrame, Shows}
+use Rattle.dap_frame.specs.Frame.{HasContentByte, HasFrame, IsFrame, Shows}
 use Rattle.dap_frame.specs.Reading.{Reading, Stands}
 use Rattle.dap_tree.specs.declared.side.Side.{Side}
 use Rattle.dap_recording.specs.Recording.{record_text}
+
+-- The piece takes memory: it is not empty, and with it a byte of the frame's content has come, or a
+-- frame has ended, whose record has to be appended.
+abbrev pub WantsMemory : FrameLimits → List ℕ → List ℕ → Type 0
+WantsMemory limits rest piece = (0 < length piece)
+    × (HasContentByte limits (rest ++ piece) ⊎ HasFrame limits (rest ++ piece))
 
 -- The whole piece was taken, and the frame goes on.
 pub record TakesAll (rest piece before after : List ℕ) (new : Reading) (used : ℕ) : Type 0 where
@@ -23,12 +30,13 @@ pub record TakesFrame (limits : FrameLimits) (side : Side) (rest piece before af
   pub text : after ≡ before ++ record_text side content
   pub stands : Stands new []
 
--- The fault that was told: that of memory, and nothing is changed; or one that the rest and the
--- piece show.
+-- The fault that was told: that of memory, which the piece takes, and nothing is changed; or one
+-- that the rest and the piece show.
 pub record TakesFault (limits : FrameLimits) (rest piece before after : List ℕ) (old new : Reading)
     (fault : FrameFault) : Type 0 where
   pub text : after ≡ before
   pub memory : fault ≡ Memory → new ≡ old
+  pub wanted : fault ≡ Memory → WantsMemory limits rest piece
   pub shown : fault ≢ Memory → (i : ℕ) × Shows limits (rest ++ piece) fault i
 
 -- what a call gives where the framer stood for the rest

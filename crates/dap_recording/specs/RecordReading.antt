@@ -1,7 +1,7 @@
 -- What a reader of records is to its callers: the number and the bytes that it stands for, and what
 -- a call gives.
-use Rattle.std.specs.Prelude.{◌≡◌, ◌≢◌, ℕ, ◌+◌, ◌-◌, ◌^◌, ◌≤◌, List, [], ◌∷◌, ◌++◌, length, take}
-use Rattle.std.specs.Prelude.{min, Result, Ok, Err, MatchOption}
+use Rattle.std.specs.Prelude.{◌≡◌, ◌≢◌, ℕ, ◌+◌, ◌-◌, ◌^◌, ◌<◌, ◌≤◌, List, [], ◌∷◌, ◌++◌, length}
+use Rattle.std.specs.Prelude.{min, take, Result, Ok, Err, MatchOption}
 use Rattle.dap_frame.specs.declared.limits.FrameLimits.{FrameLimits}
 use Rattle.dap_frame.specs.Frame.{IsFrame, HasContentByte}
 use Rattle.dap_frame.specs.Reading.{Reading, Stands, limits_of}
@@ -69,13 +69,15 @@ GivesFedRecord limits number bytes piece fed new = (fed.used ≤ length piece) �
     (λ whole. IsRecord limits (bytes ++ take fed.used piece) whole.side whole.content
     × StandsFor new (next_number number) [])
 
--- The fault that was told: that of memory, wanted for a content of which some has come, and the
--- reader still stands for the bytes; or one that the bytes and the piece show.
+-- The fault that was told: that of memory, wanted for a content of which some has come, by a piece
+-- that is not empty, and the reader still stands for the bytes; or one that the bytes and the piece
+-- show.
 pub record GivesRecordFault (limits : FrameLimits) (number : ℕ) (bytes piece : List ℕ)
     (fault : RecordFault) (new : RecordReading) : Type 0 where
   pub number_is : fault.number ≡ number
   pub memory : fault.cause ≡ Memory → StandsFor new number bytes
   pub for_content : fault.cause ≡ Memory → HasMarkedContent limits (bytes ++ piece)
+  pub for_bytes : fault.cause ≡ Memory → 0 < length piece
   pub shown : fault.cause ≢ Memory → (i : ℕ) × ShowsFault limits (bytes ++ piece) fault.cause i
   pub failed : fault.cause ≢ Memory → HasFailedAt new fault
 

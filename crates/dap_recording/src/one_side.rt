@@ -1,13 +1,38 @@
 //! The frames of one side of a trace.
 
-ghost use Rattle.std.specs.Prelude.{◌≡◌, ℕ, ◌<◌, ◌≤◌, List, length, IfOk};
+ghost use Rattle.std.specs.Prelude.{◌≡◌, ℕ, ◌<◌, ◌≤◌, ◌+◌, ◌++◌, List, length, take, IfOk, OnErr};
+ghost use Rattle.std.specs.Prelude.{OnOk, vec_capacity, vec_len};
+ghost use Rattle.dap_frame.specs.Frame.{IsFrame};
 ghost use Rattle.dap_frame.specs.Limits.{IsSound};
 ghost use Rattle.dap_frame.specs.Reading.{Stands, limits_of};
-ghost use Rattle.dap_recording.specs.OneSide.{Takes};
+ghost use Rattle.dap_recording.specs.OneSide.{Takes, WantsMemory};
 
 use crate::write::write_record;
 use dap_frame::{FrameFault, FrameLimits, Framer};
 use dap_tree::Side;
+use std::alloc::AllocError;
+
+/// Makes room for the record of the frame that ends in the piece, if one does. If none does, it
+/// does not allocate.
+fn make_room(text: &mut Vec<u8>, framer: &Framer, piece: &[u8]) -> Result<(), AllocError>
+    requires { IsSound (limits_of framer.now) }
+    ensures items { text.new.items ≡ text.old.items }
+    ensures room { OnOk result ((rest content : List ℕ) (used : ℕ) → Stands framer.now rest
+        → used ≤ length piece.now
+        → IsFrame (limits_of framer.now) (rest ++ take used piece.now) content
+        → vec_len text.new + length content + 32 ≤ vec_capacity text.new) }
+    ensures wanted { OnErr result ((rest : List ℕ) → Stands framer.now rest
+        → WantsMemory (limits_of framer.now) rest piece.now) }
+{
+    let room = framer.held() + piece.len() + 32;
+    if room <= text.capacity().saturating_sub(text.len()) {
+        return Ok(());
+    }
+    match framer.content_len_in(piece) {
+        Some(len) => text.reserve(len + 32),
+        None => Ok(()),
+    }
+}
 
 /// Reads to the end of one frame or of the piece, and appends the record of a frame that ended.
 /// Makes room for the record first, so that nothing is read where there is none.
@@ -27,8 +52,7 @@ pub fn record_frame(
     ensures progress { IfOk result (λ used. 0 < length piece.now → 0 < used) }
     ensures limits { limits_of framer.new ≡ limits_of framer.old }
 {
-    let room = framer.held() + piece.len() + 32;
-    if text.reserve(room).is_err() {
+    if make_room(text, framer, piece).is_err() {
         return Err(FrameFault::Memory);
     }
     let fed = match framer.feed(piece) {

@@ -63,7 +63,8 @@ impl RecordReader {
     /// Answers every fault but `Cut`, with the number of the record that shows it. After `Memory`
     /// the reader is unchanged and has used nothing, so the call may be made again with the same
     /// piece. After another fault `feed` and [`finish`](RecordReader::finish) answer that fault
-    /// from then on. Only bytes of a content take memory, which the answered record then owns.
+    /// from then on. Only bytes of a content take memory, which the answered record then owns: an
+    /// empty piece takes none, and neither does a fault of a marker or of a header part.
     pub fn feed(&mut self, piece: &[u8]) -> Result<FedRecord, RecordFault>
         ensures gives { (number : ℕ) (bytes : List ℕ) → StandsFor self.old number bytes
             → GivesRecord (record_limits self.old) number bytes piece.now result self.new }

@@ -2,6 +2,7 @@
 ghost use Rattle.std.specs.Prelude.{◌≡◌, ◌≢◌, ℕ, ◌<◌, ◌≤◌, ◌↔◌, List, [], length, Err, IfOk, IsOk};
 ghost use Rattle.std.specs.Prelude.{IsErrOf, OnErr};
 ghost use Rattle.dap_frame.specs.Limits.{IsSound};
+ghost use Rattle.dap_recording.specs.OneSide.{WantsMemory};
 ghost use Rattle.dap_recording.specs.RecorderReading.{StandsForRests, HasFailedWith, GivesPiece};
 ghost use Rattle.dap_recording.specs.RecorderReading.{text_of, recorder_limits};
 
@@ -74,7 +75,9 @@ impl Recorder {
     /// Answers every fault but a `Cut`. After `Memory` the recorder is unchanged and has used
     /// nothing, so the call may be made again with the same piece. After another fault every call
     /// of `piece`, for either side, and of [`finish`](Recorder::finish) answers that fault, and the
-    /// text keeps the records finished before.
+    /// text keeps the records finished before. Only bytes of a content and the record of a frame
+    /// that ended take memory: an empty piece takes none, and neither does a header part that shows
+    /// a fault.
     pub fn piece(&mut self, side: Side, piece: &[u8]) -> Result<usize, RecorderFault>
         ensures gives { (rests : Side → List ℕ) → StandsForRests self.old rests
             → GivesPiece side rests piece.now self.old self.new result }
@@ -83,6 +86,9 @@ impl Recorder {
 
         // What stands after a fault.
         ensures memory { IsErrOf result RecorderFault.Memory → self.new ≡ self.old }
+        ensures memory_for_record { IsErrOf result RecorderFault.Memory → (rests : Side → List ℕ)
+            → StandsForRests self.old rests
+            → WantsMemory (recorder_limits self.old) (rests side) piece.now }
         ensures kept { OnErr result (text_of self.new ≡ text_of self.old) }
         ensures failed { (fault : _) → HasFailedWith self.old fault
             → (result ≡ Err fault) × (self.new ≡ self.old) }

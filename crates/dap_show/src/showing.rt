@@ -1,6 +1,6 @@
 //! Shows recordings in lines.
-ghost use Rattle.std.specs.Prelude.{◌+◌, ◌<◌, ◌≤◌, ◌^◌, string_bytes};
-ghost use Rattle.dap_input.specs.Engine.{Answers};
+ghost use Rattle.std.specs.Prelude.{◌+◌, ◌<◌, ◌≤◌, ◌^◌, IsErrOf, string_bytes};
+ghost use Rattle.dap_input.specs.Engine.{Answers, ReadsNoneOrAll};
 ghost use Rattle.dap_input.specs.ItemReading.{StandsForRecord};
 ghost use Rattle.dap_input.specs.Limits.{AreSound};
 ghost use Rattle.dap_input.specs.RecordSteps.{IsAtStart};
@@ -92,6 +92,10 @@ pub fn show<R: Source, W: Sink>(
     // and nothing goes out. A fault of a device is answered exactly where that device failed.
     ensures answer { Answers R.Source W.Sink limits.input (IsShownBy limits)
         (IsRefused (showing limits)) reader.old reader.new writer.old writer.new result }
+
+    // If memory was refused, nothing was read of the input, or all of it was.
+    ensures memory { IsErrOf result Refused.Memory
+        → ReadsNoneOrAll R.Source limits.input reader.old reader.new }
 
     // It takes at most one byte past the limit.
     ensures taken { R.given reader.new ≤ R.given reader.old + limits.input + 1 }

@@ -4,3 +4,4 @@ pub mod TraceSteps
 pub mod RawRunLoop
 pub mod TracingLoop
 pub mod PieceLoop
+pub mod TraceAnswers

@@ -18,7 +18,7 @@ use Rattle.dap_input.specs.RecordSteps.{IsWithin}
 use Rattle.dap_input.proofs.Coming.{came_on, nothing_came}
 use Rattle.dap_trace.specs.TracingSteps.{HasReadOn, RecordsPiece, Traces, TracesInput}
 use Rattle.dap_trace.specs.TracingSteps.{Tracing}
-use Rattle.dap_trace.proofs.TracingLoop.{refused_later}
+use Rattle.dap_trace.proofs.TraceAnswers.{refused_later}
 
 length_of : (limit : ℕ) (bytes : List ℕ) (stop : Stop) → IsWithin (length bytes) limit (Some stop)
     → HasLength limit bytes stop

@@ -10,6 +10,7 @@ use Rattle.dap_frame.specs.declared.limits.FrameLimits.{FrameLimits}
 use Rattle.dap_frame.specs.Frame.{IsFrame, IsOpen, Shows}
 use Rattle.dap_recording.specs.declared.recorder_fault.RecorderFault.{RecorderFault}
 use Rattle.dap_recording.specs.declared.recorder_fault.RecorderFault.TheVariants.{Frame, Memory}
+use Rattle.dap_recording.specs.OneSide.{WantsMemory}
 use Rattle.dap_recording.specs.RecordedTraces.{AreRecorded}
 use Rattle.dap_recording.specs.RecorderReading.{RecorderReading, StandsForRests, GivesPiece}
 use Rattle.dap_recording.specs.RecorderReading.{recorder_limits, text_of, with_rest}
@@ -95,10 +96,23 @@ module _ (limits : FrameLimits) (recorder new : RecorderReading) (taken : List (
   -- What a call gave of a piece that it did not take.
   pub piece_refused : (U : Type 0) (fault : RecorderFault)
       → GivesPiece side was.rests piece recorder new (Err fault)
+      → (fault ≡ Memory → WantsMemory (recorder_limits recorder) (was.rests side) piece)
       → RecordsRun {U = U} limits new taken side piece (Err fault)
-  piece_refused U fault (inl memory) =
-      subst (λ f. RecordsRun {U = U} limits new taken side piece (Err f)) (sym memory.0) tt
-  piece_refused U fault (inr faulty) =
+  piece_refused U fault (inl memory) wants =
+      subst (λ f. RecordsRun {U = U} limits new taken side piece (Err f)) (sym memory.0)
+      (record {
+        front = [];
+        more = piece;
+        run_is = refl;
+        messages = was.messages;
+        rests = was.rests;
+        recorded = subst (λ xs. AreRecorded limits xs was.messages was.rests)
+            (sym (append-nil taken)) was.recorded;
+        are_open = stands_open limits recorder was.rests was.stands was.its_limits;
+        wants = subst (λ l. WantsMemory l (was.rests side) piece) was.its_limits
+            (wants memory.0);
+      })
+  piece_refused U fault (inr faulty) wants =
       subst (λ f. RecordsRun {U = U} limits new taken side piece (Err f)) (sym faulty.fault_is) (
         refl,
         shows_there faulty.cause faulty.shown.0
@@ -150,18 +164,33 @@ module _ (old recorder new : RecorderReading) (side : Side) (run rest : List ℕ
   pub run_refused : (U : Type 0) (fault : RecorderFault)
       → ((rests : Side → List ℕ) → StandsForRests recorder rests
       → GivesPiece side rests rest recorder new (Err fault))
+      → (fault ≡ Memory → (rests : Side → List ℕ) → StandsForRests recorder rests
+      → WantsMemory (recorder_limits recorder) (rests side) rest)
       → (limits : FrameLimits) (taken : List (Side × ℕ)) → HasRecorded limits old taken
       → RecordsRun {U = U} limits new taken side run (Err fault)
-  run_refused U fault gives limits taken before =
+  run_refused U fault gives wants limits taken before =
       let so_far = was limits taken before in
       later fault so_far
       (piece_refused limits recorder new (taken ++ sent_by side so_far.front) side rest
-      so_far.recorded U fault (gives so_far.recorded.rests so_far.recorded.stands))
+      so_far.recorded U fault (gives so_far.recorded.rests so_far.recorded.stands)
+      (λ memory. wants memory so_far.recorded.rests so_far.recorded.stands))
     where
       later : (f : RecorderFault) → (so_far : RecordedFront limits recorder taken side run rest)
           → RecordsRun {U = U} limits new (taken ++ sent_by side so_far.front) side rest (Err f)
           → RecordsRun {U = U} limits new taken side run (Err f)
-      later Memory so_far h = tt
+      later Memory so_far h = record {
+        front = so_far.front ++ h.front;
+        more = h.more;
+        run_is = so_far.run_is ∙ ap (λ t. so_far.front ++ t) h.run_is
+            ∙ sym (append_assoc so_far.front h.front h.more);
+        messages = h.messages;
+        rests = h.rests;
+        recorded = subst (λ xs. AreRecorded limits xs h.messages h.rests)
+            (sent_on taken (sent_by side so_far.front) side so_far.front h.front refl)
+            h.recorded;
+        are_open = h.are_open;
+        wants = h.wants;
+      }
       later (Frame s cause) so_far h =
           let in_rest = h.1 in (
             h.0,

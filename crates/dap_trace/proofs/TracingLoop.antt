@@ -47,13 +47,13 @@ use Rattle.dap_device.specs.Written.{AllSent, FrontWritten}
 use Rattle.dap_input.specs.Limits.{AreSound}
 use Rattle.dap_device.specs.Reading.{HasCome}
 use Rattle.dap_trace.specs.Tracing.{EndsInside, IsInRaw, IsOfEnd, IsOpenWith, IsRecordedAs}
-use Rattle.dap_trace.specs.Tracing.{IsTraceRefused, SoFar, before_marker, in_count, in_raw}
+use Rattle.dap_trace.specs.Tracing.{IsTraceRefused, SoFar, TakesMemory, before_marker, in_count}
+use Rattle.dap_trace.specs.Tracing.{in_raw}
 use Rattle.dap_trace.specs.Tracing.{next_piece, of_frame, of_piece, sent_by, a_piece}
 use Rattle.dap_trace.specs.Tracing.{a_client_frame, an_adapter_frame, at_byte, past_limit, at_end}
-use Rattle.dap_trace.specs.TracingRun.{HasJudgedTrace, HasWrittenRecords, IsNotRefused}
-use Rattle.dap_trace.specs.TracingRun.{RecordsTrace}
-use Rattle.dap_trace.specs.TracingSteps.{HasRecorded, HasSentRecords, HasTraced, RecordsRun, Traces}
-use Rattle.dap_trace.specs.TracingSteps.{Tracing}
+use Rattle.dap_trace.specs.TracingRun.{IsNotRefused}
+use Rattle.dap_trace.specs.TracingSteps.{HasRecorded, HasTraced, RecordsRun, TakesMemoryInRun}
+use Rattle.dap_trace.specs.TracingSteps.{Traces, Tracing}
 use Rattle.dap_trace.proofs.TraceOutcomes.{nothing_came, refusal_stays}
 use Rattle.dap_trace.proofs.TracePieces.{no_raw, open_of, opened}
 use Rattle.dap_trace.proofs.TraceSteps.{at_the_end, recorded_whole, sent_on, with_piece, with_raw}
@@ -473,6 +473,64 @@ module _ (limits : Limits) (sound : AreSound limits) (whole rest : List ℕ) (re
               text = there.text;
             }
 
+        -- What is left of the run takes memory.
+        pub memory_in_run : (bytes : List ℕ) → whole ≡ take limits.input bytes
+            → TakesMemoryInRun limits.frame (bytes_of was.so_far.pieces ++ was.so_far.raw) side run
+            → TakesMemory limits.frame bytes
+        memory_in_run bytes is_front there =
+            let front : List ℕ = there.front in
+            let left = there.wants.0 in
+            let some : 0 < length run =
+            omega (arith, left, ap length there.run_is, length-append front there.more) in
+            let its = line some in
+            let enough = its.enough in
+            let head : List ℕ = (marker side ∷ its.text) ++ 10 ∷ (was.raw ++ front) in
+            let beyond : List ℕ = drop used rest ++ drop limits.input bytes in
+            let run_is : was.raw ++ run ≡ (was.raw ++ front) ++ there.more =
+            ap (λ t. was.raw ++ t) there.run_is ∙ sym (append_assoc was.raw front there.more) in
+            let is : IsInRaw head side (was.raw ++ front) = record {
+              text = its.text;
+              rest_is = refl;
+              is_count = its.is_count;
+              to_come = omega (
+                arith,
+                enough,
+                left,
+                ap length run_is,
+                length-append (was.raw ++ front) there.more,
+              );
+            } in
+            let at_line : was.so_far.rest ++ take used rest ≡ head ++ there.more =
+            its.bytes_are ∙ ap (λ t. (marker side ∷ its.text) ++ 10 ∷ t) run_is
+            ∙ sym (append_assoc (marker side ∷ its.text) (10 ∷ (was.raw ++ front)) there.more) in
+            let recorded =
+            subst (λ xs. AreRecorded limits.frame xs there.messages there.rests)
+            (sent_on (bytes_of was.so_far.pieces) was.so_far.raw side was.raw front raw_by)
+            there.recorded in
+            record {
+              front = was.so_far.front ++ head;
+              so_far = with_raw limits.frame (was.so_far.front ++ head) was.so_far.front
+                  was.so_far.pieces was.so_far.trace side (was.raw ++ front) there.messages
+                  there.rests recorded there.are_open head is refl;
+              side = side;
+              raw = was.raw ++ front;
+              in_raw = is;
+              run = there.more;
+              more = beyond;
+              split =
+                  sym (take-append-drop limits.input bytes)
+                  ∙ ap (λ t. t ++ drop limits.input bytes) (sym is_front ∙ parts)
+                  ∙ append_assoc was.so_far.front
+                  ((was.so_far.rest ++ take used rest) ++ drop used rest) (drop limits.input bytes)
+                  ∙ ap (λ t. was.so_far.front ++ t)
+                  (append_assoc (was.so_far.rest ++ take used rest) (drop used rest)
+                  (drop limits.input bytes)
+                  ∙ ap (λ t. t ++ beyond) at_line ∙ append_assoc head there.more beyond)
+                  ∙ sym (append_assoc was.so_far.front head (there.more ++ beyond));
+              of_piece = omega (arith, enough, ap length run_is);
+              wants = there.wants;
+            }
+
         pub run_faulty : (bytes : List ℕ) → whole ≡ take limits.input bytes
             → (stop : Stop) (after : RecorderReading) (number : ℕ) (fault : RecorderFault)
             (U : Type 0)
@@ -729,86 +787,3 @@ module _ (limits : Limits) (sound : AreSound limits) (whole rest : List ℕ) (re
           ap length was.so_far.split,
           length-append was.so_far.front was.so_far.rest,
         )
-
--- ---- the answer
-
--- Where the records of a trace were sent, the trace is answered for.
-module _ {R W : Type 0} (U : Type 0) (source : Source R) (sink : Sink W) (limits : Limits)
-    (old new : R) (before after : W)
-    (bytes : List ℕ) (stop : Stop)
-    (came : HasCome source old new limits.input bytes stop)
-    (recorder : RecorderReading) where
-  abbrev judged : (answer : Result U Refused) → HasTraced limits bytes stop answer recorder
-      → HasJudgedTrace source sink limits old new answer
-  judged answer traced =
-      record {
-        bytes = bytes;
-        stop = stop;
-        came = came;
-        messages = traced.messages;
-        judges = traced.judges;
-      }
-
-  sent : (answer result : Result U Refused)
-      → (HasTraced limits bytes stop answer recorder
-      → AllSent sink before after (text_of recorder)
-      → RecordsTrace source sink limits old new before after answer)
-      → HasTraced limits bytes stop answer recorder
-      → ((result ≡ answer) × AllSent sink before after (text_of recorder))
-      ⊎ ((result ≡ Err WriteFault)
-      × FrontWritten sink before after (text_of recorder))
-      → RecordsTrace source sink limits old new before after result
-  sent answer result all traced (inl (same, written)) =
-      subst (RecordsTrace source sink limits old new before after)
-      (sym same) (all traced written)
-  sent answer result all traced (inr (same, written)) =
-      subst (RecordsTrace source sink limits old new before after)
-      (sym same)
-      (record {
-        answer = answer;
-        judged = judged answer traced;
-        written = subst (FrontWritten sink before after) traced.text written;
-      })
-
-  written_all : (answer : Result U Refused) → (traced : HasTraced limits bytes stop answer recorder)
-      → AllSent sink before after (text_of recorder)
-      → HasWrittenRecords source sink limits old new before after answer
-  written_all answer traced written =
-      record {
-        judged = judged answer traced;
-        written = subst (AllSent sink before after) traced.text written;
-      }
-
-  pub answered : (answer result : Result U Refused) → Traces limits bytes stop answer recorder
-      → HasSentRecords sink (text_of recorder) answer before after result
-      → RecordsTrace source sink limits old new before after result
-  answered (Err NoMemory) result traced has_sent =
-      subst (RecordsTrace source sink limits old new before after)
-      (sym has_sent.0) has_sent.1
-  answered (Err WriteFault) result traced has_sent = absurd traced.judges
-  answered (Ok done) result traced has_sent =
-      sent (Ok done) result (written_all (Ok done)) traced has_sent
-  answered (Err because) result traced has_sent =
-      sent (Err because) result (written_all (Err because)) traced has_sent
-
--- A fault that is shown stays one, whatever comes behind.
-pub refused_later : (U : Type 0) (limits : Limits) (bytes more : List ℕ) (refused : Refused)
-    (recorder : RecorderReading)
-    → ((stop : Stop) → Traces {U = U} limits bytes stop (Err refused) recorder)
-    → (stop : Stop) → Traces {U = U} limits (bytes ++ more) stop (Err refused) recorder
-refused_later U limits bytes more NoMemory recorder told stop = tt
-refused_later U limits bytes more WriteFault recorder told stop = absurd (told End).judges
-refused_later U limits bytes more ReadFault recorder told stop =
-    absurd (let e = (told End).judges.0 in let g : ⊥ = cc in g)
-refused_later U limits bytes more refused recorder told stop =
-    let now = told Full in
-    let no_end : IsOfEnd refused → ⊥ = λ ended.
-    (let e = now.judges.1 ended in let g : ⊥ = cc in g) in
-    record {
-      messages = now.messages;
-      judges = (
-        refusal_stays limits bytes more refused now.messages no_end now.judges.0,
-        λ ended. absurd (no_end ended),
-      );
-      text = now.text;
-    }

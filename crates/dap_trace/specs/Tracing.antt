@@ -11,6 +11,7 @@ use Rattle.dap_recording.specs.declared.recorder_fault.RecorderFault.TheVariants
 use Rattle.dap_recording.specs.declared.trace_fault.TraceCause.{TraceCause}
 use Rattle.dap_recording.specs.declared.trace_fault.TraceCause.TheVariants as trace_cause
 use Rattle.dap_recording.specs.Marker.{marker}
+use Rattle.dap_recording.specs.OneSide.{WantsMemory}
 use Rattle.dap_recording.specs.RecordedTraces.{AreRecorded, bytes_of}
 use Rattle.dap_recording.specs.Trace.{IsCount, IsTrace, ShowsTraceFault}
 use Rattle.dap_tree.specs.declared.side.Side.{Side}
@@ -55,6 +56,20 @@ pub record SoFar (limits : FrameLimits) (bytes : List ℕ) : Type 0 where
   pub rests : Side → List ℕ
   pub recorded : AreRecorded limits (bytes_of pieces ++ raw) messages rests
   pub are_open : (side : Side) → IsOpen limits (rests side)
+
+-- Bytes that show no fault have come, and the next raw bytes of a side take memory: a byte of a
+-- content is among them, or the end of a frame.
+pub record TakesMemory (limits : FrameLimits) (bytes : List ℕ) : Type 0 where
+  pub front : List ℕ
+  pub so_far : SoFar limits front
+  pub side : Side
+  pub raw : List ℕ
+  pub in_raw : IsInRaw so_far.rest side raw
+  pub run : List ℕ
+  pub more : List ℕ
+  pub split : bytes ≡ front ++ (run ++ more)
+  pub of_piece : length (raw ++ run) ≤ number_of in_raw.text
+  pub wants : WantsMemory limits (so_far.rests side) run
 
 -- The trace is whole pieces within the limit, and what both sides sent in them is whole frames of
 -- these messages.

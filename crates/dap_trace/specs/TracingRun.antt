@@ -11,7 +11,7 @@ use Rattle.dap_input.specs.declared.refused.Refused.{Refused}
 use Rattle.dap_input.specs.declared.refused.Refused.TheVariants.{ReadFault, WriteFault, Memory}
 use Rattle.dap_device.specs.Written.{AllSent, FrontWritten}
 use Rattle.dap_device.specs.Reading.{HasCome}
-use Rattle.dap_trace.specs.Tracing.{IsRecordedAs, IsTraceRefused, IsOfEnd}
+use Rattle.dap_trace.specs.Tracing.{IsRecordedAs, IsTraceRefused, IsOfEnd, TakesMemory}
 
 -- The bytes that came are refused for nothing but where they end.
 abbrev pub IsNotRefused : Limits → List ℕ → List (Side × List ℕ) → Type 0
@@ -53,9 +53,17 @@ module _ {R W : Type 0} (source : Source R) (sink : Sink W) (limits : Limits) wh
     pub judged : HasJudgedTrace old new answer
     pub written : FrontWritten sink before after (recording_text judged.messages)
 
-  -- Where memory was refused nothing went out.
+  -- Memory was refused for what came from the reader.
+  pub record HasRunOut (old new : R) : Type 0 where
+    pub bytes : List ℕ
+    pub stop : Stop
+    pub came : HasCome source old new limits.input bytes stop
+    pub takes : TakesMemory limits.frame bytes
+
+  -- If memory was refused, nothing went out, and nothing was read or all of the input was.
   abbrev pub RecordsTrace : {U : Type 0} → R → R → W → W → Result U Refused → Type 0
   RecordsTrace {U} old new before after (Err WriteFault) =
       HasNotWrittenRecords U old new before after
-  RecordsTrace old new before after (Err Memory) = after ≡ before
+  RecordsTrace old new before after (Err Memory) =
+      ((new ≡ old) ⊎ HasRunOut old new) × (after ≡ before)
   RecordsTrace old new before after answer = HasWrittenRecords old new before after answer

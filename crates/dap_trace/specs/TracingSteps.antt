@@ -24,7 +24,8 @@ use Rattle.dap_input.specs.RecordSteps.{IsWithin}
 use Rattle.dap_input.specs.declared.refused.Refused.{Refused}
 use Rattle.dap_input.specs.declared.refused.Refused.TheVariants.{WriteFault, Memory}
 use Rattle.dap_device.specs.Written.{AllSent, FrontWritten}
-use Rattle.dap_trace.specs.Tracing.{SoFar, next_piece, sent_by}
+use Rattle.dap_recording.specs.OneSide.{WantsMemory}
+use Rattle.dap_trace.specs.Tracing.{SoFar, TakesMemory, next_piece, sent_by}
 use Rattle.dap_trace.specs.TracingRun.{JudgesTrace}
 
 -- What both sides sent has been recorded: the recorder's text has the records of the frames that
@@ -54,13 +55,25 @@ pub record ShowsInRun (limits : FrameLimits) (recorder : RecorderReading) (taken
   pub shows : Shows limits (rests side ++ byte ∷ []) fault place
   pub text : text_of recorder ≡ recording_text messages
 
--- The run of a side has been recorded behind what was taken, or shows a fault.
+-- Some bytes of the run were recorded behind what was taken, and the others take memory.
+pub record TakesMemoryInRun (limits : FrameLimits) (taken : List (Side × ℕ)) (side : Side)
+    (run : List ℕ) : Type 0 where
+  pub front : List ℕ
+  pub more : List ℕ
+  pub run_is : run ≡ front ++ more
+  pub messages : List (Side × List ℕ)
+  pub rests : Side → List ℕ
+  pub recorded : AreRecorded limits (taken ++ sent_by side front) messages rests
+  pub are_open : (s : Side) → IsOpen limits (rests s)
+  pub wants : WantsMemory limits (rests side) more
+
+-- The run of a side has been recorded behind what was taken, or shows a fault, or takes memory.
 abbrev pub RecordsRun : {U : Type 0} → FrameLimits → RecorderReading → List (Side × ℕ) → Side
     → List ℕ → Result U RecorderFault → Type 0
 RecordsRun limits new taken side run (Ok done) = HasRecorded limits new (taken ++ sent_by side run)
 RecordsRun limits new taken side run (Err (Frame s fault)) = (s ≡ side)
     × ShowsInRun limits new taken side run fault
-RecordsRun limits new taken side run (Err NoRoom) = Unit {0}
+RecordsRun limits new taken side run (Err NoRoom) = TakesMemoryInRun limits taken side run
 
 -- The bytes that were read are judged so, and the recorder's text has the records of the messages.
 pub record HasTraced {U : Type 0} (limits : Limits) (bytes : List ℕ) (stop : Stop)
@@ -69,10 +82,10 @@ pub record HasTraced {U : Type 0} (limits : Limits) (bytes : List ℕ) (stop : S
   pub judges : JudgesTrace limits bytes stop answer messages
   pub text : text_of recorder ≡ recording_text messages
 
--- Memory that was refused tells nothing.
+-- The same; if memory was refused, the bytes take memory.
 abbrev pub Traces : {U : Type 0} → Limits → List ℕ → Stop → Result U Refused → RecorderReading
     → Type 0
-Traces limits bytes stop (Err Memory) recorder = Unit {0}
+Traces limits bytes stop (Err Memory) recorder = TakesMemory limits.frame bytes
 Traces limits bytes stop answer recorder = HasTraced limits bytes stop answer recorder
 
 -- What has been read of the whole has come, the reader and the recorder stand for its rests, and

@@ -3,7 +3,9 @@ use Rattle.dap_device.specs.Written.{AllWritten, FrontWritten}
 use Rattle.dap_input.proofs.StreamEnds.{all_written, front_written}
 use Rattle.dap_normal.specs.Streaming.{Ends}
 use Rattle.dap_mask_input.proofs.MaskingLoop.{all_masked, failed_to_write, fewer, none_read}
-use Rattle.dap_mask_input.proofs.MaskingLoop.{not_masked, not_read, waited_on, written_on}
+use Rattle.dap_mask_input.proofs.MaskingLoop.{not_masked, not_masked_gives_up, not_read}
+use Rattle.dap_mask_input.proofs.MaskingLoop.{not_read_gives_up, waited_on, written_on}
+use Rattle.dap_normal.proofs.StreamWriting.{not_given_up}
 use Rattle.dap_mask_input.proofs.masking.mask_records.Goals as goal
 
 pub records-init : goal.records-init
@@ -34,6 +36,37 @@ returns-in-Err-clause-answer g c =
     (subst (λ t. Ends g.W.Sink t c.records.writer c.ended-in-Err.new.writer
     (Err c.in-Err.because) c.ended-in-Err.result)
     c.as_slice-in-Err.ensures.value c.ended-in-Err.ensures)
+
+pub returns-in-Ok-None-clause-given_up : goal.returns-in-Ok-None-clause-given_up
+returns-in-Ok-None-clause-given_up g c = λ memory.
+    absurd (not_given_up g.W.Sink c.as_slice.result.now c.records.writer c.ended.new.writer
+    c.ended.result c.ended.ensures memory)
+
+pub returns-in-Err-clause-given_up : goal.returns-in-Err-clause-given_up
+returns-in-Err-clause-given_up g c = λ memory.
+    not_read_gives_up c.args.rules.now c.args.limits c.requires.limits g.R.Source g.W.Sink
+    c.args.reader.now c.args.writer.now c.records.reader c.records.writer c.records.records
+    c.records.written c.records.text.items c.records.invariant c.next.new.self c.next.new.reader
+    c.in-Err.because
+    (c.in-Err.ensures c.args.limits.frame c.records.invariant.judged.behind.between)
+    c.ended-in-Err.new.writer c.ended-in-Err.result
+    (subst (λ t. Ends g.W.Sink t c.records.writer c.ended-in-Err.new.writer
+    (Err c.in-Err.because) c.ended-in-Err.result)
+    c.as_slice-in-Err.ensures.value c.ended-in-Err.ensures) memory
+
+pub returns-in-Err-append_masked-clause-given_up : goal.returns-in-Err-append_masked-clause-given_up
+returns-in-Err-append_masked-clause-given_up g c = λ memory.
+    not_masked_gives_up c.args.rules.now c.args.limits c.requires.limits g.R.Source g.W.Sink
+    c.args.reader.now c.args.writer.now c.records.reader c.records.writer c.records.records
+    c.records.written c.records.text.items c.records.invariant c.next.new.self c.next.new.reader
+    c.in-Ok-Some.whole (rw c.in-Ok-Some.field-0-is at c.in-Ok-Some.ensures
+    c.args.limits.frame c.records.invariant.judged.behind.between)
+    c.in-Err-append_masked.because
+    c.ended-in-Err-append_masked.new.writer c.ended-in-Err-append_masked.result
+    (subst (λ t. Ends g.W.Sink t c.records.writer c.ended-in-Err-append_masked.new.writer
+    (Err c.in-Err-append_masked.because) c.ended-in-Err-append_masked.result)
+    (c.as_slice-in-Err-append_masked.ensures.value ∙ c.in-Err-append_masked.ensures.kept)
+    c.ended-in-Err-append_masked.ensures) memory
 
 pub returns-in-Err-append_masked-clause-answer : goal.returns-in-Err-append_masked-clause-answer
 returns-in-Err-append_masked-clause-answer g c =

@@ -1,5 +1,5 @@
 use Rattle.std.proofs.Common.{◌∙◌}
-use Rattle.dap_input.proofs.WholeInputs.{drained, refused_answer}
+use Rattle.dap_input.proofs.WholeInputs.{all_read, drained, refused_answer}
 use Rattle.dap_input.specs.ItemReading.{record_items}
 use Rattle.dap_show.specs.Showing.{lines_from, showing}
 use Rattle.dap_show.specs.ShowingSteps.{held_of}
@@ -90,6 +90,18 @@ returns-clause-taken g c =
     (c.new-record_reader.ensures.limits, (1, c.new-record_reader.ensures.stands))) in
     refused_taken c.args.limits g.R.Source
     c.args.reader.now c.drain.new.reader c.in-Err-show_records.refused
+    (drained (showing c.args.limits) (record_items c.args.limits.frame) held_of
+    (reads_records c.args.limits) g.R.Source
+    c.args.reader.now c.show_records.new.reader c.drain.new.reader c.show_records.new.records
+    c.in-Err-show_records.refused refused c.drain.ensures.over c.drain.ensures.rest)
+
+pub returns-clause-memory : goal.returns-clause-memory
+returns-clause-memory g c = λ _.
+    let refused = c.in-Err-show_records.ensures c.args.limits
+    (c.in-Ok.ensures c.args.limits.frame
+    (c.new-record_reader.ensures.limits, (1, c.new-record_reader.ensures.stands))) in
+    all_read (showing c.args.limits) g.R.Source
+    (lines_from 1) c.args.reader.now c.drain.new.reader c.in-Err-show_records.refused
     (drained (showing c.args.limits) (record_items c.args.limits.frame) held_of
     (reads_records c.args.limits) g.R.Source
     c.args.reader.now c.show_records.new.reader c.drain.new.reader c.show_records.new.records

@@ -1,6 +1,6 @@
 use Rattle.std.proofs.Common.{subst}
 use Rattle.dap_trace.specs.TracingSteps.{HasSentRecords}
-use Rattle.dap_trace.proofs.TracingLoop.{answered}
+use Rattle.dap_trace.proofs.TraceAnswers.{answered}
 use Rattle.dap_trace.proofs.tracing.record.Goals as goal
 
 pub returns-clause-answer : goal.returns-clause-answer

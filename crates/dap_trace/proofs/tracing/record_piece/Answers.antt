@@ -1,11 +1,13 @@
 use Rattle.std.proofs.Common.{arith, eqb, true, false, ◌≡◌, ◌<◌, ◌≤◌, ℕ, List, [], ◌∷◌, ◌++◌}
-use Rattle.std.proofs.Common.{length, take, sym, subst}
+use Rattle.std.proofs.Common.{Err, length, take, sym, subst}
 use Rattle.std.proofs.lemmas.Bool.{false≢true, eqb-true}
 use Rattle.std.proofs.lemmas.List.{nil_from_length, take_all, take_rest}
 use Rattle.dap_input.specs.declared.limits.Limits.{Limits}
-use Rattle.dap_trace.specs.TracingSteps.{Tracing}
+use Rattle.dap_recording.specs.RecordedTraces.{bytes_of}
+use Rattle.dap_trace.specs.TracingSteps.{RecordsRun, Tracing}
 use Rattle.dap_trace.proofs.RawRunLoop.{run_done}
-use Rattle.dap_trace.proofs.TracingLoop.{fault_in_piece, fed_none, fed_run, longer, no_run}
+use Rattle.dap_trace.proofs.TracingLoop.{fault_in_piece, fed_none, fed_run, longer, memory_in_run}
+use Rattle.dap_trace.proofs.TracingLoop.{no_run}
 use Rattle.dap_trace.proofs.TracingLoop.{piece_done, recorded_before, run_faulty, run_recorded}
 use Rattle.dap_trace.proofs.tracing.record_piece.Goals as goal
 
@@ -54,6 +56,23 @@ loop-rest-preserved-in_default-record_run c = λ limits bytes sound short was.
     (recorded_before limits sound _ c.loop-rest.rest.now c.loop-rest.trace
     c.loop-rest.recorder c.loop-rest.last so_far)))
     c.in-Some.part.piece run.0)
+
+pub returns-in-Memory : goal.returns-in-Memory
+returns-in-Memory c = λ limits bytes sound short was stop.
+    let so_far = c.loop-rest.invariant limits bytes sound short was in
+    let gives = c.in-Ok.ensures.gives _ _ _ so_far.reads in
+    let run = fed_run _ _ _ c.loop-rest.rest.now c.in-Ok.fed c.feed.new.self gives c.in-Some.part
+    c.in-Some.is in
+    let before = bytes_of so_far.so_far.pieces ++ so_far.so_far.raw in
+    memory_in_run limits sound _ c.loop-rest.rest.now c.loop-rest.trace
+    c.loop-rest.recorder c.loop-rest.last so_far
+    c.in-Ok.fed.used c.in-Some.part.side c.in-Some.part.bytes.now c.feed.new.self gives.0 run.1
+    (bytes ++ c.args.piece.now) (all_taken limits (bytes ++ c.args.piece.now) short)
+    (subst (λ f. RecordsRun {U = Unit {0}} limits.frame c.record_run.new.recorder before
+    c.in-Some.part.side c.in-Some.part.bytes.now (Err f)) c.in-Memory.is
+    (c.in-Err-record_run.ensures limits.frame before
+    (recorded_before limits sound _ c.loop-rest.rest.now c.loop-rest.trace
+    c.loop-rest.recorder c.loop-rest.last so_far)))
 
 pub returns-in_default-fault : goal.returns-in_default-fault
 returns-in_default-fault c = λ limits bytes sound short was stop.

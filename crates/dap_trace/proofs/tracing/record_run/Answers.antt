@@ -1,4 +1,4 @@
-use Rattle.std.proofs.Common.{sym, subst}
+use Rattle.std.proofs.Common.{Err, ap, sym, subst}
 use Rattle.std.proofs.lemmas.List.{take_rest}
 use Rattle.std.proofs.lemmas.Result.{err_from_is_err_and}
 use Rattle.dap_trace.proofs.RawRunLoop.{RunGoesOn, run_refused, run_taken}
@@ -11,7 +11,8 @@ returns-in_err-used c =
     rw (because.1, because.2)
     (run_refused c.args.recorder.now c.loop-rest.recorder c.piece.new.self c.args.side
     c.args.run.now c.loop-rest.rest.now c.loop-rest.invariant (Unit {0}) c.in_err-used.field-0.0
-    c.in_err-used.ensures.gives limits taken was)
+    c.in_err-used.ensures.gives (λ memory. c.in_err-used.ensures.memory_for_record (ap Err memory))
+    limits taken was)
 
 pub loop-rest-preserved : goal.loop-rest-preserved
 loop-rest-preserved c =

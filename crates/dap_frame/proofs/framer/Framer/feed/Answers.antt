@@ -1,6 +1,6 @@
 use Rattle.std.proofs.Common.{arith, ◌≡◌, sym, ap, ◌∙◌, subst, refl, ◌+◌, take, ◌++◌, ℕ, [], Vec}
 use Rattle.std.proofs.Common.{Global}
-use Rattle.std.proofs.lemmas.List.{take_rest}
+use Rattle.std.proofs.lemmas.List.{length-drop, take_rest}
 use Rattle.dap_frame.specs.Frame.{IsFrame, HasContentByte}
 use Rattle.dap_frame.specs.Reading.{Reading}
 use Rattle.dap_frame.specs.Framer.{IsKeptIn}
@@ -45,6 +45,11 @@ returns-in_default-clause-memory_for_content c = λ memory rest stands.
     (content_byte c.self.inside.limits c.self.inside.bytes.items rest c.args.piece.now
     c.in-Ok-Ended.header_len c.in-Ok-Ended.content_len c.in-Ok-Ended.used
     (begun c.self.inside.bytes.items rest kept) (omega (arith, c.in_default.ensures.wanted)) some)
+
+pub returns-in_default-clause-memory_for_bytes : goal.returns-in_default-clause-memory_for_bytes
+returns-in_default-clause-memory_for_bytes c = λ memory rest stands.
+    let some = rw (take_rest c.args.piece.now c.in-Ok-Ended.used) at c.in_default.ensures.refused in
+    omega (arith, some, length-drop c.in-Ok-Ended.used c.args.piece.now)
 
 pub returns-clause-gives : goal.returns-clause-gives
 returns-clause-gives c = λ rest stands.

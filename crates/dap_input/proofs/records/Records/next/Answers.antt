@@ -35,7 +35,7 @@ returns-in-Memory g c = λ limits between.
     now c.fill.new.reader c.in_default.ensures refl refl refl in
     no_memory (g.I.ItemReader.items limits) (g.I.ItemReader.stands limits)
     (g.met.I.ItemReader.is_open limits) g.R.Source
-    c.args.self.now c.args.reader.now now c.fill.new.reader was _ refl refl
+    c.args.self.now c.args.reader.now now c.fill.new.reader was _ refl refl refl
 
 pub returns-in_default-cause : goal.returns-in_default-cause
 returns-in_default-cause g c = λ limits between.

@@ -1,5 +1,6 @@
-use Rattle.std.proofs.Common.{◌≡◌, ◌∷◌, ◌++◌, Err, take, drop, refl, sym, ap, ◌∙◌, subst, arith}
-use Rattle.std.proofs.lemmas.List.{take_rest}
+use Rattle.std.proofs.Common.{◌≡◌, ◌<◌, ◌∷◌, ◌++◌, Err, length, take, drop, refl, sym, ap, ◌∙◌}
+use Rattle.std.proofs.Common.{subst, arith}
+use Rattle.std.proofs.lemmas.List.{length-drop, take_rest}
 use Rattle.dap_frame.specs.Frame.{IsFrame, HasContentByte}
 use Rattle.dap_frame.specs.declared.fault.FrameFault.TheVariants.{Memory}
 use Rattle.dap_frame.specs.Reading.{Stands, GivesFault, limits_of}
@@ -29,11 +30,16 @@ returns-in-Err-clause-gives c = λ number bytes rest num stands front was.
     (λ framer. HasContentByte (limits_of framer) (rest ++ drop c.args.from c.args.piece.now)) same
     (rw (take_rest c.args.piece.now c.args.from) at (c.in-Err.ensures.memory_for_content (ap Err e)
     rest (subst (λ framer. Stands framer rest) (sym same) stands))) in
+    let some : c.in-Err.fault ≡ Memory → 0 < length c.args.piece.now =
+    λ e. (let behind = rw (take_rest c.args.piece.now c.args.from) at
+    (c.in-Err.ensures.memory_for_bytes (ap Err e) rest
+    (subst (λ framer. Stands framer rest) (sym same) stands)) in
+    omega (arith, behind, length-drop c.args.from c.args.piece.now)) in
     frame_faults (record_limits c.args.self.now) number bytes c.args.piece.now rest c.args.side
     c.args.from c.in-Err.fault c.frame_fault.result
     (reader_at c.feed.new.self c.self.inside.state c.self.inside.number) c.frame_fault.new.self
     c.feed.new.self
-    front its content (c.frame_fault.ensures.number ∙ count) c.frame_fault.ensures.memory
+    front its content some (c.frame_fault.ensures.number ∙ count) c.frame_fault.ensures.memory
     (λ e. subst (λ reader. StandsFor reader number bytes)
     (sym (ap (λ framer. reader_at framer c.self.inside.state c.self.inside.number)
     (c.in-Err.ensures.memory (ap Err e)) ∙ c.self.view_is)) was)

@@ -38,6 +38,7 @@ returns-then-piece-from-ne10-clause-gives c = λ number bytes frame num stands f
       number_is = ap (λ (reader : RecordReading). reader.number) c.self.view_is ∙ num;
       memory = λ e. absurd (line_end_no_memory _ refl e);
       for_content = λ e. absurd (line_end_no_memory _ refl e);
+      for_bytes = λ e. absurd (line_end_no_memory _ refl e);
       shown = λ _. bad_line_end (record_limits c.args.self.now) bytes c.args.piece.now frame
           c.args.whole.content c.args.whole.side c.args.from inside front is
           c.if-piece-from-ne10.true;

@@ -14,6 +14,7 @@ returns-in-None-clause-gives c = λ number bytes was.
       number_is = count;
       memory = λ e. absurd (marker_no_memory _ refl e);
       for_content = λ e. absurd (marker_no_memory _ refl e);
+      for_bytes = λ e. absurd (marker_no_memory _ refl e);
       shown = λ _. (
         1,
         bad_marker (record_limits c.args.self.now) bytes c.args.piece.now

@@ -1,10 +1,12 @@
 use Rattle.std.proofs.Common.{◌≡◌, inl, inr, Ok, refl, sym, ap, ◌∙◌, subst}
 use Rattle.dap_tree.specs.declared.side.Side.TheVariants.{Client, Adapter}
 use Rattle.dap_recording.specs.declared.recorder_fault.RecorderFault.TheVariants.{Frame}
-use Rattle.dap_recording.specs.RecorderReading.{StandsForRests, GivesPiece, HasNotRecorded, text_of}
+use Rattle.dap_recording.specs.OneSide.{WantsMemory}
+use Rattle.dap_recording.specs.RecorderReading.{RecorderReading, StandsForRests, GivesPiece}
+use Rattle.dap_recording.specs.RecorderReading.{HasNotRecorded, text_of}
 use Rattle.dap_recording.specs.Recorder.{reading, IsConsistent}
 use Rattle.dap_recording.proofs.RecorderSteps.{Took, took_by, failed_with, gives_used, gives_fault}
-use Rattle.dap_recording.proofs.RecorderSteps.{used_consistent, text_kept, unchanged}
+use Rattle.dap_recording.proofs.RecorderSteps.{used_consistent, text_kept, unchanged, wants}
 use Rattle.dap_recording.proofs.recorder.Recorder.piece.Goals.{in-Client, in-Adapter}
 use Rattle.dap_recording.proofs.recorder.Recorder.piece.Goals as goal
 
@@ -88,6 +90,14 @@ returns-in-Memory-clause-memory c = λ _. is_unchanged c ∙ c.self.view_is
 
 pub returns-in-Memory-clause-kept : goal.returns-in-Memory-clause-kept
 returns-in-Memory-clause-kept c = ap text_of (is_unchanged c ∙ c.self.view_is)
+
+pub returns-in-Memory-clause-memory_for_record : goal.returns-in-Memory-clause-memory_for_record
+returns-in-Memory-clause-memory_for_record c = λ _ rests was.
+    subst (λ (r : RecorderReading). WantsMemory r.limits (rests c.args.side) c.args.piece.now)
+    c.self.view_is
+    (wants c.args.side c.args.piece.now (reading c.self.inside) (reading c.match-side.self-inside)
+    c.match-side.recorded (took_none c) c.in-Err.cause c.in-Err.is c.in-Memory.is rests
+    (subst (λ old. StandsForRests old rests) (sym c.self.view_is) was))
 
 pub returns-in_default-cause-clause-gives : goal.returns-in_default-cause-clause-gives
 returns-in_default-cause-clause-gives c = λ rests was.
