@@ -11,4 +11,11 @@ pub mod Keeping
 pub mod LeftIds
 pub mod RulesBehind
 pub mod Lines
+pub mod Growths
 pub mod Indexed
+pub mod Options
+pub mod Blanks
+pub mod Quoted
+pub mod Parsing
+pub mod Parsed
+pub mod WorkedRules

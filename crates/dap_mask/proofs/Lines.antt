@@ -2,7 +2,7 @@
 use Rattle.std.proofs.Common.{◌≡◌, ℕ, suc, ◌+◌, ◌<◌, ◌≤◌, Bool, true, false, cond, not, ◌==◌}
 use Rattle.std.proofs.Common.{List, [], ◌∷◌, ◌++◌, length, refl, sym, ap, ap₂, ◌∙◌, arith, IsUtf8}
 use Rattle.std.proofs.lemmas.Str.{IsUtf8-nil, IsUtf8-append}
-use Rattle.std.proofs.Common.{take, drop, Option, Some, None, option_map, add-one, append-nil}
+use Rattle.std.proofs.Common.{take, drop, Option, Some, None, option_map, append-nil}
 use Rattle.std.proofs.Common.{◌-◌, ◌<◌, ◌≤◌, Result, Ok, Err, true≢false}
 use Rattle.std.proofs.Math.Seq.{take-length}
 use Rattle.std.proofs.lemmas.List.{length-take}
@@ -18,10 +18,10 @@ use Rattle.dap_mask.specs.declared.fault.RulesCause.{RulesCause}
 use Rattle.dap_message.proofs.Edits.{by_bool}
 use Rattle.dap_profile.specs.PlaceSteps.{PlaceStep}
 use Rattle.dap_mask.proofs.Utf8.{ascii_one}
-use Rattle.dap_mask.specs.RuleText.{text_in, string_of, quoted_at, next_step, steps_from, step_then}
+use Rattle.dap_mask.specs.RuleText.{text_in, string_of, next_step, steps_from, step_then}
 use Rattle.dap_mask.specs.Rules.{step_of, place_of}
 use Rattle.dap_mask.specs.declared.rules.Step.{Step}
-use Rattle.dap_mask.specs.Runs.{has_class, is_plain, front, behind, closing, lines_of, onto}
+use Rattle.dap_mask.specs.Runs.{has_class, is_plain, front, behind, lines_of, onto}
 use Rattle.dap_mask.specs.declared.runs.ByteClass.TheVariants.{InLine}
 
 -- the lines behind the first one, from its line feed on
@@ -63,14 +63,6 @@ plain_utf8 (b ∷ s) = by_bool (is_plain b)
     (λ h. rw h (IsUtf8-append (b ∷ []) (front is_plain s) (ascii_one b (plain_low b h))
     (plain_utf8 s)))
     (λ h. rw h IsUtf8-nil)
-
--- a string at the front, by how many bytes it has behind its first quote
-pub quoted_split : (s inside : List ℕ) → inside ≡ drop 1 s → 1 ≤ length s
-    → option_map (λ k. (k, drop (closing false inside + 1) s))
-    (string_of (take (closing false inside + 1) s))
-    ≡ quoted_at s
-quoted_split [] inside e h = absurd (omega arith)
-quoted_split (b ∷ s) inside e h = rw (e, add-one) refl
 
 -- ---- steps of a place
 
@@ -145,7 +137,7 @@ pub done_ok : {U : Type 0} (P : Type 0) (r : Result U RulesCause)
 done_ok P (Ok u) n h = h
 done_ok P (Err c) n h = absurd (n c refl)
 
-lines_then : (m : Mask) (n : ℕ) (s line : List ℕ) (o : Result Mask RulesCause)
+pub lines_then : (m : Mask) (n : ℕ) (s line : List ℕ) (o : Result Mask RulesCause)
     → line ≡ front (has_class InLine) s → line_outcome m line ≡ o
     → rules_from m n (lines_of s)
     ≡ outcome_then n (λ k. rules_from k (suc n) (lines_behind (behind (has_class InLine) s))) o

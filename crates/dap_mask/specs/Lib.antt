@@ -6,6 +6,7 @@ pub mod Masked
 pub mod Ids
 pub mod Runs
 pub mod RuleText
+pub mod Grammar
 pub mod RulesFile
 pub mod ListedRules
 pub mod KeptRules

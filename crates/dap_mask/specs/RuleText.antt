@@ -10,7 +10,8 @@ use Rattle.dap_profile.specs.declared.profile.Kind.{Kind}
 use Rattle.dap_profile.specs.declared.profile.Kind.TheVariants.{Request, Response, Event}
 use Rattle.dap_mask.specs.Mask.{Statement, change, leave_out, swap, Line, nothing, rule, bad}
 use Rattle.dap_mask.specs.Rules.{same_kind}
-use Rattle.dap_mask.specs.Runs.{is_plain, front, behind, closing, gap, is_end, is_blank}
+use Rattle.dap_mask.specs.Runs.{is_plain, front, behind, closing, is_closed, gap, is_end}
+use Rattle.dap_mask.specs.Runs.{is_blank}
 use Rattle.dap_mask.specs.Swaps.{Half}
 use Rattle.dap_mask.specs.declared.rules.Verb.{Verb}
 use Rattle.dap_mask.specs.declared.rules.Verb.TheVariants.{Blank, Digits, Hex}
@@ -26,11 +27,12 @@ text_in _ = None
 unfoldable pub string_of : List ℕ → Option (List ℕ)
 string_of token = cond (is_utf8 token) (text_in (read token)) None
 
--- A JSON string at the front, and what stands behind it.
+-- A JSON string at the front, which a quote closes, and what stands behind it.
 abbrev pub quoted_at : List ℕ → Option (List ℕ × List ℕ)
 quoted_at [] = None
-quoted_at (b ∷ s) =
-    option_map (λ k. (k, drop (closing false s) s)) (string_of (b ∷ take (closing false s) s))
+quoted_at (b ∷ s) = cond (is_closed false s)
+    (option_map (λ k. (k, drop (closing false s) s)) (string_of (b ∷ take (closing false s) s)))
+    None
 
 -- A name of plain bytes at the front, and what stands behind it.
 abbrev pub plain_at : List ℕ → Option (List ℕ × List ℕ)

@@ -1,7 +1,7 @@
 -- How the line of a rules file is taken apart: runs of bytes of one class, strings, blanks, and its
 -- end.
-use Rattle.std.specs.Prelude.{ℕ, suc, ◌==◌, Bool, true, cond, not, ◌&&◌, ◌||◌, List, [], ◌∷◌}
-use Rattle.std.specs.Prelude.{length, Option, Some, None}
+use Rattle.std.specs.Prelude.{ℕ, suc, ◌==◌, Bool, true, false, cond, not, ◌&&◌, ◌||◌, List, []}
+use Rattle.std.specs.Prelude.{◌∷◌, length, Option, Some, None}
 use Rattle.std.specs.Char.{is_ascii_alphanumeric}
 use Rattle.dap_mask.specs.declared.runs.ByteClass.{ByteClass}
 use Rattle.dap_mask.specs.declared.runs.ByteClass.TheVariants.{Blank, Plain, InLine}
@@ -44,6 +44,12 @@ abbrev pub closing : Bool → List ℕ → ℕ
 closing escaped [] = 0
 closing escaped (b ∷ s) =
     cond ((b == 34) && not escaped) 1 (suc (closing ((b == 92) && not escaped) s))
+
+-- A quote closes the string: one that no backslash escapes.
+abbrev pub is_closed : Bool → List ℕ → Bool
+is_closed escaped [] = false
+is_closed escaped (b ∷ s) =
+    cond ((b == 34) && not escaped) true (is_closed ((b == 92) && not escaped) s)
 
 -- What stands behind one blank or more.
 abbrev pub gap : List ℕ → Option (List ℕ)

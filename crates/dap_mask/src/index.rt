@@ -1,5 +1,5 @@
 //! The rules that may speak of a message, found by its kind and its name.
-ghost use Rattle.std.specs.Prelude.{◌≡◌, option_map, IfOk, OnOk};
+ghost use Rattle.std.specs.Prelude.{◌≡◌, ◌<◌, length, option_map, IfOk, IfErr, OnOk};
 ghost use Rattle.dap_mask.specs.Index.{may_speak, positions, AreRight, AddsName, HasAsked};
 ghost use Rattle.dap_mask.specs.Index.{IsIndex, places_in};
 ghost use Rattle.dap_mask.specs.Rules.{rule_of, rules_of};
@@ -25,7 +25,8 @@ impl KindRules {
 
     /// The index of the changes for messages of a kind.
     pub(crate) fn new(alloc: Global, list: &RuleList, kind: Kind) -> Result<KindRules, AllocError>
-        ensures { IfOk result (λ x. IsIndex kind (listed_changes list.now) x) }
+        ensures index { IfOk result (λ x. IsIndex kind (listed_changes list.now) x) }
+        ensures memory { IfErr result (λ _. 0 < length (listed_changes list.now)) }
     {
         let rules = list.changes();
         let any = positions(alloc, rules, kind, None)?;
@@ -55,6 +56,7 @@ fn places_by_name(
 ) -> Result<BTreeMap<String, Vec<usize>>, AllocError>
     ensures right { IfOk result (λ names. AreRight kind (rules_of rules.now) names) }
     ensures asked { IfOk result (λ names. HasAsked kind (rules_of rules.now) names) }
+    ensures memory { IfErr result (λ _. 0 < length rules.now) }
 {
     let mut names = BTreeMap::new(alloc);
     for rule in rules {
@@ -98,8 +100,9 @@ fn positions(
     kind: Kind,
     name: Option<&str>,
 ) -> Result<Vec<usize>, AllocError>
-    ensures { IfOk result (λ v. v.items
+    ensures places { IfOk result (λ v. v.items
         ≡ positions kind (option_map (λ s. s.now) name.entry) (rules_of rules.now)) }
+    ensures memory { IfErr result (λ _. 0 < length rules.now) }
 {
     let mut places = Vec::new(alloc);
     for (i, rule) in rules.iter().enumerate() {

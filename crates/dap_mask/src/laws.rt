@@ -1,4 +1,5 @@
 //! Laws of masked documents. Each function does nothing: a call of it gives its clauses to a proof.
+ghost use Rattle.dap_mask.specs.Grammar.{ParserFindsLine, LineSaysOne};
 ghost use Rattle.dap_mask.specs.Laws.{MaskedByPath, OneMasked, KeepsOthers, NoneNew, DropsAlike};
 ghost use Rattle.dap_mask.specs.Laws.{MaskedOnce, EqualWhereAgree, KeepsOrder, KeepsSound};
 ghost use Rattle.dap_mask.specs.Laws.{KeepsUtf8, DigitsAre, HexIs};
@@ -51,4 +52,10 @@ pub fn left_is_read()
 /// Rules with no place of an id leave each id, or take it away with what it stood in.
 pub fn leaves_ids()
     ensures { LeavesIds }
+{}
+
+/// A line of a rules file is parsed as what the grammar reads in it. Each line says one thing.
+pub fn line_grammar()
+    ensures parser { ParserFindsLine }
+    ensures one { LineSaysOne }
 {}

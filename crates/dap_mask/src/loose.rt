@@ -1,5 +1,5 @@
 //! Contents whose fractions are judged after the masks.
-ghost use Rattle.std.specs.Prelude.{◌≡◌, IfOk, IfErr, IfSome, option_map};
+ghost use Rattle.std.specs.Prelude.{◌≡◌, ◌<◌, length, IfOk, IfErr, IsErrOf, IfSome, option_map};
 ghost use Rattle.serde_json.specs.View.{number_view, view as value_view, items_view as values_view};
 ghost use Rattle.serde_json.specs.View.{members_view as pairs_view};
 ghost use Rattle.dap_tree.specs.View.{view, items_view, members_view};
@@ -22,8 +22,8 @@ const NO_WHOLE: i128 = 18_446_744_073_709_551_616;
 /// Reads the tree of a content and masks it, with room that is kept from read to read. None is left
 /// of an event that the rules leave out.
 ///
-/// A number that is not kept whole is a fault only where the masks leave it. `Memory` says nothing
-/// of the content.
+/// A number that is not kept whole is a fault only where the masks leave it. `Memory` may come for
+/// any content that is not empty, and says nothing of it.
 pub fn read_masked(
     alloc: Global,
     content: &[u8],
@@ -32,6 +32,7 @@ pub fn read_masked(
 ) -> Result<Option<Tree>, TreeFault>
     ensures ok { IfOk result (λ o. IsLeftOf (mask_of rules.now) content.now (option_map view o)) }
     ensures err { IfErr result (ExplainsMasked (mask_of rules.now) content.now) }
+    ensures memory { IsErrOf result TreeFault.Memory → 0 < length content.now }
 
     // Exactly those places; masked again, it is what it was; equal exactly if equal elsewhere.
     ensures masked { IfOk result (λ o. IfSome (option_map view o)
@@ -53,6 +54,7 @@ pub fn read_masked(
 fn read_loosely(alloc: Global, content: &[u8], scratch: &mut Scratch) -> Result<Tree, TreeFault>
     ensures ok { IfOk result (λ t. IsReadLoosely content.now (view t)) }
     ensures err { IfErr result (ExplainsLoosely content.now) }
+    ensures memory { IsErrOf result TreeFault.Memory → 0 < length content.now }
 {
     match read_tree_with(alloc, content, scratch) {
         Ok(tree) => Ok(tree),
@@ -64,6 +66,7 @@ fn read_loosely(alloc: Global, content: &[u8], scratch: &mut Scratch) -> Result<
 fn read_value(alloc: Global, content: &[u8]) -> Result<Tree, TreeFault>
     ensures ok { IfOk result (λ t. IsReadLoosely content.now (view t)) }
     ensures err { IfErr result (ExplainsLoosely content.now) }
+    ensures memory { IsErrOf result TreeFault.Memory → 0 < length content.now }
 {
     match Value::from_slice(alloc, content) {
         Ok(value) => {

@@ -1,6 +1,6 @@
 //! The rules of a mask, with an index of them.
-ghost use Rattle.std.specs.Prelude.{◌≡◌, ◌≢◌, Ok, Err, map, option_map, string_bytes};
-ghost use Rattle.std.specs.Prelude.{IfOk, IfErr};
+ghost use Rattle.std.specs.Prelude.{◌≡◌, ◌≢◌, ◌≤◌, Ok, Err, map, option_map, string_bytes};
+ghost use Rattle.std.specs.Prelude.{◌<◌, IfOk, IfErr, length};
 ghost use Rattle.dap_profile.specs.declared.profile.Kind.TheVariants.{Request, Response, Event};
 ghost use Rattle.dap_mask.specs.Index.{IsIndex};
 ghost use Rattle.dap_mask.specs.ListedRules.{listed_changes};
@@ -33,6 +33,7 @@ impl MaskRules {
     ghost use Rattle.dap_mask.specs.KeptRules.{mask_of, changes_of, dropped_of};
     ghost use Rattle.dap_mask.specs.KeptRules.{swaps_of_mask};
     ghost use Rattle.dap_mask.specs.ListedRules.{listed_mask};
+    ghost use Rattle.dap_mask.specs.Mask.{no_rules};
     ghost use Rattle.dap_mask.specs.Rules.{rules_of};
     ghost use Rattle.dap_mask.specs.RulesFile.{rules_said};
     ghost use Rattle.dap_mask.specs.Swaps.{swaps_of};
@@ -40,11 +41,16 @@ impl MaskRules {
     /// Reads the rules of a file.
     ///
     /// A line is a rule, or nothing: `#` begins a comment. Of lines that are refused the first is
-    /// told, and why; `Memory`, and its line, say nothing of the file.
+    /// told, and why. `Memory` is returned only for a file that is not too long and has a rule or a
+    /// line that is refused; its line says nothing of the file.
     pub fn read(alloc: Global, text: &[u8]) -> Result<MaskRules, RulesFault>
         ensures ok { IfOk result (λ r. rules_said text.now ≡ Ok (mask_of r)) }
         ensures err { IfErr result
             (λ f. f.cause ≢ RulesCause.Memory → rules_said text.now ≡ Err f) }
+        ensures memory { IfErr result
+            (λ f. f.cause ≡ RulesCause.Memory → length text.now ≤ 65536) }
+        ensures needed { IfErr result
+            (λ f. f.cause ≡ RulesCause.Memory → rules_said text.now ≢ Ok no_rules) }
     {
         let list = RuleList::read(alloc, text)?;
         match MaskRules::new(alloc, list) {
@@ -57,7 +63,8 @@ impl MaskRules {
     }
 
     fn new(alloc: Global, list: RuleList) -> Result<MaskRules, AllocError>
-        ensures { IfOk result (λ r. mask_of r ≡ listed_mask list) }
+        ensures mask { IfOk result (λ r. mask_of r ≡ listed_mask list) }
+        ensures memory { IfErr result (λ _. 0 < length (listed_changes list)) }
     {
         let requests = KindRules::new(alloc, &list, Kind::Request)?;
         let responses = KindRules::new(alloc, &list, Kind::Response)?;

@@ -4,7 +4,7 @@ ghost use Rattle.serde_json.specs.View.{view as value_view};
 ghost use Rattle.dap_mask.specs.RuleText.{text_in, string_of, quoted_at, plain_at, name_at};
 ghost use Rattle.dap_mask.specs.RuleText.{any_name};
 
-use crate::runs::{ByteClass, closing, split_run};
+use crate::runs::{ByteClass, closing, is_closed, split_run};
 use serde_json::Value;
 use std::alloc::{AllocError, Global};
 
@@ -67,6 +67,9 @@ fn quoted_at(alloc: Global, text: &[u8]) -> Result<Option<(String, &[u8])>, Allo
     let [_, inside @ ..] = text else {
         return Ok(None);
     };
+    if !is_closed(inside) {
+        return Ok(None);
+    }
     let (token, rest) = text.split_at(closing(inside) + 1);
     match string_of(alloc, token)? {
         Some(name) => Ok(Some((name, rest))),

@@ -40,7 +40,8 @@ pub(crate) struct RuleList {
 impl RuleList {
     ghost use Rattle.dap_mask.specs.ListedRules.{listed_mask, listed_changes, listed_dropped};
     ghost use Rattle.dap_mask.specs.ListedRules.{listed_swaps};
-    ghost use Rattle.dap_mask.specs.Mask.{no_rules, with_rule, statement_of};
+    ghost use Rattle.dap_mask.specs.Mask.{no_rules, with_rule, statement_of, nothing};
+    ghost use Rattle.dap_mask.specs.RuleText.{line_said};
     ghost use Rattle.dap_mask.specs.RulesFile.{cause_against, line_outcome, rules_from, rules_said};
     ghost use Rattle.dap_mask.specs.Runs.{lines_of};
     ghost use Rattle.dap_mask.specs.Swaps.{swaps_of};
@@ -48,12 +49,18 @@ impl RuleList {
     /// Reads the rules of a file.
     ///
     /// A line is a rule, or nothing: `#` begins a comment. Of lines that are refused the first is
-    /// told, and why; `Memory` says nothing of the file.
+    /// told, and why. `Memory` is returned only for a file that is not too long and has a rule or a
+    /// line that is refused.
     #[tactic(auto, unfolding(crate::specs::RulesFile::rules_said))]
     pub(crate) fn read(alloc: Global, text: &[u8]) -> Result<RuleList, RulesFault>
         ensures ok { IfOk result (λ r. rules_said text.now ≡ Ok (listed_mask r)) }
         ensures err { IfErr result
             (λ f. f.cause ≢ RulesCause.Memory → rules_said text.now ≡ Err f) }
+        ensures memory { IfErr result
+            (λ f. f.cause ≡ RulesCause.Memory → length text.now ≤ 65536) }
+        ensures short { OnOk result (length text.now ≤ 65536) }
+        ensures needed { IfErr result
+            (λ f. f.cause ≡ RulesCause.Memory → rules_said text.now ≢ Ok no_rules) }
     {
         if text.len() > MAX_BYTES {
             return Err(RulesFault {
@@ -103,6 +110,8 @@ impl RuleList {
             (rules_from (listed_mask self.old) 1 (lines_of text.now) ≡ Ok (listed_mask self.new)) }
         ensures err { IfErr result (λ f. f.cause ≢ RulesCause.Memory
             → rules_from (listed_mask self.old) 1 (lines_of text.now) ≡ Err f) }
+        ensures memory { IfErr result (λ f. f.cause ≡ RulesCause.Memory
+            → rules_from (listed_mask self.old) 1 (lines_of text.now) ≢ Ok (listed_mask self.old)) }
     {
         let mut rest = text;
         let mut number = 1;
@@ -129,6 +138,8 @@ impl RuleList {
             (line_outcome (listed_mask self.old) line.now ≡ Ok (listed_mask self.new)) }
         ensures err { IfErr result (λ c. c ≢ RulesCause.Memory
             → line_outcome (listed_mask self.old) line.now ≡ Err c) }
+        ensures memory { IfErr result
+            (λ c. c ≡ RulesCause.Memory → line_said line.now ≢ nothing) }
     {
         if !is_utf8(line) {
             return Err(RulesCause::NotUtf8);

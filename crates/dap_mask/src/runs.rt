@@ -1,6 +1,6 @@
 //! Runs of bytes at the front of a text.
 ghost use Rattle.std.specs.Prelude.{◌≡◌, ◌==◌, ◌≤◌, false, length, option_map};
-ghost use Rattle.dap_mask.specs.Runs.{has_class, front, behind, closing, gap, is_end};
+ghost use Rattle.dap_mask.specs.Runs.{has_class, front, behind, closing, is_closed, gap, is_end};
 
 /// A class of bytes.
 #[derive(Clone, Copy, Drop)]
@@ -52,6 +52,21 @@ pub(crate) fn closing(text: &[u8]) -> usize
         escaped = *byte == b'\\' && !escaped;
     }
     text.len()
+}
+
+/// Returns whether a quote closes a string: one that no backslash escapes. The text begins behind
+/// the string's first quote.
+pub(crate) fn is_closed(text: &[u8]) -> bool
+    ensures { result ≡ is_closed false text.now }
+{
+    let mut escaped = false;
+    for byte in text {
+        if *byte == b'"' && !escaped {
+            return true;
+        }
+        escaped = *byte == b'\\' && !escaped;
+    }
+    false
 }
 
 /// What stands behind one blank or more; `None` where there is none.

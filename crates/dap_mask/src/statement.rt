@@ -1,6 +1,6 @@
 //! What a line of a rules file says.
-ghost use Rattle.std.specs.Prelude.{◌≡◌, IfOk, option_map, string_bytes};
-ghost use Rattle.dap_mask.specs.Mask.{statement_of, line_of};
+ghost use Rattle.std.specs.Prelude.{◌≡◌, ◌≢◌, IfOk, IfErr, option_map, string_bytes};
+ghost use Rattle.dap_mask.specs.Mask.{statement_of, line_of, nothing};
 ghost use Rattle.dap_mask.specs.RuleText.{verb_named, kind_named, head_at, change_at, leave_out_at};
 ghost use Rattle.dap_mask.specs.RuleText.{half_at, swap_at, statement_at, line_said};
 ghost use Rattle.dap_mask.specs.Swaps.{half_of};
@@ -35,8 +35,10 @@ pub(crate) enum Line {
     Bad,
 }
 
+/// Reads a line. A line that says nothing needs no memory.
 pub(crate) fn read_line(alloc: Global, line: &[u8]) -> Result<Line, AllocError>
-    ensures { IfOk result (λ l. line_of l ≡ line_said line.now) }
+    ensures says { IfOk result (λ l. line_of l ≡ line_said line.now) }
+    ensures memory { IfErr result (λ _. line_said line.now ≢ nothing) }
 {
     if is_end(line) {
         return Ok(Line::Nothing);

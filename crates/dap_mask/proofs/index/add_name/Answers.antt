@@ -10,7 +10,7 @@ returns-clause-right c = λ right.
     c.insert.new.self c.in_ok-places.places
     (rw c.in_ok-key.ensures.ok at (btree_map_updates_text (string_bytes c.in_ok-key.key)
     c.args.names.now c.insert.new.self _ c.in_ok-insert.ensures.updates))
-    c.in_ok-places.ensures right
+    c.in_ok-places.ensures.places right
 
 pub returns-clause-adds : goal.returns-clause-adds
 returns-clause-adds c =

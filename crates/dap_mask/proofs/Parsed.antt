@@ -1,0 +1,443 @@
+-- What a line is parsed as is what the grammar reads in it, and the parser and the grammar agree.
+use Rattle.std.proofs.Common.{◌≡◌, ℕ, suc, Bool, true, false, cond, ◌==◌, ◌&&◌, List, [], ◌∷◌}
+use Rattle.std.proofs.Common.{◌++◌, length, Option, Some, None, option_map, option_and_then, refl}
+use Rattle.std.proofs.Common.{sym, ap, ap₂, ◌∙◌, subst, true≢false, append_assoc, bytes_eq}
+use Rattle.std.proofs.lemmas.Bool.{eqb-true}
+use Rattle.std.proofs.lemmas.Option.{none-some, same_Some}
+use Rattle.std.proofs.lemmas.Slice.Eq.{bytes_eq-Decides}
+use Rattle.std.specs.Prelude.{zero, codes}
+use Rattle.dap_tree.proofs.Booleans.{and_left, and_right}
+use Rattle.dap_profile.specs.PlaceSteps.{PlaceStep, named, each}
+use Rattle.dap_profile.specs.declared.profile.Kind.{Kind}
+use Rattle.dap_profile.specs.declared.profile.Kind.TheVariants.{Request, Response, Event}
+use Rattle.dap_mask.specs.Grammar.{IsGap, GoesOn, HasWords, IsName, bare, quoted}
+use Rattle.dap_mask.specs.Grammar.{IsNameOrAny, AreSteps, IsPlace, verb_word, kind_word}
+use Rattle.dap_mask.specs.Grammar.{AreWordsOf, SaysRule, Says}
+use Rattle.dap_mask.specs.Mask.{Statement, change, leave_out, swap, Line, nothing, rule, bad}
+use Rattle.dap_mask.specs.RuleText.{quoted_at, plain_at, name_at, this_name, any_name, each_step}
+use Rattle.dap_mask.specs.RuleText.{member_step, next_step, step_then, steps_from, place_at}
+use Rattle.dap_mask.specs.RuleText.{verb_named, kind_named, Head, name_behind, kind_then, head_at}
+use Rattle.dap_mask.specs.RuleText.{placed, place_behind, change_at, leave_out_at, half_at}
+use Rattle.dap_mask.specs.RuleText.{swap_with, swap_at, statement_at, told, line_said}
+use Rattle.dap_mask.specs.Rules.{Rule, same_kind}
+use Rattle.dap_mask.specs.Runs.{is_blank, is_plain, front, behind, gap, is_end}
+use Rattle.dap_mask.specs.Swaps.{Half, SwapRule}
+use Rattle.dap_mask.specs.declared.rules.Verb.{Verb}
+use Rattle.dap_mask.specs.declared.rules.Verb.TheVariants.{Blank, Digits, Hex}
+use Rattle.dap_mask.proofs.Blanks.{run_split, run_all, run_begins, gap_found, end_read, end_found}
+use Rattle.dap_mask.proofs.Lines.{Steps}
+use Rattle.dap_mask.proofs.Options.{mapped, bound, if_true, if_false}
+use Rattle.dap_mask.proofs.Parsing.{any_by, place_on, then_step, with_kind, kind_on, change_on}
+use Rattle.dap_mask.proofs.Parsing.{leave_out_on, half_on, swap_on, rule_read}
+use Rattle.dap_mask.proofs.Quoted.{quoted_found}
+
+-- what was read, and the rest
+abbrev NameRest : Type 0
+NameRest = List ℕ × List ℕ
+
+abbrev AnyRest : Type 0
+AnyRest = Option (List ℕ) × List ℕ
+
+abbrev StepRest : Type 0
+StepRest = PlaceStep × List ℕ
+
+-- ---- names
+
+abbrev HasName : List ℕ → List ℕ → List ℕ → Type 0
+HasName s name rest = (n : List ℕ) × (s ≡ n ++ rest) × IsName n name
+
+quoted_name : (b : ℕ) (s name rest : List ℕ) → b ≡ 34 → quoted_at (b ∷ s) ≡ Some (name, rest)
+    → HasName (b ∷ s) name rest
+quoted_name b s name rest e h =
+    let first : quoted_at (34 ∷ s) ≡ Some (name, rest) =
+    ap (λ (x : ℕ). quoted_at (x ∷ s)) (sym e) ∙ h in
+    let q = quoted_found s name rest first in (
+      34 ∷ (q.inside ++ 34 ∷ []),
+      ap₂ (λ x t. x ∷ t) e q.whole,
+      quoted q.inside refl q.is_inside q.reads,
+    )
+
+bare_name : (s name rest : List ℕ) → plain_at s ≡ Some (name, rest) → HasName s name rest
+bare_name s name rest h =
+    let run = front is_plain s in
+    let i = if_false {A = NameRest} (length run == 0) (run, behind is_plain s) (name, rest) h in
+    let same_name : run ≡ name = ap (λ (p : NameRest). p.0) i.1 in
+    let same_rest : behind is_plain s ≡ rest = ap (λ (p : NameRest). p.1) i.1 in (
+      run,
+      run_split is_plain s ∙ ap (λ (t : List ℕ). run ++ t) same_rest,
+      subst (IsName run) same_name (bare (run_begins is_plain s i.0) (run_all is_plain s)),
+    )
+
+name_found : (s name rest : List ℕ) → name_at s ≡ Some (name, rest) → HasName s name rest
+name_found [] name rest h = absurd (none-some {A = NameRest} (name, rest) h)
+name_found (b ∷ s) name rest h = go (b == 34) refl h
+  where
+    go : (c : Bool) → (b == 34) ≡ c
+        → cond c (quoted_at (b ∷ s)) (plain_at (b ∷ s)) ≡ Some (name, rest)
+        → HasName (b ∷ s) name rest
+    go true e k = quoted_name b s name rest (eqb-true b 34 e) k
+    go false e k = bare_name (b ∷ s) name rest k
+
+abbrev HasAny : List ℕ → Option (List ℕ) → List ℕ → Type 0
+HasAny s name rest = (n : List ℕ) × (s ≡ n ++ rest) × IsNameOrAny n name
+
+any_found : (s : List ℕ) (name : Option (List ℕ)) (rest : List ℕ)
+    → any_name s ≡ Some (name, rest) → HasAny s name rest
+any_found [] name rest h = absurd (none-some {A = AnyRest} (name, rest) h)
+any_found (b ∷ s) name rest h = go (b == 42) refl h
+  where
+    go : (c : Bool) → (b == 42) ≡ c
+        → any_by s (name_at (b ∷ s)) c ≡ Some (name, rest)
+        → HasAny (b ∷ s) name rest
+    go true e k =
+        let p = same_Some {A = AnyRest} (None, s) (name, rest) k in (
+          42 ∷ [],
+          ap₂ (λ x t. x ∷ t) (eqb-true b 42 e) (ap (λ (q : AnyRest). q.1) p),
+          subst (IsNameOrAny (42 ∷ [])) (ap (λ (q : AnyRest). q.0) p) refl,
+        )
+    go false e k =
+        let m = mapped this_name (name_at (b ∷ s)) (name, rest) k in
+        let f = name_found (b ∷ s) m.0.0 m.0.1 m.1 in (
+          f.0,
+          f.1 ∙ ap (λ (q : AnyRest). f.0 ++ q.1) m.2,
+          subst (IsNameOrAny f.0) (ap (λ (q : AnyRest). q.0) m.2) f.2,
+        )
+
+-- ---- places
+
+abbrev HasSteps : List ℕ → List PlaceStep → List ℕ → Type 0
+HasSteps s steps rest = (w : List ℕ) × (s ≡ w ++ rest) × AreSteps w steps
+
+each_found : (s : List ℕ) (step : PlaceStep) (rest : List ℕ) → each_step s ≡ Some (step, rest)
+    → (each ≡ step) × (s ≡ 93 ∷ rest)
+each_found [] step rest h = absurd (none-some {A = StepRest} (step, rest) h)
+each_found (b ∷ s) step rest h =
+    let i = if_true {A = StepRest} (b == 93) (Some (each, s)) (step, rest) h in
+    let p = same_Some {A = StepRest} (each, s) (step, rest) i.1 in (
+      ap (λ (q : StepRest). q.0) p,
+      ap₂ (λ x t. x ∷ t) (eqb-true b 93 i.0) (ap (λ (q : StepRest). q.1) p),
+    )
+
+-- a first step, in front of further ones
+member_found : (s : List ℕ) (step : PlaceStep) (next more rest : List ℕ) (steps : List PlaceStep)
+    → option_map member_step (name_at s) ≡ Some (step, next) → next ≡ more ++ rest
+    → AreSteps more steps → HasSteps (46 ∷ s) (step ∷ steps) rest
+member_found s step next more rest steps h is on =
+    let m = mapped member_step (name_at s) (step, next) h in
+    let f = name_found s m.0.0 m.0.1 m.1 in
+    let same_step : named m.0.0 ≡ step = ap (λ (q : StepRest). q.0) m.2 in
+    let same_next : m.0.1 ≡ next = ap (λ (q : StepRest). q.1) m.2 in
+    let whole : s ≡ (f.0 ++ more) ++ rest =
+    f.1 ∙ ap (λ (t : List ℕ). f.0 ++ t) (same_next ∙ is) ∙ sym (append_assoc f.0 more rest) in (
+      46 ∷ (f.0 ++ more),
+      ap (λ (t : List ℕ). 46 ∷ t) whole,
+      subst (λ (p : PlaceStep). AreSteps (46 ∷ (f.0 ++ more)) (p ∷ steps)) same_step
+          (f.0, more, refl, f.2, on),
+    )
+
+elements_found : (s : List ℕ) (step : PlaceStep) (next more rest : List ℕ) (steps : List PlaceStep)
+    → each_step s ≡ Some (step, next) → next ≡ more ++ rest → AreSteps more steps
+    → HasSteps (91 ∷ s) (step ∷ steps) rest
+elements_found s step next more rest steps h is on =
+    let f = each_found s step next h in (
+      91 ∷ 93 ∷ more,
+      ap (λ (t : List ℕ). 91 ∷ t) (f.1 ∙ ap (λ (t : List ℕ). 93 ∷ t) is),
+      subst (λ (p : PlaceStep). AreSteps (91 ∷ 93 ∷ more) (p ∷ steps)) f.0 (more, refl, on),
+    )
+
+at_byte : (b c : ℕ) (s : List ℕ) (steps : List PlaceStep) (rest : List ℕ) → b ≡ c
+    → HasSteps (c ∷ s) steps rest → HasSteps (b ∷ s) steps rest
+at_byte b c s steps rest e f =
+    (f.0, ap (λ (x : ℕ). x ∷ s) e ∙ f.1, f.2)
+
+next_found : (s : List ℕ) (step : PlaceStep) (next more rest : List ℕ) (steps : List PlaceStep)
+    → next_step s ≡ Some (step, next) → next ≡ more ++ rest → AreSteps more steps
+    → HasSteps s (step ∷ steps) rest
+next_found [] step next more rest steps h is on = absurd (none-some {A = StepRest} (step, next) h)
+next_found (b ∷ s) step next more rest steps h is on = go (b == 46) (b == 91) refl refl h
+  where
+    go : (c d : Bool) → (b == 46) ≡ c → (b == 91) ≡ d
+        → cond c (option_map member_step (name_at s)) (cond d (each_step s) None)
+        ≡ Some (step, next)
+        → HasSteps (b ∷ s) (step ∷ steps) rest
+    go true d e f k = at_byte b 46 s (step ∷ steps) rest (eqb-true b 46 e)
+        (member_found s step next more rest steps k is on)
+    go false true e f k = at_byte b 91 s (step ∷ steps) rest (eqb-true b 91 f)
+        (elements_found s step next more rest steps k is on)
+    go false false e f k = absurd (none-some {A = StepRest} (step, next) k)
+
+step_found : (n : ℕ) (s : List ℕ) (steps : List PlaceStep) (rest : List ℕ)
+    → ((t : List ℕ) (ps : List PlaceStep) (r : List ℕ) → steps_from n t ≡ Some (ps, r)
+    → HasSteps t ps r)
+    → (o : Option StepRest) → next_step s ≡ o → step_then s (steps_from n) o ≡ Some (steps, rest)
+    → HasSteps s steps rest
+step_found n s steps rest more None e h =
+    let p = same_Some {A = Steps} ([], s) (steps, rest) h in (
+      [],
+      ap (λ (q : Steps). q.1) p,
+      subst (AreSteps []) (ap (λ (q : Steps). q.0) p) refl,
+    )
+step_found n s steps rest more (Some p) e h =
+    let m = mapped (then_step p.0) (steps_from n p.1) (steps, rest) h in
+    let others = more p.1 m.0.0 m.0.1 m.1 in
+    let f = next_found s p.0 p.1 others.0 m.0.1 m.0.0 e others.1 others.2 in (
+      f.0,
+      f.1 ∙ ap (λ (q : Steps). f.0 ++ q.1) m.2,
+      subst (AreSteps f.0) (ap (λ (q : Steps). q.0) m.2) f.2,
+    )
+
+steps_found : (n : ℕ) (s : List ℕ) (steps : List PlaceStep) (rest : List ℕ)
+    → steps_from n s ≡ Some (steps, rest) → HasSteps s steps rest
+steps_found zero s steps rest h = absurd (none-some {A = Steps} (steps, rest) h)
+steps_found (suc n) s steps rest h =
+    step_found n s steps rest (λ t ps r k. steps_found n t ps r k) (next_step s) refl h
+
+place_found : (s : List ℕ) (place : List PlaceStep) (rest : List ℕ)
+    → place_at s ≡ Some (place, rest) → (p : List ℕ) × (s ≡ p ++ rest) × IsPlace p place
+place_found s place rest h =
+    let x = bound (place_on (length s)) (name_at s) (place, rest) h in
+    let m = mapped (then_step (named x.0.0)) (steps_from (length s) x.0.1) (place, rest) x.2 in
+    let f = name_found s x.0.0 x.0.1 x.1 in
+    let g = steps_found (length s) x.0.1 m.0.0 m.0.1 m.1 in
+    let same_rest : m.0.1 ≡ rest = ap (λ (q : Steps). q.1) m.2 in (
+      f.0 ++ g.0,
+      f.1 ∙ ap (λ (t : List ℕ). f.0 ++ t) (g.1 ∙ ap (λ (t : List ℕ). g.0 ++ t) same_rest)
+          ∙ sym (append_assoc f.0 g.0 rest),
+      subst (IsPlace (f.0 ++ g.0)) (ap (λ (q : Steps). q.0) m.2) (f.0, g.0, refl, f.2, g.2),
+    )
+
+-- ---- heads
+
+same_word : (w v : List ℕ) → bytes_eq w v ≡ true → w ≡ v
+same_word w v h = (bytes_eq-Decides w v).0 h
+
+abbrev kind_if : Bool → Bool → Bool → Option Kind
+kind_if a b c = cond a (Some Request) (cond b (Some Response) (cond c (Some Event) None))
+
+kind_is : (w : List ℕ) (k : Kind) (a b c : Bool) → bytes_eq w (codes "request") ≡ a
+    → bytes_eq w (codes "response") ≡ b → bytes_eq w (codes "event") ≡ c
+    → kind_if a b c ≡ Some k → w ≡ kind_word k
+kind_is w k true b c e f g h =
+    same_word w (codes "request") e ∙ ap kind_word (same_Some Request k h)
+kind_is w k false true c e f g h =
+    same_word w (codes "response") f ∙ ap kind_word (same_Some Response k h)
+kind_is w k false false true e f g h =
+    same_word w (codes "event") g ∙ ap kind_word (same_Some Event k h)
+kind_is w k false false false e f g h = absurd (none-some k h)
+
+kind_found : (w : List ℕ) (k : Kind) → kind_named w ≡ Some k → w ≡ kind_word k
+kind_found w k h = kind_is w k (bytes_eq w (codes "request")) (bytes_eq w (codes "response"))
+    (bytes_eq w (codes "event")) refl refl refl h
+
+abbrev verb_if : Bool → Bool → Bool → Option Verb
+verb_if a b c = cond a (Some Blank) (cond b (Some Digits) (cond c (Some Hex) None))
+
+verb_is : (w : List ℕ) (v : Verb) (a b c : Bool) → bytes_eq w (codes "blank") ≡ a
+    → bytes_eq w (codes "digits") ≡ b → bytes_eq w (codes "hex") ≡ c
+    → verb_if a b c ≡ Some v → w ≡ verb_word v
+verb_is w v true b c e f g h =
+    same_word w (codes "blank") e ∙ ap verb_word (same_Some Blank v h)
+verb_is w v false true c e f g h =
+    same_word w (codes "digits") f ∙ ap verb_word (same_Some Digits v h)
+verb_is w v false false true e f g h =
+    same_word w (codes "hex") g ∙ ap verb_word (same_Some Hex v h)
+verb_is w v false false false e f g h = absurd (none-some v h)
+
+verb_found : (w : List ℕ) (v : Verb) → verb_named w ≡ Some v → w ≡ verb_word v
+verb_found w v h = verb_is w v (bytes_eq w (codes "blank")) (bytes_eq w (codes "digits"))
+    (bytes_eq w (codes "hex")) refl refl refl h
+
+-- the words of a head, with the gaps before them
+abbrev HasHead : List ℕ → Head → Type 0
+HasHead s u = (g : List ℕ) × (h : List ℕ) × (n : List ℕ)
+    × (s ≡ g ++ (kind_word u.0 ++ (h ++ (n ++ u.2)))) × IsGap g × IsGap h × IsNameOrAny n u.1
+
+head_found : (s : List ℕ) (u : Head) → head_at s ≡ Some u → HasHead s u
+head_found s u e =
+    let x = bound kind_then (gap s) u e in
+    let g = gap_found s x.0 x.1 in
+    let word = front is_plain x.0 in
+    let text = behind is_plain x.0 in
+    let k = bound (kind_on text) (kind_named word) u x.2 in
+    let y = bound (name_behind k.0) (gap text) u k.2 in
+    let h = gap_found text y.0 y.1 in
+    let m = mapped (with_kind k.0) (any_name y.0) u y.2 in
+    let n = any_found y.0 m.0.0 m.0.1 m.1 in
+    let next : text ≡ h.blanks ++ (n.0 ++ m.0.1) =
+    h.whole ∙ ap (λ (t : List ℕ). h.blanks ++ t) n.1 in
+    let words : x.0 ≡ kind_word k.0 ++ (h.blanks ++ (n.0 ++ m.0.1)) =
+    run_split is_plain x.0
+    ∙ ap₂ (λ v t. v ++ t) (kind_found word k.0 k.1) next in
+    let found : HasHead s (with_kind k.0 m.0) = (
+      g.blanks,
+      h.blanks,
+      n.0,
+      g.whole ∙ ap (λ (t : List ℕ). g.blanks ++ t) words,
+      g.is_gap,
+      h.is_gap,
+      n.2,
+    ) in
+    subst (HasHead s) m.2 found
+
+-- the words of a head in front of others
+head_goes : (s : List ℕ) (u : Head) (ws : List (List ℕ)) (f : HasHead s u) → GoesOn ws u.2
+    → GoesOn (kind_word u.0 ∷ f.2 ∷ ws) s
+head_goes s u ws f on =
+    (f.0, f.1 ++ (f.2 ++ u.2), f.3, f.4, (f.1, u.2, refl, f.5, on))
+
+-- ---- rules
+
+-- the words behind the first one, of a rule
+abbrev HasRule : List ℕ → List ℕ → Statement → Type 0
+HasRule w s st = (ws : List (List ℕ)) × GoesOn ws s × AreWordsOf (w ∷ ws) st
+
+change_found : (v : Verb) (s : List ℕ) (st : Statement) → change_at v s ≡ Some st
+    → HasRule (verb_word v) s st
+change_found v s st e =
+    let u = bound (change_on v) (head_at s) st e in
+    let y = bound (place_behind v u.0.0 u.0.1) (gap u.0.2) st u.2 in
+    let q = bound (placed v u.0.0 u.0.1) (place_at y.0) st y.2 in
+    let r : Rule = record { verb = v; kind = u.0.0; name = u.0.1; place = q.0.0 } in
+    let i = if_true (is_end q.0.1) (Some (change r)) st q.2 in
+    let head = head_found s u.0 u.1 in
+    let before = gap_found u.0.2 y.0 y.1 in
+    let p = place_found y.0 q.0.0 q.0.1 q.1 in
+    let on : GoesOn (p.0 ∷ []) u.0.2 = (
+      before.blanks,
+      q.0.1,
+      before.whole ∙ ap (λ (t : List ℕ). before.blanks ++ t) p.1,
+      before.is_gap,
+      end_found q.0.1 i.0,
+    ) in (
+      kind_word u.0.0 ∷ head.2 ∷ p.0 ∷ [],
+      head_goes s u.0 (p.0 ∷ []) head on,
+      subst (AreWordsOf (verb_word v ∷ kind_word u.0.0 ∷ head.2 ∷ p.0 ∷ []))
+          (same_Some (change r) st i.1) (head.2, p.0, refl, head.6, p.2),
+    )
+
+same_event : (k : Kind) → same_kind k Event ≡ true → k ≡ Event
+same_event Request h = absurd (true≢false (sym h))
+same_event Response h = absurd (true≢false (sym h))
+same_event Event h = refl
+
+leave_out_found : (s : List ℕ) (st : Statement) → leave_out_at s ≡ Some st
+    → HasRule (codes "drop") s st
+leave_out_found s st e =
+    let u = bound leave_out_on (head_at s) st e in
+    let i = if_true (same_kind u.0.0 Event && is_end u.0.2) (Some (leave_out u.0.1)) st u.2 in
+    let head = head_found s u.0 u.1 in
+    let event = same_event u.0.0 (and_left (same_kind u.0.0 Event) (is_end u.0.2) i.0) in
+    let ended = end_found u.0.2 (and_right (same_kind u.0.0 Event) (is_end u.0.2) i.0) in
+    let words : GoesOn (kind_word Event ∷ head.2 ∷ []) s =
+    subst (λ (k : Kind). GoesOn (kind_word k ∷ head.2 ∷ []) s) event
+    (head_goes s u.0 [] head ended) in (
+      codes "event" ∷ head.2 ∷ [],
+      words,
+      subst (AreWordsOf (codes "drop" ∷ codes "event" ∷ head.2 ∷ []))
+          (same_Some (leave_out u.0.1) st i.1) (head.2, refl, head.6),
+    )
+
+half_found : (s : List ℕ) (a : Half × List ℕ) → half_at s ≡ Some a
+    → HasHead s (a.0.kind, a.0.name, a.1)
+half_found s a e =
+    let m = mapped half_on (head_at s) a e in
+    subst (λ (b : Half × List ℕ). HasHead s (b.0.kind, b.0.name, b.1)) m.2
+    (head_found s m.0 m.1)
+
+swap_found : (s : List ℕ) (st : Statement) → swap_at s ≡ Some st → HasRule (codes "swap") s st
+swap_found s st e =
+    let a = bound swap_on (half_at s) st e in
+    let b = bound (swap_with a.0.0) (half_at a.0.1) st a.2 in
+    let r : SwapRule = record { one = a.0.0; another = b.0.0 } in
+    let i = if_true (is_end b.0.1) (Some (swap r)) st b.2 in
+    let one = half_found s a.0 a.1 in
+    let another = half_found a.0.1 b.0 b.1 in
+    let last = head_goes a.0.1 (r.another.kind, r.another.name, b.0.1) [] another
+    (end_found b.0.1 i.0) in
+    let ws = kind_word r.another.kind ∷ another.2 ∷ [] in (
+      kind_word r.one.kind ∷ one.2 ∷ ws,
+      head_goes s (r.one.kind, r.one.name, a.0.1) ws one last,
+      subst (AreWordsOf (codes "swap" ∷ kind_word r.one.kind ∷ one.2 ∷ ws))
+          (same_Some (swap r) st i.1) (one.2, another.2, refl, one.6, another.6),
+    )
+
+-- ---- lines
+
+renamed : (w v s : List ℕ) (st : Statement) → w ≡ v → HasRule v s st → HasRule w s st
+renamed w v s st e f =
+    (f.0, f.1, subst (λ (x : List ℕ). AreWordsOf (x ∷ f.0) st) (sym e) f.2)
+
+abbrev verb_on : List ℕ → Verb → Option Statement
+verb_on s v = change_at v s
+
+statement_is : (w s : List ℕ) (st : Statement) (a b : Bool) → bytes_eq w (codes "drop") ≡ a
+    → bytes_eq w (codes "swap") ≡ b
+    → cond a (leave_out_at s) (cond b (swap_at s) (option_and_then (verb_on s) (verb_named w)))
+    ≡ Some st
+    → HasRule w s st
+statement_is w s st true b e f h =
+    renamed w (codes "drop") s st (same_word w (codes "drop") e) (leave_out_found s st h)
+statement_is w s st false true e f h =
+    renamed w (codes "swap") s st (same_word w (codes "swap") f) (swap_found s st h)
+statement_is w s st false false e f h =
+    let v = bound (verb_on s) (verb_named w) st h in
+    renamed w (verb_word v.0) s st (verb_found w v.0 v.1) (change_found v.0 s st v.2)
+
+rule_found : (l : List ℕ) (st : Statement) → statement_at (behind is_blank l) ≡ Some st
+    → SaysRule l st
+rule_found l st h =
+    let text = behind is_blank l in
+    let w = front is_plain text in
+    let rest = behind is_plain text in
+    let f = statement_is w rest st (bytes_eq w (codes "drop")) (bytes_eq w (codes "swap")) refl
+    refl h in
+    let blanks = front is_blank l in
+    let has : HasWords (w ∷ f.0) l = (
+      blanks,
+      rest,
+      run_split is_blank l ∙ ap (λ (t : List ℕ). blanks ++ t) (run_split is_plain text),
+      run_all is_blank l,
+      f.1,
+    ) in
+    (w ∷ f.0, has, f.2)
+
+rule_bad : (st : Statement) → rule st ≡ bad → ⊥
+rule_bad st h = cc
+
+abbrev line_if : Bool → Option Statement → Line
+line_if over o = cond over nothing (told o)
+
+line_is : (l : List ℕ) (over : Bool) (o : Option Statement) → is_end l ≡ over
+    → statement_at (behind is_blank l) ≡ o → Says l (line_if over o)
+line_is l true o e f = end_found l e
+line_is l false (Some st) e f = rule_found l st f
+line_is l false None e f = (
+  λ ended. true≢false (sym (end_read l ended) ∙ e),
+  λ st says. rule_bad st (sym (rule_read l st says) ∙ ap₂ line_if e f),
+)
+
+line_found : (l : List ℕ) → Says l (line_said l)
+line_found l = line_is l (is_end l) (statement_at (behind is_blank l)) refl refl
+
+found_as : (l : List ℕ) (x : Line) → line_said l ≡ x → Says l x
+found_as l x e = subst (Says l) e (line_found l)
+
+bad_read : (l : List ℕ) (x : Line) → line_said l ≡ x → Says l bad → x ≡ bad
+bad_read l nothing e says = absurd (says.0 (found_as l nothing e))
+bad_read l (rule st) e says = absurd (says.1 st (found_as l (rule st) e))
+bad_read l bad e says = refl
+
+line_read : (l : List ℕ) (x : Line) → Says l x → line_said l ≡ x
+line_read l nothing says =
+    ap (λ (over : Bool). line_if over (statement_at (behind is_blank l))) (end_read l says)
+line_read l (rule st) says = rule_read l st says
+line_read l bad says = bad_read l (line_said l) refl says
+
+-- ---- the laws
+
+pub parser_finds_line : (l : List ℕ) (x : Line) → (line_said l ≡ x → Says l x)
+    × (Says l x → line_said l ≡ x)
+parser_finds_line l x = (found_as l x, line_read l x)
+
+pub line_says_one : (l : List ℕ) (x y : Line) → Says l x → Says l y → x ≡ y
+line_says_one l x y one another = sym (line_read l x one) ∙ line_read l y another

@@ -1,0 +1,366 @@
+-- A line that the grammar reads as something is parsed as it.
+use Rattle.std.proofs.Common.{◌≡◌, ℕ, suc, ◌<◌, Bool, true, false, cond, ◌==◌, ◌&&◌}
+use Rattle.std.proofs.Common.{◌||◌, List, [], ◌∷◌, ◌++◌, length, Option, Some, None, option_map}
+use Rattle.std.proofs.Common.{option_and_then, refl, sym, ap, ap₂, ◌∙◌, subst, true≢false, arith}
+use Rattle.std.proofs.Common.{append_assoc, length-append, bytes_eq}
+use Rattle.std.specs.Prelude.{zero, codes}
+use Rattle.dap_tree.proofs.Booleans.{or_left, or_right}
+use Rattle.dap_message.proofs.Edits.{by_bool}
+use Rattle.dap_profile.specs.PlaceSteps.{PlaceStep, named, each}
+use Rattle.dap_profile.specs.declared.profile.Kind.{Kind}
+use Rattle.dap_profile.specs.declared.profile.Kind.TheVariants.{Request, Response, Event}
+use Rattle.dap_mask.specs.Grammar.{IsGap, GoesOn, HasWords, IsName, bare, quoted}
+use Rattle.dap_mask.specs.Grammar.{IsNameOrAny, AreSteps, IsPlace, verb_word, kind_word}
+use Rattle.dap_mask.specs.Grammar.{AreWordsOf, SaysRule}
+use Rattle.dap_mask.specs.Mask.{Statement, change, leave_out, swap, Line, nothing, rule}
+use Rattle.dap_mask.specs.RuleText.{quoted_at, plain_at, name_at, this_name, any_name}
+use Rattle.dap_mask.specs.RuleText.{member_step, next_step, step_then, steps_from, place_at}
+use Rattle.dap_mask.specs.RuleText.{verb_named, kind_named, Head}
+use Rattle.dap_mask.specs.RuleText.{name_behind, kind_then, head_at, placed, place_behind}
+use Rattle.dap_mask.specs.RuleText.{change_at, leave_out_at, half_at, swap_with, swap_at}
+use Rattle.dap_mask.specs.RuleText.{statement_at, told, line_said}
+use Rattle.dap_mask.specs.Rules.{Rule, same_kind}
+use Rattle.dap_mask.specs.Runs.{is_blank, is_plain, behind, gap, is_over, is_end}
+use Rattle.dap_mask.specs.Swaps.{Half, SwapRule}
+use Rattle.dap_mask.specs.Texts.{all_of, begins_with}
+use Rattle.dap_mask.specs.declared.rules.Verb.{Verb}
+use Rattle.dap_mask.specs.declared.rules.Verb.TheVariants.{Blank, Digits, Hex}
+use Rattle.dap_mask.proofs.Blanks.{front_run, behind_run, not_zero, differs, NoBlank, blank_fails}
+use Rattle.dap_mask.proofs.Blanks.{gap_stops, gap_read, end_read, NoEnd, end_stops, words_stop}
+use Rattle.dap_mask.proofs.Lines.{Steps}
+use Rattle.dap_mask.proofs.Quoted.{quoted_read}
+
+-- ---- names
+
+-- a byte with which a name begins
+abbrev pub is_opening : ℕ → Bool
+is_opening b = is_plain b || (b == 34)
+
+pub no_opening : NoBlank is_opening
+no_opening = record { space = refl; tab = refl; carriage_return = refl }
+
+pub opens_plain : (n : List ℕ) → begins_with is_plain n ≡ true → begins_with is_opening n ≡ true
+opens_plain [] h = h
+opens_plain (b ∷ n) h = ap (λ (c : Bool). c || (b == 34)) h
+
+name_opens : {n name : List ℕ} → IsName n name → begins_with is_opening n ≡ true
+name_opens (bare {w} b a) = opens_plain w b
+name_opens (quoted inside e i r) = ap (begins_with is_opening) e
+
+pub opens_longer : (n s : List ℕ) → begins_with is_opening n ≡ true
+    → begins_with is_opening (n ++ s) ≡ true
+opens_longer [] s h = absurd (true≢false (sym h))
+opens_longer (b ∷ n) s h = h
+
+pub opens_not_blank : (s : List ℕ) → begins_with is_opening s ≡ true
+    → begins_with is_blank s ≡ false
+opens_not_blank [] h = refl
+opens_not_blank (b ∷ s) h = by_bool (is_blank b)
+    (λ k. absurd (true≢false (sym h ∙ blank_fails is_opening b no_opening k))) (λ k. k)
+
+pub opens_some : (n : List ℕ) → begins_with is_opening n ≡ true → 0 < length n
+opens_some [] h = absurd (true≢false (sym h))
+opens_some (b ∷ n) h = omega arith
+
+abbrev name_by : List ℕ → Bool → Option (List ℕ × List ℕ)
+name_by s is_quote = cond is_quote (quoted_at s) (plain_at s)
+
+abbrev none_or_run : List ℕ → List ℕ → Bool → Option (List ℕ × List ℕ)
+none_or_run run rest none = cond none None (Some (run, rest))
+
+abbrev plain_by : List ℕ → List ℕ → Option (List ℕ × List ℕ)
+plain_by run rest = none_or_run run rest (length run == 0)
+
+bare_read : (n rest : List ℕ) → begins_with is_plain n ≡ true → all_of is_plain n ≡ true
+    → begins_with is_plain rest ≡ false → name_at (n ++ rest) ≡ Some (n, rest)
+bare_read [] rest b a e = absurd (true≢false (sym b))
+bare_read (x ∷ n) rest b a e =
+    ap (name_by (x ∷ (n ++ rest))) (differs is_plain x 34 b refl)
+    ∙ ap₂ plain_by (front_run is_plain (x ∷ n) rest a e) (behind_run is_plain (x ∷ n) rest a e)
+    ∙ ap (none_or_run (x ∷ n) rest) (not_zero (length n))
+
+name_read : {n name : List ℕ} → IsName n name → (rest : List ℕ)
+    → begins_with is_plain rest ≡ false → name_at (n ++ rest) ≡ Some (name, rest)
+name_read (bare {w} b a) rest e = bare_read w rest b a e
+name_read (quoted {w} {name} inside is i r) rest e =
+    ap (λ (t : List ℕ). name_at (t ++ rest)) is
+    ∙ quoted_read i name rest (rw is at r)
+
+abbrev pub any_by : List ℕ → Option (List ℕ × List ℕ) → Bool → Option (Option (List ℕ) × List ℕ)
+any_by s name is_star = cond is_star (Some (None, s)) (option_map this_name name)
+
+any_by_name : (n rest : List ℕ) → begins_with is_opening n ≡ true
+    → any_name (n ++ rest) ≡ option_map this_name (name_at (n ++ rest))
+any_by_name [] rest h = absurd (true≢false (sym h))
+any_by_name (b ∷ n) rest h =
+    ap (any_by (n ++ rest) (name_at (b ∷ (n ++ rest)))) (differs is_opening b 42 h refl)
+
+any_read : (n : List ℕ) (name : Option (List ℕ)) (rest : List ℕ) → IsNameOrAny n name
+    → begins_with is_plain rest ≡ false → any_name (n ++ rest) ≡ Some (name, rest)
+any_read n None rest c e = ap (λ (t : List ℕ). any_name (t ++ rest)) c
+any_read n (Some k) rest c e =
+    any_by_name n rest (name_opens c) ∙ ap (option_map this_name) (name_read c rest e)
+
+any_not_blank : (n : List ℕ) (name : Option (List ℕ)) (rest : List ℕ) → IsNameOrAny n name
+    → begins_with is_blank (n ++ rest) ≡ false
+any_not_blank n None rest c = ap (λ (t : List ℕ). begins_with is_blank (t ++ rest)) c
+any_not_blank n (Some k) rest c =
+    opens_not_blank (n ++ rest) (opens_longer n rest (name_opens c))
+
+-- ---- places
+
+-- a byte with which a place may go on
+abbrev goes_on : ℕ → Bool
+goes_on b = is_plain b || ((b == 46) || (b == 91))
+
+pub plain_no_end : NoEnd is_plain
+plain_no_end = record {
+  blank = record { space = refl; tab = refl; carriage_return = refl };
+  comment = refl;
+}
+
+place_no_end : NoEnd goes_on
+place_no_end = record {
+  blank = record { space = refl; tab = refl; carriage_return = refl };
+  comment = refl;
+}
+
+stops_plain : (s : List ℕ) → begins_with goes_on s ≡ false → begins_with is_plain s ≡ false
+stops_plain [] h = refl
+stops_plain (b ∷ s) h = or_left (is_plain b) ((b == 46) || (b == 91)) h
+
+no_step : (s : List ℕ) → begins_with goes_on s ≡ false → next_step s ≡ None
+no_step [] h = refl
+no_step (b ∷ s) h =
+    let neither = or_right (is_plain b) ((b == 46) || (b == 91)) h in
+    rw (or_left (b == 46) (b == 91) neither, or_right (b == 46) (b == 91) neither) refl
+
+steps_stop : (steps : List PlaceStep) (s rest : List ℕ) → AreSteps s steps
+    → begins_with is_plain rest ≡ false → begins_with is_plain (s ++ rest) ≡ false
+steps_stop [] s rest is e = ap (λ (t : List ℕ). begins_with is_plain (t ++ rest)) is ∙ e
+steps_stop (named name ∷ steps) s rest (n, more, is, c, on) e =
+    ap (λ (t : List ℕ). begins_with is_plain (t ++ rest)) is
+steps_stop (each ∷ steps) s rest (more, is, on) e =
+    ap (λ (t : List ℕ). begins_with is_plain (t ++ rest)) is
+
+abbrev pub then_step : PlaceStep → Steps → Steps
+then_step step r = (step ∷ r.0, r.1)
+
+steps_read : (steps : List PlaceStep) (s rest : List ℕ) (fuel : ℕ) → AreSteps s steps
+    → begins_with goes_on rest ≡ false → length s < fuel
+    → steps_from fuel (s ++ rest) ≡ Some (steps, rest)
+steps_read steps s rest zero is e l = absurd (omega arith)
+steps_read [] s rest (suc n) is e l =
+    ap (λ (t : List ℕ). steps_from (suc n) (t ++ rest)) is
+    ∙ ap (step_then rest (steps_from n)) (no_step rest e)
+steps_read (named name ∷ steps) s rest (suc n) (m, more, is, c, on) e l =
+    let text = m ++ (more ++ rest) in
+    let whole : s ++ rest ≡ 46 ∷ text =
+    ap (λ (t : List ℕ). t ++ rest) is ∙ ap (λ (t : List ℕ). 46 ∷ t) (append_assoc m more rest) in
+    let member = name_read c (more ++ rest) (steps_stop steps more rest on (stops_plain rest e)) in
+    let long : length s ≡ suc (length (m ++ more)) = ap length is in
+    let sum = length-append m more in
+    let shorter : length more < n = omega arith in
+    ap (steps_from (suc n)) whole
+    ∙ ap (step_then (46 ∷ text) (steps_from n)) (ap (option_map member_step) member)
+    ∙ ap (option_map (then_step (named name))) (steps_read steps more rest n on e shorter)
+steps_read (each ∷ steps) s rest (suc n) (more, is, on) e l =
+    let long : length s ≡ suc (suc (length more)) = ap length is in
+    let shorter : length more < n = omega arith in
+    ap (λ (t : List ℕ). steps_from (suc n) (t ++ rest)) is
+    ∙ ap (option_map (then_step each)) (steps_read steps more rest n on e shorter)
+
+abbrev pub place_on : ℕ → List ℕ × List ℕ → Option Steps
+place_on len n = option_map (then_step (named n.0)) (steps_from len n.1)
+
+place_read : (place : List PlaceStep) (p rest : List ℕ) → IsPlace p place
+    → begins_with goes_on rest ≡ false → place_at (p ++ rest) ≡ Some (place, rest)
+place_read [] p rest c e = absurd c
+place_read (each ∷ steps) p rest c e = absurd c
+place_read (named name ∷ steps) p rest (n, more, is, c, on) e =
+    let whole : p ++ rest ≡ n ++ (more ++ rest) =
+    ap (λ (t : List ℕ). t ++ rest) is ∙ append_assoc n more rest in
+    let member = name_read c (more ++ rest) (steps_stop steps more rest on (stops_plain rest e)) in
+    let some = opens_some n (name_opens c) in
+    let long = ap length whole in
+    let sum = length-append n (more ++ rest) in
+    let parts = length-append more rest in
+    let shorter : length more < length (p ++ rest) = omega arith in
+    ap (option_and_then (place_on (length (p ++ rest)))) (ap name_at whole ∙ member)
+    ∙ ap (option_map (then_step (named name)))
+    (steps_read steps more rest (length (p ++ rest)) on e shorter)
+
+place_opens : (place : List PlaceStep) (p : List ℕ) → IsPlace p place
+    → begins_with is_opening p ≡ true
+place_opens [] p c = absurd c
+place_opens (each ∷ steps) p c = absurd c
+place_opens (named name ∷ steps) p (n, more, is, c, on) =
+    ap (begins_with is_opening) is ∙ opens_longer n more (name_opens c)
+
+-- ---- words that are fixed
+
+kind_plain : (k : Kind) → all_of is_plain (kind_word k) ≡ true
+kind_plain Request = refl
+kind_plain Response = refl
+kind_plain Event = refl
+
+kind_opens : (k : Kind) (s : List ℕ) → begins_with is_blank (kind_word k ++ s) ≡ false
+kind_opens Request s = refl
+kind_opens Response s = refl
+kind_opens Event s = refl
+
+kind_read : (k : Kind) → kind_named (kind_word k) ≡ Some k
+kind_read Request = refl
+kind_read Response = refl
+kind_read Event = refl
+
+verb_plain : (v : Verb) → all_of is_plain (verb_word v) ≡ true
+verb_plain Blank = refl
+verb_plain Digits = refl
+verb_plain Hex = refl
+
+verb_begins : (v : Verb) → begins_with is_plain (verb_word v) ≡ true
+verb_begins Blank = refl
+verb_begins Digits = refl
+verb_begins Hex = refl
+
+-- ---- heads
+
+abbrev pub with_kind : Kind → Option (List ℕ) × List ℕ → Head
+with_kind k n = (k, n.0, n.1)
+
+abbrev pub kind_on : List ℕ → Kind → Option Head
+kind_on rest k = option_and_then (name_behind k) (gap rest)
+
+abbrev pub kind_by : List ℕ → List ℕ → Option Head
+kind_by word rest = option_and_then (kind_on rest) (kind_named word)
+
+-- what follows the name, where the head of a rule comes
+pub record HeadRead (k : Kind) (name : Option (List ℕ)) (ws : List (List ℕ))
+    (s : List ℕ) : Type 0 where
+  pub rest : List ℕ
+  pub head : head_at s ≡ Some (k, name, rest)
+  pub on : GoesOn ws rest
+
+head_parts : (k : Kind) (name : Option (List ℕ)) (g h n rest : List ℕ) → IsGap g → IsGap h
+    → IsNameOrAny n name → begins_with is_plain rest ≡ false
+    → head_at (g ++ (kind_word k ++ (h ++ (n ++ rest)))) ≡ Some (k, name, rest)
+head_parts k name g h n rest a b c e =
+    let text = h ++ (n ++ rest) in
+    let stops = gap_stops is_plain h (n ++ rest) plain_no_end.blank b in
+    ap (option_and_then kind_then) (gap_read g (kind_word k ++ text) a (kind_opens k text))
+    ∙ ap₂ kind_by (front_run is_plain (kind_word k) text (kind_plain k) stops)
+    (behind_run is_plain (kind_word k) text (kind_plain k) stops)
+    ∙ ap (option_and_then (kind_on text)) (kind_read k)
+    ∙ ap (option_and_then (name_behind k)) (gap_read h (n ++ rest) b (any_not_blank n name rest c))
+    ∙ ap (option_map (with_kind k)) (any_read n name rest c e)
+
+head_read : (k : Kind) (name : Option (List ℕ)) (n : List ℕ) (ws : List (List ℕ)) (s : List ℕ)
+    → GoesOn (kind_word k ∷ n ∷ ws) s → IsNameOrAny n name → HeadRead k name ws s
+head_read k name n ws s (g, text, is, a, next) c =
+    let on = next.4 in
+    record {
+      rest = next.1;
+      head = ap head_at (is ∙ ap (λ (t : List ℕ). g ++ (kind_word k ++ t)) next.2)
+          ∙ head_parts k name g next.0 n next.1 a next.3 c
+          (words_stop is_plain ws next.1 plain_no_end on);
+      on = on;
+    }
+
+-- ---- rules
+
+abbrev pub change_on : Verb → Head → Option Statement
+change_on v h = option_and_then (place_behind v h.0 h.1) (gap h.2)
+
+change_read : (r : Rule) (n p s : List ℕ) → GoesOn (kind_word r.kind ∷ n ∷ p ∷ []) s
+    → IsNameOrAny n r.name → IsPlace p r.place → change_at r.verb s ≡ Some (change r)
+change_read r n p s on c d =
+    let h = head_read r.kind r.name n (p ∷ []) s on c in
+    let next = h.on in
+    let ended = next.4 in
+    ap (option_and_then (change_on r.verb)) h.head
+    ∙ ap (option_and_then (place_behind r.verb r.kind r.name)) (ap gap next.2
+    ∙ gap_read next.0 (p ++ next.1) next.3
+    (opens_not_blank (p ++ next.1) (opens_longer p next.1 (place_opens r.place p d))))
+    ∙ ap (option_and_then (placed r.verb r.kind r.name))
+    (place_read r.place p next.1 d (end_stops goes_on next.1 place_no_end ended))
+    ∙ ap (λ (b : Bool). cond b (Some (change r)) None) (end_read next.1 ended)
+
+abbrev pub leave_out_on : Head → Option Statement
+leave_out_on h = cond (same_kind h.0 Event && is_end h.2) (Some (leave_out h.1)) None
+
+leave_out_read : (name : Option (List ℕ)) (n s : List ℕ) → GoesOn (codes "event" ∷ n ∷ []) s
+    → IsNameOrAny n name → leave_out_at s ≡ Some (leave_out name)
+leave_out_read name n s on c =
+    let h = head_read Event name n [] s on c in
+    ap (option_and_then leave_out_on) h.head
+    ∙ ap (λ (b : Bool). cond b (Some (leave_out name)) None) (end_read h.rest h.on)
+
+abbrev pub half_on : Head → Half × List ℕ
+half_on h = (record { kind = h.0; name = h.1 }, h.2)
+
+abbrev pub swap_on : Half × List ℕ → Option Statement
+swap_on h = option_and_then (swap_with h.0) (half_at h.1)
+
+swap_read : (r : SwapRule) (n m s : List ℕ)
+    → GoesOn (kind_word r.one.kind ∷ n ∷ kind_word r.another.kind ∷ m ∷ []) s
+    → IsNameOrAny n r.one.name → IsNameOrAny m r.another.name → swap_at s ≡ Some (swap r)
+swap_read r n m s on c d =
+    let one = head_read r.one.kind r.one.name n (kind_word r.another.kind ∷ m ∷ []) s on c in
+    let another = head_read r.another.kind r.another.name m [] one.rest one.on d in
+    ap (option_and_then swap_on) (ap (option_map half_on) one.head)
+    ∙ ap (option_and_then (swap_with r.one)) (ap (option_map half_on) another.head)
+    ∙ ap (λ (b : Bool). cond b (Some (swap r)) None) (end_read another.rest another.on)
+
+-- ---- lines
+
+abbrev pub statement_by : List ℕ → List ℕ → Option Statement
+statement_by w s =
+    cond (bytes_eq w (codes "drop")) (leave_out_at s) (cond (bytes_eq w (codes "swap")) (swap_at s)
+    (option_and_then (λ v. change_at v s) (verb_named w)))
+
+abbrev line_by : List ℕ → Line
+line_by s = cond (is_over s) nothing (told (statement_at s))
+
+abbrev unless_over : List ℕ → Bool → Line
+unless_over s over = cond over nothing (told (statement_at s))
+
+not_over : (w s : List ℕ) → begins_with is_plain w ≡ true → is_over (w ++ s) ≡ false
+not_over [] s b = absurd (true≢false (sym b))
+not_over (x ∷ w) s b = differs is_plain x 35 b refl
+
+-- a line that begins with such a word, by what follows the word
+words_read : (l w : List ℕ) (ws : List (List ℕ)) (st : Statement) (on : HasWords (w ∷ ws) l)
+    → begins_with is_plain w ≡ true → all_of is_plain w ≡ true
+    → statement_by w on.1 ≡ Some st → line_said l ≡ rule st
+words_read l w ws st (blanks, rest, is, a, on) b all h =
+    let opens = opens_not_blank (w ++ rest) (opens_longer w rest (opens_plain w b)) in
+    let stops = words_stop is_plain ws rest plain_no_end on in
+    ap line_by (ap (behind is_blank) is ∙ behind_run is_blank blanks (w ++ rest) a opens)
+    ∙ ap (unless_over (w ++ rest)) (not_over w rest b)
+    ∙ ap told (ap₂ statement_by (front_run is_plain w rest all stops)
+    (behind_run is_plain w rest all stops) ∙ h)
+
+verb_read : (v : Verb) (s : List ℕ) → statement_by (verb_word v) s ≡ change_at v s
+verb_read Blank s = refl
+verb_read Digits s = refl
+verb_read Hex s = refl
+
+says_words : (l : List ℕ) (st : Statement) (ws : List (List ℕ)) → AreWordsOf ws st
+    → HasWords ws l → line_said l ≡ rule st
+says_words l (change r) ws (n, p, is, c, d) has =
+    let on = subst (λ (xs : List (List ℕ)). HasWords xs l) is has in
+    words_read l (verb_word r.verb) (kind_word r.kind ∷ n ∷ p ∷ []) (change r) on
+    (verb_begins r.verb) (verb_plain r.verb)
+    (verb_read r.verb on.1 ∙ change_read r n p on.1 on.4 c d)
+says_words l (leave_out name) ws (n, is, c) has =
+    let on = subst (λ (xs : List (List ℕ)). HasWords xs l) is has in
+    words_read l (codes "drop") (codes "event" ∷ n ∷ []) (leave_out name) on refl refl
+    (leave_out_read name n on.1 on.4 c)
+says_words l (swap r) ws (n, m, is, c, d) has =
+    let on = subst (λ (xs : List (List ℕ)). HasWords xs l) is has in
+    words_read l (codes "swap") (kind_word r.one.kind ∷ n ∷ kind_word r.another.kind ∷ m ∷ [])
+    (swap r) on refl refl (swap_read r n m on.1 on.4 c d)
+
+pub rule_read : (l : List ℕ) (st : Statement) → SaysRule l st → line_said l ≡ rule st
+rule_read l st (ws, has, words) = says_words l st ws words has

@@ -1,0 +1,213 @@
+-- Worked lines of rules files: what the grammar reads in them, and what the parser finds.
+use Rattle.std.proofs.Common.{◌≡◌, ℕ, Bool, true, false, ◌==◌, ◌&&◌, nat_lt, List, [], ◌∷◌}
+use Rattle.std.proofs.Common.{Some, None, refl, IsUtf8}
+use Rattle.std.proofs.lemmas.Bool.{eqb-false, ltb-true}
+use Rattle.std.proofs.lemmas.Str.{IsUtf8-nil, IsUtf8-append}
+use Rattle.std.specs.Prelude.{codes}
+use Rattle.serde_json.proofs.OnLiterals.{serde_json_on_literals}
+use Rattle.serde_json.specs.Data as json
+use Rattle.dap_profile.specs.PlaceSteps.{named, each}
+use Rattle.dap_profile.specs.declared.profile.Kind.TheVariants.{Response, Event}
+use Rattle.dap_tree.proofs.Booleans.{and_left, and_right}
+use Rattle.dap_tree.specs.Json.{Reads}
+use Rattle.dap_mask.specs.Grammar.{IsInside, at_end, escaped, other, bare, quoted}
+use Rattle.dap_mask.specs.Grammar.{GoesOn, Says}
+use Rattle.dap_mask.specs.Mask.{Statement, change, leave_out, swap, nothing, rule, bad}
+use Rattle.dap_mask.specs.RuleText.{line_said, string_of}
+use Rattle.dap_mask.specs.declared.rules.Verb.TheVariants.{Digits}
+use Rattle.dap_mask.proofs.Lines.{string_is}
+use Rattle.dap_mask.proofs.Utf8.{ascii_one}
+
+-- ---- a comment alone
+
+comment : List ℕ
+comment = codes "  # lldb-dap"
+
+comment_says : Says comment nothing
+unfolding comment
+comment_says = (codes "  ", codes "# lldb-dap", refl, refl, refl)
+
+comment_parsed : line_said comment ≡ nothing
+unfolding comment
+comment_parsed = refl
+
+-- ---- a change
+
+digits_line : List ℕ
+digits_line = codes "digits response threads   body.threads[].name # a name"
+
+digits_rule : Statement
+digits_rule = change (record {
+  verb = Digits;
+  kind = Response;
+  name = Some (codes "threads");
+  place = named (codes "body") ∷ named (codes "threads") ∷ each ∷ named (codes "name") ∷ [];
+})
+
+digits_ends : GoesOn [] (codes " # a name")
+digits_ends = (codes " ", codes "# a name", refl, refl, refl)
+
+digits_says : Says digits_line (rule digits_rule)
+unfolding digits_line digits_rule
+digits_says = (
+  codes "digits" ∷ codes "response" ∷ codes "threads" ∷ codes "body.threads[].name" ∷ [],
+  (
+    [],
+    codes " response threads   body.threads[].name # a name",
+    refl,
+    refl,
+    (
+      codes " ",
+      codes " threads   body.threads[].name # a name",
+      refl,
+      (refl, refl),
+      (
+        codes " ",
+        codes "   body.threads[].name # a name",
+        refl,
+        (refl, refl),
+        (codes "   ", codes " # a name", refl, (refl, refl), digits_ends),
+      ),
+    ),
+  ),
+  (
+    codes "threads",
+    codes "body.threads[].name",
+    refl,
+    bare refl refl,
+    (
+      codes "body",
+      codes ".threads[].name",
+      refl,
+      bare refl refl,
+      (
+        codes "threads",
+        codes "[].name",
+        refl,
+        bare refl refl,
+        (codes ".name", refl, (codes "name", [], refl, bare refl refl, refl)),
+      ),
+    ),
+  ),
+)
+
+digits_parsed : line_said digits_line ≡ rule digits_rule
+unfolding digits_line digits_rule
+digits_parsed = refl
+
+-- ---- an event whose name is a JSON string, with a comment right behind it
+
+drop_line : List ℕ
+drop_line = codes "\tdrop event \"a # \\\"b\\\"\"#"
+
+drop_rule : Statement
+drop_rule = leave_out (Some (codes "a # \"b\""))
+
+-- each byte is ASCII
+abbrev is_ascii : List ℕ → Bool
+is_ascii [] = true
+is_ascii (b ∷ s) = nat_lt b 128 && is_ascii s
+
+ascii_text : (s : List ℕ) → is_ascii s ≡ true → IsUtf8 s
+ascii_text [] h = IsUtf8-nil
+ascii_text (b ∷ s) h =
+    IsUtf8-append (b ∷ []) s
+    (ascii_one b (ltb-true b 128 (and_left (nat_lt b 128) (is_ascii s) h)))
+    (ascii_text s (and_right (nat_lt b 128) (is_ascii s) h))
+
+other_byte : {b : ℕ} {s : List ℕ} → (b == 34) ≡ false → (b == 92) ≡ false → IsInside s
+    → IsInside (b ∷ s)
+other_byte {b} q e i = other (eqb-false b 34 q) (eqb-false b 92 e) i
+
+drop_inside : IsInside (codes "a # \\\"b\\\"")
+drop_inside =
+    other_byte refl refl (other_byte refl refl (other_byte refl refl (other_byte refl refl
+    (escaped (other_byte refl refl (escaped at_end))))))
+
+drop_reads : Reads (codes "\"a # \\\"b\\\"\"") (json.string (codes "a # \"b\""))
+unfolding serde_json_on_literals
+drop_reads = (ascii_text (codes "\"a # \\\"b\\\"\"") refl, refl)
+
+drop_string : string_of (codes "\"a # \\\"b\\\"\"") ≡ Some (codes "a # \"b\"")
+drop_string =
+    string_is (codes "\"a # \\\"b\\\"\"") (json.string (codes "a # \"b\"")) drop_reads.0
+    drop_reads.1
+
+drop_says : Says drop_line (rule drop_rule)
+unfolding drop_line drop_rule
+drop_says = (
+  codes "drop" ∷ codes "event" ∷ codes "\"a # \\\"b\\\"\"" ∷ [],
+  (
+    codes "\t",
+    codes " event \"a # \\\"b\\\"\"#",
+    refl,
+    refl,
+    (
+      codes " ",
+      codes " \"a # \\\"b\\\"\"#",
+      refl,
+      (refl, refl),
+      (codes " ", codes "#", refl, (refl, refl), ([], codes "#", refl, refl, refl)),
+    ),
+  ),
+  (codes "\"a # \\\"b\\\"\"", refl, quoted (codes "a # \\\"b\\\"") refl drop_inside drop_reads),
+)
+
+drop_parsed : line_said drop_line ≡ rule drop_rule
+unfolding drop_line drop_rule
+drop_parsed = rw drop_string refl
+
+-- ---- a rule for the order
+
+swap_line : List ℕ
+swap_line = codes "swap response continue event *"
+
+swap_rule : Statement
+swap_rule = swap (record {
+  one = record { kind = Response; name = Some (codes "continue") };
+  another = record { kind = Event; name = None };
+})
+
+swap_says : Says swap_line (rule swap_rule)
+unfolding swap_line swap_rule
+swap_says = (
+  codes "swap" ∷ codes "response" ∷ codes "continue" ∷ codes "event" ∷ codes "*" ∷ [],
+  (
+    [],
+    codes " response continue event *",
+    refl,
+    refl,
+    (
+      codes " ",
+      codes " continue event *",
+      refl,
+      (refl, refl),
+      (
+        codes " ",
+        codes " event *",
+        refl,
+        (refl, refl),
+        (
+          codes " ",
+          codes " *",
+          refl,
+          (refl, refl),
+          (codes " ", [], refl, (refl, refl), ([], [], refl, refl, tt)),
+        ),
+      ),
+    ),
+  ),
+  (codes "continue", codes "*", refl, bare refl refl, refl),
+)
+
+swap_parsed : line_said swap_line ≡ rule swap_rule
+unfolding swap_line swap_rule
+swap_parsed = refl
+
+-- ---- what is no rule: a place that does not end, and an event that is a request
+
+bad_place_parsed : line_said (codes "blank event output body.") ≡ bad
+bad_place_parsed = refl
+
+bad_kind_parsed : line_said (codes "drop request output") ≡ bad
+bad_kind_parsed = refl
