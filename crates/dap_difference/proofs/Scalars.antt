@@ -1,5 +1,6 @@
 -- What it tells that two documents without parts are the same, or are not.
-use Rattle.std.proofs.Common.{◌≡◌, ◌≢◌, Bool, true, false, Option, Some, None, option_map}
+use Rattle.std.proofs.Common.{◌≡◌, ◌≢◌, Bool, true, false, cond, [], ◌∷◌, Option, Some, None}
+use Rattle.std.proofs.Common.{option_map}
 use Rattle.std.proofs.Common.{refl, sym, ap, ap₂, ◌∙◌}
 use Rattle.std.proofs.lemmas.Bool.Decides.{Decides-int_eq}
 use Rattle.std.proofs.lemmas.Slice.Eq.{bytes_eq-Decides}
@@ -9,7 +10,7 @@ use Rattle.dap_tree.proofs.Sorts.{same_sort_told, told_same_sort}
 use Rattle.dap_tree.specs.Doc.{Doc, null, boolean, whole, text, list, object, id}
 use Rattle.dap_tree.proofs.Booleans.{and_left, and_right, and_both}
 use Rattle.dap_difference.specs.Differences.{have_parts, form}
-use Rattle.dap_difference.specs.Telling.{same_boolean, same_scalar}
+use Rattle.dap_difference.specs.Telling.{both, differences, same_boolean, same_scalar}
 
 boolean_is : (a b : Bool) → same_boolean a b ≡ true → a ≡ b
 boolean_is true b h = sym h
@@ -25,6 +26,20 @@ same_is (id s y) (id t z) h =
     ap₂ id (same_sort_told s t (and_left (same_sort s t) (int_eq y z) h))
     ((Decides-int_eq y z).0 (and_right (same_sort s t) (int_eq y z) h))
 same_is d e h = absurd cc
+
+both_none : (d e : Doc) → same_scalar d e ≡ true → both d e ≡ []
+both_none d e h =
+    ap (λ same. cond same [] (record { path = []; of_a = Some d; of_b = Some e } ∷ [])) h
+
+-- of two equal scalars nothing is told
+pub none_of_scalars : (d e : Doc) → same_scalar d e ≡ true → differences d e ≡ []
+none_of_scalars null e h = both_none null e h
+none_of_scalars (boolean b) e h = both_none (boolean b) e h
+none_of_scalars (whole z) e h = both_none (whole z) e h
+none_of_scalars (text s) e h = both_none (text s) e h
+none_of_scalars (id s z) e h = both_none (id s z) e h
+none_of_scalars (list ds) e h = absurd cc
+none_of_scalars (object ms) e h = absurd cc
 
 boolean_itself : (b : Bool) → same_boolean b b ≡ true
 boolean_itself true = refl

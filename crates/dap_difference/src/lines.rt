@@ -1,5 +1,6 @@
 //! Lines that tell differences, for people.
-ghost use Rattle.std.specs.Prelude.{◌≡◌, ◌++◌, ◌≤◌, true, Some, length, take, IfOk, OnOk};
+ghost use Rattle.std.specs.Prelude.{◌≡◌, ◌++◌, ◌≤◌, [], true, Some, length, take, IfOk, IsOk};
+ghost use Rattle.std.specs.Prelude.{OnOk};
 ghost use Rattle.std.specs.List.{flat_map};
 ghost use Rattle.dap_tree.specs.Doc.{is_sound};
 ghost use Rattle.dap_tree.specs.Json.{text_of};
@@ -10,7 +11,7 @@ ghost use Rattle.dap_difference.specs.Lines.{is_plain, is_plain_name, is_sound_d
 ghost use Rattle.dap_difference.specs.Lines.{are_sound};
 ghost use Rattle.dap_difference.specs.Lines.{name_text, path_text, step_text, value_line};
 ghost use Rattle.dap_difference.specs.Shown.{at_path, path_of, step_of, told};
-ghost use Rattle.dap_difference.specs.Telling.{differences};
+ghost use Rattle.dap_difference.specs.Telling.{differences, same_scalar};
 
 use crate::{Difference, Step, Values, differences};
 use dap_tree::{Tree, write_tree};
@@ -193,16 +194,17 @@ fn push_values(
 ///
 /// A line is `A` or `B`, the path, and the JSON text of what that tree has there, cut behind 200
 /// characters with `...`; `body.stackFrames[2].line` is a path. What just one of the trees has is
-/// told on that one's line alone.
+/// told on that one's line alone. Two equal scalars take no memory.
 ///
 /// # Errors
 ///
-/// Memory was refused.
+/// An allocation failed.
 pub fn difference_text(alloc: Global, a: &Tree, b: &Tree) -> Result<Vec<u8>, AllocError>
     requires a { is_sound (view a.now) ≡ true }
     requires b { is_sound (view b.now) ≡ true }
-    ensures { IfOk result (λ text. text.items
+    ensures lines { IfOk result (λ text. text.items
         ≡ flat_map difference_lines (differences (view a.now) (view b.now))) }
+    ensures scalars { same_scalar (view a.now) (view b.now) ≡ true → IsOk result }
 {
     let found = differences(alloc, a, b)?;
     lines_of(alloc, found.as_slice())
@@ -210,7 +212,8 @@ pub fn difference_text(alloc: Global, a: &Tree, b: &Tree) -> Result<Vec<u8>, All
 
 fn lines_of(alloc: Global, found: &[Difference<'_>]) -> Result<Vec<u8>, AllocError>
     requires { are_sound (told found.now) ≡ true }
-    ensures { IfOk result (λ text. text.items ≡ flat_map difference_lines (told found.now)) }
+    ensures lines { IfOk result (λ text. text.items ≡ flat_map difference_lines (told found.now)) }
+    ensures none { told found.now ≡ [] → IsOk result }
 {
     let mut text = Vec::new(alloc);
     for difference in found {

@@ -1,5 +1,5 @@
 //! The differences of two trees, leaf by leaf.
-ghost use Rattle.std.specs.Prelude.{◌≡◌, ◌∷◌, ◌++◌, [], drop, IfOk, OnOk, true};
+ghost use Rattle.std.specs.Prelude.{◌≡◌, ◌∷◌, ◌++◌, [], drop, IfOk, IsOk, OnOk, true};
 ghost use Rattle.dap_tree.specs.Doc.{is_ordered};
 ghost use Rattle.dap_tree.specs.View.{view, items_view, members_view};
 ghost use Rattle.dap_difference.specs.Differences.{AreDifferences, PutInIsB};
@@ -20,7 +20,8 @@ use std::collections::btree_map::Iter;
 /// The differences of two trees, in the order of their paths: each leaf that differs.
 ///
 /// Lists and objects that both have are gone into; a list or an object that just one of them has is
-/// told as a whole. An id and a number that is none differ, also where they are written alike.
+/// told as a whole. An id and a number that is none differ, also where they are written alike. Two
+/// equal scalars take no memory.
 ///
 /// # Errors
 ///
@@ -43,6 +44,9 @@ pub fn differences<'t>(
     ensures put_in { IfOk result (λ found. is_ordered (view a.now) ≡ true
         → is_ordered (view b.now) ≡ true
         → PutInIsB (told found.items) (view a.now) (view b.now)) }
+
+    // Two equal scalars have no differences, and that is known without any growth.
+    ensures scalars { same_scalar (view a.now) (view b.now) ≡ true → IsOk result }
 {
     let mut path = Vec::new(alloc);
     let mut found = Vec::new(alloc);
@@ -105,8 +109,9 @@ fn add_both<'t>(
     path: &[Step<'t>],
     found: &mut Vec<Difference<'t>>,
 ) -> Result<(), AllocError>
-    ensures { OnOk result
+    ensures found { OnOk result
         (Appends path.now found.old.items found.new.items (both (view a.now) (view b.now))) }
+    ensures scalars { same_scalar (view a.now) (view b.now) ≡ true → IsOk result }
 {
     if same_scalar(a, b) {
         Ok(())
@@ -127,6 +132,7 @@ fn add<'t>(
     ensures found { OnOk result (Appends path.old.items found.old.items found.new.items
         (differences (view a.now) (view b.now))) }
     ensures path { OnOk result (path.new.items ≡ path.old.items) }
+    ensures scalars { same_scalar (view a.now) (view b.now) ≡ true → IsOk result }
 {
     match a {
         Tree::List(items) => match b {

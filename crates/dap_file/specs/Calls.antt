@@ -1,6 +1,6 @@
 -- What the calls of a replaceable file do to the file under the name and to the temporary file.
 -- Source: own.
-use Rattle.std.specs.Prelude.{◌≡◌, ◌⊎◌, ◌<◌, ℕ, length, Option, Some, None}
+use Rattle.std.specs.Prelude.{◌≡◌, ◌⊎◌, ◌<◌, ◌≤◌, ℕ, length, Option, Some, None}
 use Rattle.std.specs.Prelude.{Result, Ok, Err, Vec}
 use Rattle.std.specs.declared.alloc.Global.{Global}
 use Rattle.dap_file.specs.Crash.{Content}
@@ -41,6 +41,11 @@ content_of (Some bytes) = Some bytes.items
 abbrev pub IsLonger : ℕ → Content → Type 0
 IsLonger limit None = ⊥
 IsLonger limit (Some bytes) = limit < length bytes
+
+-- a file with at most this many bytes
+abbrev pub FitsIn : ℕ → Content → Type 0
+FitsIn limit None = ⊥
+FitsIn limit (Some bytes) = length bytes ≤ limit
 
 module _ {F : Type 0} (target : F → Content) where
   -- The content under the name is the same, and a crash leaves nothing that it could not leave

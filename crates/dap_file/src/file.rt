@@ -5,7 +5,8 @@ ghost use Rattle.std.specs.Option.{option_map};
 ghost use Rattle.dap_file.specs.declared.file.Step.{Step};
 ghost use Rattle.dap_file.specs.Crash.{Content, Elapses, Only};
 ghost use Rattle.dap_file.specs.Calls.{call_failures, content_of, read_failures, step_after};
-ghost use Rattle.dap_file.specs.Calls.{IsLonger, IsRenamed, IsUnchanged, KeepsTarget, MayBeRenamed};
+ghost use Rattle.dap_file.specs.Calls.{FitsIn, IsLonger, IsRenamed, IsUnchanged, KeepsTarget};
+ghost use Rattle.dap_file.specs.Calls.{MayBeRenamed};
 
 use std::alloc::Global;
 
@@ -79,7 +80,7 @@ pub trait Replaceable {
     ///
     /// - `Failed`: a call on the file system failed.
     /// - `TooLong`: the file has more than `limit` bytes.
-    /// - `Memory`: an allocation failed.
+    /// - `Memory`: an allocation failed. There is a file, and it is not too long.
     fn read(&mut self, alloc: Global, limit: u64) -> Result<Option<Vec<u8>>, ReadFault>
         requires { failures self.old < 2 ^ 63 }
         ensures within { IfOk result (λ found. IfSome found (λ bytes. length bytes.items ≤ limit)) }
@@ -90,6 +91,8 @@ pub trait Replaceable {
             → IfOk result (λ found. content_of found ≡ target self.old) }
         ensures too_long { is_known self.old
             → IsErrOf result ReadFault.TooLong → IsLonger limit (target self.old) }
+        ensures memory { is_known self.old
+            → IsErrOf result ReadFault.Memory → FitsIn limit (target self.old) }
         ensures target { is_known self.old → KeepsTarget target may_leave self.old self.new }
         ensures temporary { is_known self.old → temporary self.new ≡ temporary self.old }
         ensures time { is_known self.old

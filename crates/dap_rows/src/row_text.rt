@@ -1,5 +1,6 @@
 //! The lines of the profile's rows.
-ghost use Rattle.std.specs.Prelude.{◌≡◌, ◌++◌, IfOk, OnOk, codes, option_map, string_bytes};
+ghost use Rattle.std.specs.Prelude.{◌≡◌, ◌++◌, [], false, IfOk, IsOk, OnOk, codes, option_map};
+ghost use Rattle.std.specs.Prelude.{string_bytes};
 ghost use Rattle.dap_profile.specs.PlaceSteps.{steps_of};
 ghost use Rattle.dap_profile.specs.ProfileRows.{row_of};
 ghost use Rattle.dap_rows.specs.RowLines.{asked_line, has_number, kind_word, lines_of};
@@ -102,9 +103,11 @@ fn has_number(row: &Row, number: Option<&str>) -> bool
 
 /// Appends the line of a row that is asked for.
 fn push_asked(out: &mut String, row: &Row, number: Option<&str>) -> Result<(), AllocError>
-    ensures { OnOk result (string_bytes out.new
+    ensures line { OnOk result (string_bytes out.new
         ≡ string_bytes out.old
         ++ asked_line (option_map (λ s. s.now) number.entry) (row_of row.now)) }
+    ensures skipped { has_number (option_map (λ s. s.now) number.entry) (row_of row.now) ≡ false
+        → IsOk result }
 {
     if has_number(row, number) {
         push_row(out, row)
@@ -116,15 +119,16 @@ fn push_asked(out: &mut String, row: &Row, number: Option<&str>) -> Result<(), A
 /// The rows of the profile in lines, or the one with the number that the text writes.
 ///
 /// A line is the row's number, the kind and the name of the messages that it is asked of (`*` is
-/// any), its place, whether it is needed, and what is to stand there. No row has the number: the
-/// answer is empty.
+/// any), its place, whether it is needed, and what is to stand there. If no row has the number, the
+/// result is empty and nothing is allocated.
 ///
 /// # Errors
 ///
-/// Memory was refused.
+/// An allocation failed.
 pub fn row_lines(alloc: Global, number: Option<&str>) -> Result<String, AllocError>
-    ensures { IfOk result (λ lines. string_bytes lines
+    ensures lines { IfOk result (λ lines. string_bytes lines
         ≡ lines_of (option_map (λ s. s.now) number.entry)) }
+    ensures none { lines_of (option_map (λ s. s.now) number.entry) ≡ [] → IsOk result }
 {
     let mut out = String::new(alloc);
     let rows: &[Row] = profile_rows();

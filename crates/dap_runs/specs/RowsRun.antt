@@ -1,5 +1,5 @@
 -- What the program tells of rows of the profile. Source: own.
-use Rattle.std.specs.Prelude.{◌≡◌, ◌⊎◌, ℕ, List, [], Result, Ok, Err, codes}
+use Rattle.std.specs.Prelude.{◌≡◌, ◌≢◌, ◌⊎◌, ℕ, List, [], Result, Ok, Err, codes}
 use Rattle.dap_device.specs.declared.device.Sink.{Ghosts as Sink}
 use Rattle.dap_device.specs.Written.{AllSent, FrontWritten}
 use Rattle.dap_input.specs.declared.refused.Refused.{Refused}
@@ -19,11 +19,10 @@ RowsArePrinted sink lines before after (Err WriteFault) = FrontWritten sink befo
 RowsArePrinted sink lines before after (Err Memory) = after ≡ before
 RowsArePrinted sink lines before after (Err refused) = ⊥
 
--- Where there are lines they are printed, and what is refused is told. Where there is none that is
--- told as a mistake of the user, if memory does not want.
+-- If there are lines, they are printed, and an error is reported. If there are none, that is reported
+-- as a mistake of the user, and never a failed allocation: no line is known without any growth.
 abbrev pub TellsRows : {W E : Type 0} → Sink W → Sink E → List ℕ → W → W → E → E → ℕ → Type 0
 TellsRows sink errors lines before after old new status =
-    Answered (λ answer. (lines ≡ [] → answer ≡ Err Memory)
-    × RowsArePrinted sink lines before after answer)
+    Answered (λ answer. (lines ≢ []) × RowsArePrinted sink lines before after answer)
     (IsTold errors old new) status
     ⊎ ((lines ≡ []) × (status ≡ 3) × (after ≡ before) × HasSent errors old new no_row)
