@@ -4,9 +4,10 @@
 //! the tree breaks. In a message the numbers that the protocol hands out (sequence numbers, frame
 //! ids, variables references, thread ids, breakpoint ids) are marked as ids, and the capabilities
 //! that an adapter left out are false. `specs/` says what that means, and [`laws`] has the
-//! theorems.
+//! theorems. [`AnyMessage`] is a message in whatever form its document is held.
 #![tactic(auto)]
 
+mod any_message;
 mod asked_rows;
 mod broken_rows;
 mod capabilities;
@@ -20,6 +21,7 @@ mod message;
 mod typing;
 mod views;
 
+pub use any_message::AnyMessage;
 pub use dap_profile::{Kind, PROFILE, Place, Row, Want};
 pub use dap_tree::Side;
 pub use fault::MessageFault;

@@ -132,6 +132,19 @@ impl Message {
         tree
     }
 
+    /// Returns the tree of the message, with its ids marked. Does not allocate.
+    pub(crate) fn into_tree(self) -> Tree
+        ensures doc { view result ≡ doc_of self }
+        ensures sound { is_sound (view result) ≡ true }
+    {
+        let Message {
+            side: _,
+            kind: _,
+            tree,
+        } = self;
+        tree
+    }
+
     /// The canonical content: JSON without spaces, the members in the byte order of their names, an
     /// id as its number.
     ///

@@ -3,7 +3,8 @@ use Rattle.std.proofs.Common.{◌≡◌, ℕ, suc, ◌+◌, ◌<◌, ◌≤◌, 
 use Rattle.std.proofs.Common.{◌∷◌, ◌++◌}
 use Rattle.std.proofs.Common.{length, take, drop, get_or, Option, Some, None, MatchOption}
 use Rattle.std.proofs.Common.{is_some}
-use Rattle.std.proofs.Common.{refl, sym, ◌∙◌, ap, subst, arith, true≢false, take-append-drop}
+use Rattle.std.proofs.Common.{refl, sym, ◌∙◌, ap, ap₂, subst, arith, true≢false}
+use Rattle.std.proofs.Common.{take-append-drop}
 use Rattle.std.proofs.Common.{append_assoc, append-nil}
 use Rattle.std.proofs.lemmas.Bool.{and_parts, and_from}
 use Rattle.std.proofs.lemmas.Bool.Decides.{Decides-int_eq}
@@ -113,6 +114,17 @@ none_found ps k d None h r m s = renaming_step ps k d h r m
 none_found ps k d (Some f) h r m s = absurd (true≢false s)
 
 -- ---- equal places
+
+-- of no numbers there are no pairs
+pub no_names : (cs : List Class) (f g : Class → List ℤ) → ((c : Class) → f c ≡ [])
+    → names_of_classes cs f g ≡ []
+no_names [] f g h = refl
+no_names (c ∷ cs) f g h =
+    ap₂ (λ t u. t ++ u) (ap (λ xs. pairs_of_class c xs (g c)) (h c)) (no_names cs f g h)
+
+pub no_entries : (ps : List Pair) → entries ps ≡ [] → ps ≡ []
+no_entries [] h = refl
+no_entries (p ∷ ps) h = cc
 
 pub names-append : (cs ds : List Class) (f g : Class → List ℤ)
     → names_of_classes (cs ++ ds) f g ≡ names_of_classes cs f g ++ names_of_classes ds f g

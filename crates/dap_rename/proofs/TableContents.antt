@@ -1,6 +1,6 @@
 -- What the tables hold and give are the numbers of the classes and their names.
 use Rattle.std.proofs.Common.{◌≡◌, ℕ, zero, suc, ◌+◌, ◌<◌, ◌≤◌, ℤ, pos, Bool, true, false, cond}
-use Rattle.std.proofs.Common.{eqb, take, Result, Ok, Err, OnErr, is_err}
+use Rattle.std.proofs.Common.{eqb, take, Result, Ok, Err, OnOk, OnErr, is_err}
 use Rattle.std.proofs.Common.{List, [], ◌∷◌, ◌++◌, length, map, zip, get_or, refl, sym, ◌∙◌, ap}
 use Rattle.std.proofs.Common.{subst, arith, append_assoc, append-nil, true≢false}
 use Rattle.std.specs.List.{position_or_len}
@@ -11,13 +11,15 @@ use Rattle.dap_tree.specs.Ids.{ids, sorts_of, skeleton}
 use Rattle.dap_tree.specs.declared.sort.Sort.{Sort}
 use Rattle.dap_tree.specs.declared.sort.Sort.TheVariants.{Frame, Reference}
 use Rattle.dap_tree.proofs.Booleans.{and_both}
+use Rattle.dap_tree.proofs.IdNumbers.{skeleton-with}
 use Rattle.dap_message.specs.Message.{Sent}
-use Rattle.dap_message.specs.Numbers.{is_proper_number, are_proper}
+use Rattle.dap_message.specs.Numbers.{is_proper_number, are_proper, renumbered}
+use Rattle.dap_message.proofs.RenumberedMessages.{ids-with}
 use Rattle.dap_names.specs.Numbering.{add, add_all, numbers, table, name, named}
 use Rattle.dap_rename.specs.Messages.{Class, same_class, class_after, occurrence}
 use Rattle.dap_rename.specs.Sorts.{same_sort}
 use Rattle.dap_rename.specs.Messages.{occurrences, numbers_of_class, stops_after}
-use Rattle.dap_rename.specs.Messages.{HasFewIds, HasTooManyIds, IsRenamed}
+use Rattle.dap_rename.specs.Messages.{HasFewIds, HasTooManyIds, IsRenamed, with_numbers}
 use Rattle.dap_names.specs.Table.{place}
 use Rattle.dap_rename.specs.Tables.{Lists, table_of, added, added_all, names_from, lists}
 use Rattle.dap_rename.specs.Tables.{limits, AllFit, SomeIsOver}
@@ -337,3 +339,20 @@ renamed stop ms m new l side skel numbered h = record {
   names = ap (map (occurrence (stops_after stop 0 ms))) numbered
       ∙ named_ids_are (stops_after stop 0 ms) l (occurrences stop 0 ms) (ids m.doc) h;
 }
+
+-- it, where the names are put at the ids
+pub renamed_with : (stop : Sent → ℕ) (ms : List Sent) (m : Sent) (l : Lists) (ns : List ℤ)
+    → ns ≡ names_from l (ids m.doc)
+    → StandAfter (stops_after stop 0 ms) l (occurrences stop 0 ms)
+    → IsRenamed stop ms m (with_numbers m ns)
+renamed_with stop ms m l ns named h =
+    let count : length ns ≡ length (ids m.doc) =
+    ap length named ∙ count_names l (ids m.doc) in
+    renamed stop ms m (with_numbers m ns) l refl (skeleton-with m.doc ns)
+    (ids-with m.doc ns count ∙ ap (renumbered m.doc) named) h
+
+-- two facts of an `Ok` give a third
+pub on_ok_both : {V E P Q R : Type 0} (r : Result V E) → OnOk r P → OnOk r Q → (P → Q → R)
+    → OnOk r R
+on_ok_both (Ok v) p q f = f p q
+on_ok_both (Err e) p q f = tt

@@ -56,6 +56,10 @@ AreProper ms = AllByRecursion (λ m. is_proper m.doc ≡ true) ms
 abbrev pub message_skeleton : Sent → Sent
 message_skeleton m = record { side = m.side; doc = skeleton m.doc }
 
+-- The message with the i-th number at its i-th id.
+abbrev pub with_numbers : Sent → List ℤ → Sent
+with_numbers m ns = record { side = m.side; doc = with_ids m.doc ns }
+
 -- The names of the ids of a message behind these occurrences and so many stops.
 abbrev pub names_of : List (Class × ℤ) → ℕ → Sent → List ℤ
 names_of before stops m =

@@ -63,6 +63,10 @@ module _ {T : Type 0} (stop : Sent → ℕ) (numbers : T → List ℤ) (limit : 
 abbrev pub StandFor : {T : Type 0} → (T → List ℤ) → (T → ℕ) → Names T → List Sent → Type 0
 StandFor numbers limit names = StandWith (stop_in (mode_of names)) numbers limit names
 
+-- No number has a name, in any class.
+abbrev pub HaveNoNumbers : {T : Type 0} → (T → List ℤ) → Names T → Type 0
+HaveNoNumbers numbers names = (c : Class) → numbers_at numbers names c ≡ []
+
 module _ {T : Type 0} (numbers : T → List ℤ) where
   -- The names are as before.
   pub record AreUnchanged (old new : Names T) : Type 0 where

@@ -1,9 +1,8 @@
 //! Where names begin again.
 ghost use Rattle.std.specs.Prelude.{◌≡◌, cond};
-ghost use Rattle.dap_message.specs.Message.{sent};
 ghost use Rattle.dap_rename.specs.Modes.{is_stopped, stop_in};
 
-use dap_message::{Kind, Message};
+use dap_message::{AnyMessage, Kind};
 
 /// What the name of an id is fixed to.
 ///
@@ -19,8 +18,8 @@ pub enum Mode {
 }
 
 /// Whether the names of frames and references begin again behind the message.
-pub(crate) fn begin_again_behind(mode: Mode, message: &Message) -> bool
-    ensures { stop_in mode (sent message.now) ≡ cond result 1 0 }
+pub(crate) fn begin_again_behind<M: AnyMessage>(mode: Mode, message: &M) -> bool
+    ensures { stop_in mode (M.sent message.now) ≡ cond result 1 0 }
 {
     match mode {
         Mode::Whole => false,
@@ -28,8 +27,8 @@ pub(crate) fn begin_again_behind(mode: Mode, message: &Message) -> bool
     }
 }
 
-fn is_stopped(message: &Message) -> bool
-    ensures { result ≡ is_stopped (sent message.now) }
+fn is_stopped<M: AnyMessage>(message: &M) -> bool
+    ensures { result ≡ is_stopped (M.sent message.now) }
 {
     match message.kind() {
         Kind::Event => message.name() == "stopped",

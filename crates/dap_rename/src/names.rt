@@ -1,15 +1,18 @@
 //! The names of the ids of messages, in the order in which they come.
-ghost use Rattle.std.specs.Prelude.{◌≡◌, ◌+◌, ◌<◌, ◌≤◌, List, [], ◌∷◌, ◌++◌, pos, length, Err};
-ghost use Rattle.std.specs.Prelude.{IfOk, OnOk, OnErr, MatchOption, slice_index_or};
+ghost use Rattle.std.specs.Prelude.{◌≡◌, ◌+◌, ◌<◌, ◌≤◌, List, [], ◌∷◌, ◌++◌, pos, length, true};
+ghost use Rattle.std.specs.Prelude.{Err, IfOk, OnOk, OnErr, MatchOption, slice_index_or};
+ghost use Rattle.dap_tree.specs.Ids as documents;
 ghost use Rattle.dap_message.specs.Message.{Sent, sent};
+ghost use Rattle.dap_message.specs.Numbers.{are_proper, renumbered};
 ghost use Rattle.dap_rename.specs.Messages.{HasFewIds, HasTooManyIds, IsRenamed, class_after};
+ghost use Rattle.dap_rename.specs.Messages.{with_numbers};
 ghost use Rattle.dap_rename.specs.Modes.{stop_in};
 ghost use Rattle.dap_rename.specs.Tables.{lists, added_all, names_from, limits, AllFit, SomeIsOver};
 
 use crate::mode::{Mode, begin_again_behind};
 use crate::past::{PastClasses, numbers_of};
 use crate::tables::Tables;
-use dap_message::Message;
+use dap_message::{AnyMessage, Message};
 use dap_names::{NameFault, NameTable};
 use dap_tree::Sort;
 use std::alloc::{AllocError, Global};
@@ -68,12 +71,50 @@ impl<T: NameTable> Names<T> {
         ensures mode { mode_of self.new ≡ mode_of self.old }
         ensures limits { (s : Sort) → limit_in T.limit self.new s ≡ limit_in T.limit self.old s }
     {
-        let Ok(ids) = message.ids(self.alloc) else {
+        let names = self.name_message(&message)?;
+        Ok(message.replace_ids(names.as_slice()))
+    }
+
+    /// Returns the names of the ids of a message, in the order of its ids, whatever form its
+    /// document is held in. A new id gets the next name of its class. After a stop the names of the
+    /// next classes begin again.
+    ///
+    /// # Errors
+    ///
+    /// - `Full`: some class would have more names than the limit of its table.
+    /// - `Memory`: an allocation failed.
+    ///
+    /// On an error the names are as before.
+    pub fn name_message<M: AnyMessage>(&mut self, message: &M) -> Result<Vec<i64>, NameFault>
+        ensures renamed { IfOk result (λ names. (ms : List Sent)
+            → StandFor T.numbers T.limit self.old ms
+            → IsRenamed (stop_in (mode_of self.old)) ms (M.sent message.now)
+            (with_numbers (M.sent message.now) names.items)) }
+
+        // Each id has one name, and no name of a variables reference is 0.
+        ensures count { IfOk result
+            (λ names. length names.items ≡ length (documents.ids (M.sent message.now).doc)) }
+        ensures proper { IfOk result
+            (λ names. are_proper (renumbered (M.sent message.now).doc names.items) ≡ true) }
+        ensures stand { OnOk result ((ms : List Sent) → StandFor T.numbers T.limit self.old ms
+            → StandFor T.numbers T.limit self.new (ms ++ M.sent message.now ∷ [])) }
+        ensures few { OnOk result ((ms : List Sent) → StandFor T.numbers T.limit self.old ms
+            → HasFewIds (stop_in (mode_of self.old)) (limit_in T.limit self.old)
+            (ms ++ M.sent message.now ∷ [])) }
+        ensures full { result ≡ Err NameFault.Full → (ms : List Sent)
+            → StandFor T.numbers T.limit self.old ms
+            → HasTooManyIds (stop_in (mode_of self.old)) (limit_in T.limit self.old)
+            (ms ++ M.sent message.now ∷ []) }
+        ensures refused { OnErr result (AreUnchanged T.numbers self.old self.new) }
+        ensures mode { mode_of self.new ≡ mode_of self.old }
+        ensures limits { (s : Sort) → limit_in T.limit self.new s ≡ limit_in T.limit self.old s }
+    {
+        let mut ids = Vec::new(self.alloc);
+        let Ok(()) = message.add_ids(&mut ids) else {
             return Err(NameFault::Memory);
         };
-        let stops = begin_again_behind(self.mode, &message);
-        let names = self.name_ids(ids.as_slice(), stops)?;
-        Ok(message.replace_ids(names.as_slice()))
+        let stops = begin_again_behind(self.mode, message);
+        self.name_ids(ids.as_slice(), stops)
     }
 
     /// Where the names begin again. Takes no memory.

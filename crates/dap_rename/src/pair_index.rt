@@ -1,5 +1,6 @@
 //! The check that pairs are a renaming, and an index that finds pairs by class and both numbers.
 ghost use Rattle.std.specs.Prelude.{◌≡◌, suc, List, [], ◌∷◌, ◌++◌, length, MatchOption, IfOk};
+ghost use Rattle.std.specs.Prelude.{IsOk};
 ghost use Rattle.std.specs.List.{range_with_len};
 ghost use Rattle.dap_rename.specs.Carrying.{has_pair};
 ghost use Rattle.dap_rename.specs.PairIndex.{key, pair_key, key_at};
@@ -27,7 +28,8 @@ impl PairIndex {
     /// The index of the pairs, which takes 8 bytes a pair. Where they ascend it takes n steps, and
     /// else n log n.
     pub(crate) fn new(alloc: Global, pairs: &[Pair]) -> Result<PairIndex, AllocError>
-        ensures { IfOk result (IsIndexOf pairs.now) }
+        ensures index { IfOk result (IsIndexOf pairs.now) }
+        ensures empty { pairs.now ≡ [] → IsOk result }
     {
         let mut places = places_below(alloc, pairs.len())?;
         places.sort_unstable_by_key(|place| key_at(pairs, *place));
@@ -49,8 +51,12 @@ impl PairIndex {
 
 // The places below the count, in ascending order.
 fn places_below(alloc: Global, count: usize) -> Result<Vec<usize>, AllocError>
-    ensures { IfOk result (λ places. places.items ≡ range_with_len 0 count) }
+    ensures places { IfOk result (λ places. places.items ≡ range_with_len 0 count) }
+    ensures empty { count ≡ 0 → IsOk result }
 {
+    if count == 0 {
+        return Ok(Vec::new(alloc));
+    }
     (0..count).collect(alloc)
 }
 
@@ -117,8 +123,9 @@ impl SeenPairs {
 /// The fault of the first of the pairs that fails, or none where they are a renaming. That no
 /// memory was to be had says nothing of them.
 pub(crate) fn seen_fault(alloc: Global, pairs: &[Pair]) -> Result<Option<PairFault>, AllocError>
-    ensures { IfOk result (λ told. MatchOption told
+    ensures told { IfOk result (λ told. MatchOption told
         (AreRenaming pairs.now) (FailsFirst pairs.now)) }
+    ensures empty { pairs.now ≡ [] → IsOk result }
 {
     let mut seen = SeenPairs {
         taken: BTreeSet::new(alloc),

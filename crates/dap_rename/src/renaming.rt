@@ -1,10 +1,11 @@
 //! Renamings: made of pairs or between two tables, and asked whether they carry messages.
-ghost use Rattle.std.specs.Prelude.{◌≡◌, ◌++◌, ◌↔◌, List, length, map, IsTrue, MatchOption, IfOk};
-ghost use Rattle.std.specs.Prelude.{IfErr, OnOk};
+ghost use Rattle.std.specs.Prelude.{◌≡◌, ◌++◌, ◌↔◌, List, [], length, map, IsTrue, MatchOption};
+ghost use Rattle.std.specs.Prelude.{IfErr, IfOk, IsOk, OnOk};
 ghost use Rattle.dap_message.specs.Message.{Sent, sent};
 ghost use Rattle.dap_rename.specs.Messages.{Carries, classes_of_sort, equal_places, same_class};
 ghost use Rattle.dap_rename.specs.Modes.{stop_in};
-ghost use Rattle.dap_rename.specs.Names.{StandFor, HaveEqualCounts, mode_of, stops_of, numbers_at};
+ghost use Rattle.dap_rename.specs.Names.{StandFor, HaveEqualCounts, HaveNoNumbers, mode_of};
+ghost use Rattle.dap_rename.specs.Names.{numbers_at, stops_of};
 ghost use Rattle.dap_rename.specs.Carrying.{has_pair};
 ghost use Rattle.dap_rename.specs.PairIndex.{IsIndexOf};
 ghost use Rattle.dap_rename.specs.Pairs.{AreRenaming, class_of, entries, is_taken, is_given};
@@ -35,10 +36,13 @@ impl Renaming {
 
     /// The renaming of these pairs. It is refused if they are none: if there is no such class, or
     /// some class has one number twice on either side, or a variables reference is 0.
+    ///
+    /// An empty list of pairs takes no memory.
     pub fn new(alloc: Global, pairs: &[Pair]) -> Result<Renaming, PairFault>
         ensures pairs { IfOk result (λ r. pairs_of r ≡ pairs.now) }
         ensures renaming { OnOk result (AreRenaming pairs.now) }
         ensures refused { IfErr result (RefusesPairs pairs.now) }
+        ensures empty { pairs.now ≡ [] → IsOk result }
     {
         match seen_fault(alloc, pairs) {
             Ok(None) => match Renaming::copied(alloc, pairs) {
@@ -52,14 +56,18 @@ impl Renaming {
 
     // A copy of the pairs, with its index.
     fn copied(alloc: Global, pairs: &[Pair]) -> Result<Renaming, AllocError>
-        ensures { IfOk result (λ r. pairs_of r ≡ pairs.now) }
+        ensures pairs { IfOk result (λ r. pairs_of r ≡ pairs.now) }
+        ensures empty { pairs.now ≡ [] → IsOk result }
     {
-        Renaming::indexed(alloc, Vec::from_slice(alloc, pairs)?)
+        let mut copy = Vec::with_capacity(alloc, pairs.len())?;
+        copy.extend_from_slice(pairs)?;
+        Renaming::indexed(alloc, copy)
     }
 
     // The pairs, with their index.
     fn indexed(alloc: Global, pairs: Vec<Pair>) -> Result<Renaming, AllocError>
-        ensures { IfOk result (λ r. pairs_of r ≡ pairs.items) }
+        ensures pairs { IfOk result (λ r. pairs_of r ≡ pairs.items) }
+        ensures empty { pairs.items ≡ [] → IsOk result }
     {
         let index = PairIndex::new(alloc, pairs.as_slice())?;
         Ok(Renaming { pairs, index })
@@ -76,7 +84,7 @@ impl Renaming {
     /// then of the names.
     ///
     /// The only fault is `Memory`. Beside the pairs it takes 8 bytes a pair, for the index by which
-    /// [`carries`](Renaming::carries) looks each id up.
+    /// [`carries`](Renaming::carries) looks each id up. If no number has a name, it takes no memory.
     pub fn between<T: NameTable>(
         alloc: Global,
         from: &Names<T>,
@@ -89,6 +97,7 @@ impl Renaming {
             → StandFor T.numbers T.limit from.now ms → StandFor T.numbers T.limit to.now ns
             → entries (pairs_of r) ≡ equal_places (stop_in (mode_of from.now)) ms ns) }
         ensures memory { IfErr result (λ f. f ≡ NameFault.Memory) }
+        ensures empty { HaveNoNumbers T.numbers from.now → IsOk result }
     {
         let mut pairs = Vec::new(alloc);
         for sort in SORTS {
@@ -184,9 +193,10 @@ fn add_sort<T: NameTable>(
     to: &Names<T>,
 ) -> Result<(), AllocError>
     requires { HaveEqualCounts T.numbers from.now to.now }
-    ensures { OnOk result (entries pairs.new.items ≡ entries pairs.old.items
+    ensures added { OnOk result (entries pairs.new.items ≡ entries pairs.old.items
         ++ names_of_classes (classes_of_sort (stops_of from.now) sort)
         (numbers_at T.numbers from.now) (numbers_at T.numbers to.now)) }
+    ensures empty { HaveNoNumbers T.numbers from.now → IsOk result }
 {
     let last = from.last(sort);
     for stop in 0..last {
@@ -202,9 +212,10 @@ fn add_class<T: NameTable>(
     to: &Names<T>,
 ) -> Result<(), AllocError>
     requires { HaveEqualCounts T.numbers from.now to.now }
-    ensures { OnOk result (entries pairs.new.items ≡ entries pairs.old.items
+    ensures added { OnOk result (entries pairs.new.items ≡ entries pairs.old.items
         ++ pairs_of_class class (numbers_at T.numbers from.now class)
         (numbers_at T.numbers to.now class)) }
+    ensures empty { HaveNoNumbers T.numbers from.now → IsOk result }
 {
     let (sort, stop) = class;
     for index in 0..from.len_at(sort, stop) {

@@ -1,14 +1,13 @@
-//! What the rules ask of one message, read from its tree once.
+//! What the rules ask of one message, read once.
 ghost use Rattle.std.specs.Prelude.{◌≡◌};
-ghost use Rattle.dap_message.specs.Message.{sent};
 ghost use Rattle.dap_session.specs.Messages as words;
 
-use dap_message::{Kind, Message, Side};
+use dap_message::{AnyMessage, Kind, Message, Side};
 
 /// What the rules ask of one message.
 #[derive(Drop)]
-pub struct Envelope<'m> {
-    pub message: &'m Message,
+pub struct Envelope<'m, M: AnyMessage = Message> {
+    pub message: &'m M,
     pub side: Side,
     pub kind: Kind,
     /// The command of a request or response, the name of an event.
@@ -18,17 +17,17 @@ pub struct Envelope<'m> {
     pub request_seq: Option<i64>,
     /// Whether a response tells success.
     pub success: Option<bool>,
-    ghost side_is: { side ≡ words.side_of (sent message.now) },
-    ghost kind_is: { kind ≡ words.kind_of (sent message.now) },
-    ghost name_is: { name.now ≡ words.name_of (sent message.now) },
-    ghost seq_is: { seq ≡ words.seq_of (sent message.now) },
-    ghost request_seq_is: { request_seq ≡ words.request_seq_of (sent message.now) },
-    ghost success_is: { success ≡ words.success_of (sent message.now) },
+    ghost side_is: { side ≡ words.side_of (M.sent message.now) },
+    ghost kind_is: { kind ≡ words.kind_of (M.sent message.now) },
+    ghost name_is: { name.now ≡ words.name_of (M.sent message.now) },
+    ghost seq_is: { seq ≡ words.seq_of (M.sent message.now) },
+    ghost request_seq_is: { request_seq ≡ words.request_seq_of (M.sent message.now) },
+    ghost success_is: { success ≡ words.success_of (M.sent message.now) },
 }
 
 /// Reads what the rules ask of a message.
 #[tactic(auto, unfolding(crate::specs::Messages::side_of, crate::specs::Messages::kind_of, crate::specs::Messages::name_of, crate::specs::Messages::seq_of, crate::specs::Messages::request_seq_of, crate::specs::Messages::success_of,))]
-pub fn envelope_of(message: &Message) -> Envelope<'_>
+pub fn envelope_of<M: AnyMessage>(message: &M) -> Envelope<'_, M>
     ensures { result.message.now ≡ message.now }
 {
     Envelope {

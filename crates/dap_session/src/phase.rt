@@ -6,7 +6,7 @@ ghost use Rattle.dap_session.specs.Kept as kept;
 
 use crate::envelope::Envelope;
 use crate::message::{is_client_initialize, is_from, is_response, request_seq_of, seq_of};
-use dap_message::Side;
+use dap_message::{AnyMessage, Side};
 
 /// How far the client's `initialize` request has come.
 #[derive(Clone, Copy)]
@@ -33,7 +33,7 @@ impl Phase {
     }
 
     /// Whether the message answers the request.
-    fn is_answered_by(&self, message: &Envelope<'_>) -> bool
+    fn is_answered_by<M: AnyMessage>(&self, message: &Envelope<'_, M>) -> bool
         ensures { result ≡ kept.answers_asked self.now (message_of message.now) }
     {
         match self {
@@ -47,7 +47,7 @@ impl Phase {
     }
 
     /// How far it has come after one more message.
-    pub fn after(&self, message: &Envelope<'_>) -> Phase
+    pub fn after<M: AnyMessage>(&self, message: &Envelope<'_, M>) -> Phase
         ensures { result ≡ kept.phase_after self.now (message_of message.now) }
     {
         if is_client_initialize(message) {

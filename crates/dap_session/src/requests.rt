@@ -9,7 +9,7 @@ ghost use Rattle.dap_session.specs.RequestSteps.{FitsRequests, adds_to};
 
 use crate::envelope::Envelope;
 use crate::message::{is_from, is_request, is_response, name_of, request_seq_of, seq_of};
-use dap_message::Side;
+use dap_message::{AnyMessage, Side};
 use std::alloc::{AllocError, Global};
 use std::collections::{BTreeMap, BTreeSet};
 use std::marker::Model;
@@ -104,7 +104,11 @@ impl Requests {
     }
 
     /// Keeps what a message asks or answers here.
-    pub fn note(&mut self, side: Side, message: &Envelope<'_>) -> Result<(), AllocError>
+    pub fn note<M: AnyMessage>(
+        &mut self,
+        side: Side,
+        message: &Envelope<'_, M>,
+    ) -> Result<(), AllocError>
         requires { FitsRequests side self.old (message_of message.now) }
         ensures ok { OnOk result
             (self.new ≡ requests_after side self.old (message_of message.now)) }

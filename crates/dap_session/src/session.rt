@@ -17,7 +17,7 @@ use crate::message::{
 use crate::phase::Phase;
 use crate::requests::Requests;
 use crate::rule::{Rule, SessionFault};
-use dap_message::{Message, Side};
+use dap_message::{AnyMessage, Message, Side};
 use std::alloc::{AllocError, Global};
 use std::marker::Model;
 
@@ -73,6 +73,27 @@ impl Session {
         ensures in_rules { IsErrOf result SessionFault.Memory → (ms : List Sent)
             → Stands self.old ms → first_broken ms (sent message.now) ≡ None }
     {
+        self.accept_any(message)
+    }
+
+    /// Accepts the message as the next one, as [`accept`](Session::accept) does, whatever form its
+    /// document is held in.
+    ///
+    /// # Errors
+    ///
+    /// - `Broken`: the first rule that the message breaks.
+    /// - `Memory`: an allocation failed. The message is a request that breaks no rule.
+    ///
+    /// On an error the session is as it was.
+    pub fn accept_any<M: AnyMessage>(&mut self, message: &M) -> Result<(), SessionFault>
+        ensures says { (ms : List Sent) → Stands self.old ms
+            → Says ms (M.sent message.now) result self.old self.new }
+        ensures unchanged { OnErr result (self.new ≡ self.old) }
+        ensures memory { IsErrOf result SessionFault.Memory
+            → is_request (M.sent message.now) ≡ true }
+        ensures in_rules { IsErrOf result SessionFault.Memory → (ms : List Sent)
+            → Stands self.old ms → first_broken ms (M.sent message.now) ≡ None }
+    {
         let message = &envelope_of(message);
         if let Some(rule) = self.broken_by(message) {
             return Err(SessionFault::Broken(rule));
@@ -100,7 +121,7 @@ impl Session {
     }
 
     /// The command of the request that a response answers, and whether it is answered.
-    fn asked_for(&self, message: &Envelope<'_>) -> Option<(&str, bool)>
+    fn asked_for<M: AnyMessage>(&self, message: &Envelope<'_, M>) -> Option<(&str, bool)>
         ensures { option_map (λ a. (a.0.now, a.1)) result
             ≡ asked_for self.now (message_of message.now) }
     {
@@ -116,7 +137,12 @@ impl Session {
     /// Whether the message breaks the rule. `asked` is the request that it answers, as
     /// [`Self::asked_for`] tells it.
     #[tactic(auto, unfolding(crate::specs::KeptRules::tells))]
-    fn breaks(&self, rule: Rule, message: &Envelope<'_>, asked: Option<(&str, bool)>) -> bool
+    fn breaks<M: AnyMessage>(
+        &self,
+        rule: Rule,
+        message: &Envelope<'_, M>,
+        asked: Option<(&str, bool)>,
+    ) -> bool
         requires { option_map (λ a. (a.0.now, a.1)) asked
             ≡ asked_for self.now (message_of message.now) }
         ensures { result ≡ tells rule self.now (message_of message.now) }
@@ -154,7 +180,7 @@ impl Session {
 
     /// The first rule that the message breaks.
     #[tactic(auto, unfolding(crate::specs::KeptRules::first_told))]
-    fn broken_by(&self, message: &Envelope<'_>) -> Option<Rule>
+    fn broken_by<M: AnyMessage>(&self, message: &Envelope<'_, M>) -> Option<Rule>
         ensures { result ≡ first_told self.now (message_of message.now) }
     {
         if is_output(message) {
@@ -182,7 +208,7 @@ impl Session {
     }
 
     /// Keeps what the rules need to know of a message that breaks none.
-    fn keep(&mut self, message: &Envelope<'_>) -> Result<(), AllocError>
+    fn keep<M: AnyMessage>(&mut self, message: &Envelope<'_, M>) -> Result<(), AllocError>
         requires { first_told self.old (message_of message.now) ≡ None }
         ensures ok { OnOk result (self.new ≡ kept_after self.old (message_of message.now)) }
         ensures err { OnErr result (self.new ≡ self.old) }

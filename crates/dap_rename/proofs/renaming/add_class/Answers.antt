@@ -26,8 +26,8 @@ loop-index-preserved g c =
     (c.requires.classes class) c.number_at.ensures c.number_at-in-loop-index.ensures
     c.loop-index.invariant pushed
 
-pub returns : goal.returns
-returns g c =
+pub returns-clause-added : goal.returns-clause-added
+returns-clause-added g c =
     let class = c.args.class in
     let xs = numbers_at g.T.NameTable.numbers c.args.from.now class in
     let ys = numbers_at g.T.NameTable.numbers c.args.to.now class in

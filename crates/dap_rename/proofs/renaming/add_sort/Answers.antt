@@ -16,10 +16,10 @@ loop-stop-preserved g c =
     ++ names_of_classes (first_classes c.args.sort n) from to) next
     (class_step c.args.sort k from to (entries c.args.pairs.now.items)
     (entries c.loop-stop.pairs.items) (entries c.add_class.new.pairs.items) c.loop-stop.invariant
-    c.in_ok-add_class.ensures)
+    c.in_ok-add_class.ensures.added)
 
-pub returns : goal.returns
-returns g c =
+pub returns-clause-added : goal.returns-clause-added
+returns-clause-added g c =
     let from = numbers_at g.T.NameTable.numbers c.args.from.now in
     let to = numbers_at g.T.NameTable.numbers c.args.to.now in
     let all : c.loop-stop.stop ≡ c.last-last.result =
@@ -35,4 +35,4 @@ returns g c =
     ++ names_of_classes (first_classes c.args.sort (suc n)) from to) last
     (class_step c.args.sort c.last-last.result from to (entries c.args.pairs.now.items)
     (entries c.loop-stop.pairs.items) (entries c.add_class-2.new.pairs.items) before h))
-    c.add_class-2.ensures
+    c.add_class-2.ensures.added

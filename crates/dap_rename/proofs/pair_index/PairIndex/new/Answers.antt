@@ -6,8 +6,8 @@ use Rattle.dap_rename.specs.PairIndex.{key_at}
 use Rattle.dap_rename.proofs.PairIndexing.{places_sorted}
 use Rattle.dap_rename.proofs.pair_index.PairIndex.new.Goals as goal
 
-pub returns : goal.returns
-returns c =
+pub returns-clause-index : goal.returns-clause-index
+returns-clause-index c =
     let all : c.in_ok-places.places.items ≡ range_with_len 0 (length c.args.pairs.now) =
     search rules in
     places_sorted c.args.pairs.now (record { places = c.sort_unstable_by_key.new.self })

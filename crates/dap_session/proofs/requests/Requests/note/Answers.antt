@@ -10,12 +10,12 @@ use Rattle.dap_session.specs.EnvelopeView.{message_of}
 use Rattle.dap_session.proofs.requests.Requests.note.Goals as goal
 
 pub ask-requires : goal.ask-requires
-ask-requires c =
+ask-requires g c =
     let n : to_z w64 (of_z w64 c.seq_of.result) ≡ c.seq_of.result = grind (arith, to_z-of_z) in
     grind (arith, n, c.requires.asks)
 
 pub answer-requires : goal.answer-requires
-answer-requires c =
+answer-requires g c =
     let n : to_z w64 (of_z w64 c.in-Some.number) ≡ c.in-Some.number = grind (arith, to_z-of_z) in
     let away : is_from c.args.side (message_of c.args.message.now) ≡ false = grind arith in
     let there : is_from (other c.args.side) (message_of c.args.message.now) ≡ true =
@@ -25,7 +25,7 @@ answer-requires c =
     ∙ ap (λ (t : List ℕ). Some (t, false)) (sym c.name_of-in-Some.ensures))
 
 pub returns-in-Some-clause-ok : goal.returns-in-Some-clause-ok
-returns-in-Some-clause-ok c =
+returns-in-Some-clause-ok g c =
     let n : to_z w64 (of_z w64 c.in-Some.number) ≡ c.in-Some.number = grind (arith, to_z-of_z) in
     let away : is_from c.args.side (message_of c.args.message.now) ≡ false = grind arith in
     let there : is_from (other c.args.side) (message_of c.args.message.now) ≡ true =

@@ -7,7 +7,7 @@ use Rattle.dap_session.specs.EnvelopeView.{message_of}
 use Rattle.dap_session.proofs.session.Session.asked_for.Goals as goal
 
 pub returns-in-Client : goal.returns-in-Client
-returns-in-Client c =
+returns-in-Client g c =
     let n : to_z w64 (of_z w64 c.in-Some.number) ≡ c.in-Some.number = grind (arith, to_z-of_z) in
     c.find.ensures ∙ ap (λ (k : ℤ). request_numbered k c.self.inside.adapter) n
     ∙ asked_is c.args.self.now (message_of c.args.message.now) c.in-Some.number Client
@@ -15,7 +15,7 @@ returns-in-Client c =
     (ap (λ (k : Kept). k.adapter) c.self.view_is)
 
 pub returns-in-Adapter : goal.returns-in-Adapter
-returns-in-Adapter c =
+returns-in-Adapter g c =
     let n : to_z w64 (of_z w64 c.in-Some.number) ≡ c.in-Some.number = grind (arith, to_z-of_z) in
     c.find-in-Adapter.ensures ∙ ap (λ (k : ℤ). request_numbered k c.self.inside.client) n
     ∙ asked_is c.args.self.now (message_of c.args.message.now) c.in-Some.number Adapter

@@ -7,13 +7,13 @@ use Rattle.dap_session.specs.EnvelopeView.{message_of}
 use Rattle.dap_session.proofs.session.Session.keep.Goals as goal
 
 pub note-requires : goal.note-requires
-note-requires c =
+note-requires g c =
     subst (λ (es : Requests). FitsRequests Client es (message_of c.args.message.now))
     (sym (ap (λ (k : Kept). k.client) c.self.view_is))
     (may_follow c.args.self.now (message_of c.args.message.now) Client c.requires)
 
 pub note-requires-2 : goal.note-requires-2
-note-requires-2 c =
+note-requires-2 g c =
     subst (λ (es : Requests). FitsRequests Adapter es (message_of c.args.message.now))
     (sym (ap (λ (k : Kept). k.adapter) c.self.view_is))
     (may_follow c.args.self.now (message_of c.args.message.now) Adapter c.requires)
