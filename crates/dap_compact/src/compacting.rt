@@ -1,18 +1,19 @@
 //! Makes the contents of frames canonical.
-ghost use Rattle.std.specs.Prelude.{◌≡◌, ◌+◌, ◌<◌, ◌≤◌, ◌^◌, List, Result, Ok, Err};
+ghost use Rattle.std.specs.Prelude.{◌≡◌, ◌+◌, ◌<◌, ◌≤◌, ◌^◌, IsErrOf, List, Result, Ok, Err};
 ghost use Rattle.dap_tree.specs.Doc.{Doc};
 ghost use Rattle.dap_compact.specs.Compacting.{Compacts, Fits, compacting, text};
 ghost use Rattle.dap_compact.specs.CompactingSteps.{Appended, JudgesInput};
-ghost use Rattle.dap_input.specs.Engine.{Answers};
+ghost use Rattle.dap_input.specs.Engine.{Answers, ReadsNoneOrAll};
 ghost use Rattle.dap_input.specs.ItemReading.{StandsForFrame};
 ghost use Rattle.dap_input.specs.Limits.{AreSound};
 ghost use Rattle.dap_input.specs.RecordSteps.{IsAtStart};
 ghost use Rattle.dap_input.specs.Refusals.{IsRefused};
 
 use dap_device::{Sink, Source, write_and_flush};
+use dap_flat::append_canonical;
 use dap_frame::{FrameFault, Framer, write_frame};
 use dap_input::{Limits, Records, Refused};
-use dap_tree::{Scratch, TreeFault, read_tree_with, write_tree_to};
+use dap_tree::{Scratch, TreeFault};
 use std::alloc::Global;
 
 /// Room that is kept from record to record.
@@ -36,15 +37,12 @@ fn append_compact(
     ensures { (values : List Doc) → Fits limits values → out.old.items ≡ text values
         → Appended limits values number content.now result out.new.items }
 {
-    let tree = match read_tree_with(alloc, content, &mut room.scratch) {
-        Ok(tree) => tree,
+    room.text.clear();
+    match append_canonical(alloc, content, &mut room.scratch, &mut room.text) {
+        Ok(()) => {}
         Err(TreeFault::Json) => return Err(Refused::Json(number)),
         Err(TreeFault::Fraction) => return Err(Refused::Fraction(number)),
         Err(TreeFault::Memory) => return Err(Refused::Memory),
-    };
-    room.text.clear();
-    if write_tree_to(alloc, &tree, &mut room.text).is_err() {
-        return Err(Refused::Memory);
     }
     match write_frame(out, room.text.as_slice(), limits.frame) {
         Ok(()) => {}
@@ -119,6 +117,10 @@ pub fn compact<R: Source, W: Sink>(
     // nothing goes out. A fault of a device is answered exactly where that device failed.
     ensures answer { Answers R.Source W.Sink limits.input (Compacts limits)
         (IsRefused (compacting limits)) reader.old reader.new writer.old writer.new result }
+
+    // If memory was refused, nothing was read of the input, or all of it was.
+    ensures memory { IsErrOf result Refused.Memory
+        → ReadsNoneOrAll R.Source limits.input reader.old reader.new }
 
     // It takes at most one byte past the limit.
     ensures taken { R.given reader.new ≤ R.given reader.old + limits.input + 1 }

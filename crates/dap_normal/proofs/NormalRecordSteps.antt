@@ -1,5 +1,5 @@
 -- What the next record of an input may answer.
-use Rattle.std.proofs.Common.{◌≡◌, ℕ, ℤ, List, [], ◌∷◌, ◌++◌, Option, Some, None, Result}
+use Rattle.std.proofs.Common.{◌≡◌, ℕ, ℤ, ◌+◌, ◌≤◌, List, [], ◌∷◌, ◌++◌, Option, Some, None, Result}
 use Rattle.std.proofs.Common.{Ok, Err, refl, ◌∙◌, ap, subst, inl, inr, length, arith, append_assoc}
 use Rattle.dap_device.specs.declared.device.Source.{Ghosts as Source}
 use Rattle.dap_device.specs.Pieces.{HasComeSoFar}
@@ -13,13 +13,13 @@ use Rattle.dap_recording.specs.Recording.{IsOpenRecord}
 use Rattle.dap_recording.proofs.Records.{readable}
 use Rattle.dap_input.specs.InputSteps.{Says}
 use Rattle.dap_input.specs.ItemReading.{StandsForRecord, record_items}
-use Rattle.dap_input.specs.RecordSteps.{IsAtStart, IsNeeded, ReadsNext}
+use Rattle.dap_input.specs.RecordSteps.{Finds, IsAtStart, IsNeeded, ReadsNext}
 use Rattle.dap_input.specs.Refusals.{RefusesHeld}
 use Rattle.dap_rename.specs.declared.mode.Mode.{Mode}
 use Rattle.dap_input.specs.declared.limits.Limits.{Limits}
 use Rattle.dap_input.specs.declared.records.Records.{Records}
 use Rattle.dap_input.specs.declared.refused.Refused.{Refused}
-use Rattle.dap_input.specs.declared.refused.Refused.TheVariants.{Record}
+use Rattle.dap_input.specs.declared.refused.Refused.TheVariants.{Memory, Record}
 use Rattle.dap_input.proofs.InputLoop.{ReadsAs, StandsBehind}
 use Rattle.dap_input.proofs.InputLoop as loop
 use Rattle.dap_input.proofs.InputSteps as steps
@@ -104,13 +104,15 @@ module _ {T R : Type 0} {numbers : T → List ℤ} {table_limit : T → ℕ} (so
   Reads answer = ReadsNext (record_items limits.frame) (StandsForRecord limits.frame) source
       old.records new before after answer
 
-  stopped_for : (judge : Judge T) (answer : Result (Option WholeRecord) Refused)
+  -- the room for reading is that of `left`
+  stopped_for : (judge : Judge T) (left : NormalRecords T) (answer : Result (Option WholeRecord) Refused)
       (read : Reads answer) (because : Refused)
       → Says (accepting limits mode) (bytes ++ read.more) read.stop old.records.number because
       × ((n : ℕ) → because ≡ Record n Cut → read.stop ≡ Some End)
+      → (because ≡ Memory → new.number ≤ old.records.number + 1)
       → HasStoppedAt numbers table_limit source limits mode bytes messages normal old record
-      { records = new; judge = judge } before after because
-  stopped_for judge answer read because told = record {
+      { records = new; judge = judge; scratch = left.scratch } before after because
+  stopped_for judge left answer read because told last = record {
     more = read.more;
     stop = read.stop;
     came = read.came;
@@ -122,6 +124,7 @@ module _ {T R : Type 0} {numbers : T → List ℤ} {table_limit : T → ℕ} (so
         messages behind new before after answer read;
     says = told.0;
     cut = told.1;
+    last = last;
   }
 
   -- where the record is at hand, nothing has come
@@ -150,16 +153,19 @@ module _ {T R : Type 0} {numbers : T → List ℤ} {table_limit : T → ℕ} (so
 
   pub refused_read : (because : Refused) → Reads (Err because)
       → HasStoppedAt numbers table_limit source limits mode bytes messages normal old record
-      { records = new; judge = old.judge } before after because
+      { records = new; judge = old.judge; scratch = old.scratch } before after because
   refused_read because read =
-      stopped_for old.judge (Err because) read because
+      stopped_for old.judge old (Err because) read because
       (steps.refused_read (accepting limits mode) (record_items limits.frame) held_of
       (reads_records limits mode) (StandsForRecord limits.frame) source bytes old.records
       messages behind new before after because read)
+      (λ is. let same = (subst (λ b. Finds (record_items limits.frame)
+      (StandsForRecord limits.frame) old.records new (old.records.pieces.unread ++ read.more)
+      read.more read.stop (Err b)) is read.finds).1 in omega (arith, same))
 
   pub none_left : (text : List ℕ) → Reads (Ok None)
       → HasEnded numbers table_limit source limits mode bytes messages normal old record
-      { records = new; judge = old.judge } before after text text
+      { records = new; judge = old.judge; scratch = old.scratch } before after text text
   none_left text read =
       let end = steps.none_left (accepting limits mode) (record_items limits.frame) held_of
       (reads_records limits mode) (StandsForRecord limits.frame) source bytes old.records
@@ -179,7 +185,7 @@ module _ {T R : Type 0} {numbers : T → List ℤ} {table_limit : T → ℕ} (so
   -- ---- a record has come
 
   module _ (whole : WholeRecord) (read : Reads (Ok (Some whole))) (judge : Judge T)
-      (text longer : List ℕ) where
+      (left : NormalRecords T) (text longer : List ℕ) where
     abbrev Judged : Result (Unit {0}) Refused → Type 0
     Judged answer = (ms ns : List Sent) → StandsFor numbers table_limit old.judge ms ns
         → JudgesRecord numbers table_limit ms ns (held_of whole) old.records.number old.judge judge
@@ -187,9 +193,9 @@ module _ {T R : Type 0} {numbers : T → List ℤ} {table_limit : T → ℕ} (so
 
     pub refused_judge : (because : Refused) → Judged (Err because)
         → HasStoppedAt numbers table_limit source limits mode bytes messages normal old
-        record { records = new; judge = judge } before after because
+        record { records = new; judge = judge; scratch = left.scratch } before after because
     refused_judge because judged =
-        stopped_for judge (Ok (Some whole)) read because
+        stopped_for judge left (Ok (Some whole)) read because
         (steps.refused_held (accepting limits mode) (record_items limits.frame) held_of
         (reads_records limits mode) (StandsForRecord limits.frame) source bytes old.records
         messages behind new before after whole read because
@@ -198,12 +204,13 @@ module _ {T R : Type 0} {numbers : T → List ℤ} {table_limit : T → ℕ} (so
         was.judge_limits_are
         (subst (λ k. RefusesHeld (Objects (judge_limits old.judge) k messages (held_of whole))
         old.records.number because) was.judge_mode_is (judged messages normal was.stands))))
+        (λ is. let number = read.finds.1.number_is in omega (arith, number))
 
     -- the record is accepted
     pub gone_on : judge_limits judge ≡ judge_limits old.judge
         → judge_mode judge ≡ judge_mode old.judge → Judged (Ok tt)
         → HasGone numbers table_limit source limits mode bytes messages normal old record
-        { records = new; judge = judge } before after text longer
+        { records = new; judge = judge; scratch = left.scratch } before after text longer
     gone_on same_limits same_mode judged =
         let added = judged messages normal was.stands in
         let limits_are = same_limits ∙ was.judge_limits_are in
@@ -224,6 +231,7 @@ module _ {T R : Type 0} {numbers : T → List ℤ} {table_limit : T → ℕ} (so
           stands = before_of limits mode (bytes ++ read.more) record {
             records = new;
             judge = judge;
+            scratch = left.scratch;
           }
               (messages ++ added.message ∷ []) (normal ++ added.named ∷ []) next added.stands
               limits_are mode_is;

@@ -1,6 +1,6 @@
 -- What `normalise` answers, and what it has then written.
 use Rattle.std.proofs.Common.{◌≡◌, inl, inr, ℕ, ℤ, List, [], ◌++◌, Option, Some, Result, Ok}
-use Rattle.std.proofs.Common.{Err, refl, sym, subst}
+use Rattle.std.proofs.Common.{Err, refl, sym, ◌∙◌, subst}
 use Rattle.dap_device.specs.declared.device.Source.{Ghosts as Source}
 use Rattle.dap_device.specs.declared.device.Sink.{Ghosts as Sink}
 use Rattle.dap_device.specs.Pieces.{HasComeSoFar}
@@ -23,7 +23,7 @@ use Rattle.dap_normal.specs.Accepting.{accepting, text}
 use Rattle.dap_normal.specs.NormalSteps.{HasEnded, HasStoppedAt, IsAtHand}
 use Rattle.dap_normal.specs.Normalising.{IsCanonical, Normalises}
 use Rattle.dap_normal.specs.Streaming.{Answers, Ends, Flushes, HasFailedToWrite, HasGivenUp}
-use Rattle.dap_normal.specs.Streaming.{Streams}
+use Rattle.dap_normal.specs.Streaming.{HasGivenUpAt, Streams}
 use Rattle.dap_normal.proofs.AcceptingFacts.{accepted_facts}
 use Rattle.dap_normal.proofs.NormalFormLaws.{canonical}
 use Rattle.dap_normal.proofs.NormalTexts.{normal}
@@ -147,3 +147,30 @@ module _ {R W : Type 0} (source : Source R) (sink : Sink W) (limits : Limits) (m
     all_refused because stopped end answer (inr (front, is)) =
         subst (Streams source sink limits mode start after before end) (sym is)
         (failed stopped.more stopped.stop stopped.came stopped.read_to end front)
+
+    pub all_given_up : (because : Refused)
+        → HasStoppedAt numbers table_limit source limits mode was.bytes was.messages
+        was.normal records new reader after because
+        → (end : W) (answer : Result (Unit {0}) Refused)
+        → Ends sink waiting writer end (Err because) answer → answer ≡ Err Memory
+        → HasGivenUpAt source sink limits mode new.records.number start after before end
+    all_given_up because stopped end answer (inl (mid, all, given)) memory =
+        ends.gives_up (accepting limits mode) (Normalises limits mode) (IsCanonical limits mode)
+        source sink start
+        before after mid stopped.stop records.records.number (text was.normal)
+        (refused_to source limits mode start reader records was after new because stopped)
+        (all_written mid all) because new.records.number stopped.last end answer
+        (refused_at mid end because answer given) memory
+    all_given_up because stopped end answer (inr (front, is)) memory =
+        absurd (let e = sym is ∙ memory in cc)
+
+-- Where all records have come, memory was not refused.
+pub not_given_up : {W : Type 0} (sink : Sink W) (waiting : List ℕ) (writer end : W)
+    (answer : Result (Unit {0}) Refused) → Ends sink waiting writer end (Ok tt) answer
+    → answer ≡ Err Memory → ⊥
+not_given_up sink waiting writer end answer (inl (mid, all, inl done)) memory =
+    let e = sym done.0 ∙ memory in cc
+not_given_up sink waiting writer end answer (inl (mid, all, inr failed)) memory =
+    let e = sym failed.0 ∙ memory in cc
+not_given_up sink waiting writer end answer (inr (front, is)) memory =
+    let e = sym is ∙ memory in cc

@@ -12,7 +12,7 @@ use Rattle.dap_recording.specs.declared.record_fault.RecordCause.TheVariants.{Cu
 use Rattle.dap_input.specs.declared.limits.Limits.{Limits}
 use Rattle.dap_normal.specs.declared.normal_records.NormalRecords.{NormalRecords}
 use Rattle.dap_input.specs.declared.refused.Refused.{Refused}
-use Rattle.dap_input.specs.declared.refused.Refused.TheVariants.{Record}
+use Rattle.dap_input.specs.declared.refused.Refused.TheVariants.{Memory, Record}
 use Rattle.dap_normal.specs.Accepting.{IsAccepted, accepting}
 use Rattle.dap_normal.specs.JudgingSteps.{StandsFor, judge_limits, judge_mode, record_of}
 use Rattle.dap_input.specs.InputSteps.{Says}
@@ -84,6 +84,7 @@ module _ {T R : Type 0} (numbers : T → List ℤ) (table_limit : T → ℕ) (so
     pub read_to : IsReadTo (accepting limits mode) (bytes ++ more) old.records.number
     pub says : Says (accepting limits mode) (bytes ++ more) stop old.records.number refused
     pub cut : (n : ℕ) → refused ≡ Record n Cut → stop ≡ Some End
+    pub last : refused ≡ Memory → new.records.number ≤ old.records.number + 1
 
   abbrev pub HasNext : List ℕ → List ℕ → Result Bool Refused → Type 0
   HasNext text longer (Ok true) = HasGone text longer

@@ -27,6 +27,12 @@ module _ {R W : Type 0} (source : Source R) (sink : Sink W) (limits : Limits) (m
       engine.HasGivenUp (accepting limits mode) (Normalises limits mode) (IsCanonical limits mode)
       source sink
 
+  -- before it read the record of this number
+  abbrev pub HasGivenUpAt : ℕ → R → R → W → W → Type 0
+  HasGivenUpAt =
+      engine.HasGivenUpAt (accepting limits mode) (Normalises limits mode) (IsCanonical limits mode)
+      source sink
+
   abbrev pub HasFailedToWrite : R → R → W → W → Type 0
   HasFailedToWrite =
       engine.HasFailedToWrite (accepting limits mode) (Normalises limits mode) (IsCanonical limits

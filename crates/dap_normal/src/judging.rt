@@ -6,9 +6,9 @@ ghost use Rattle.dap_session.specs.Rules.{open_requests};
 ghost use Rattle.dap_input.specs.Limits.{AreSound};
 ghost use Rattle.dap_normal.specs.NameTables.{AreReady};
 
-use crate::messages::{append_record, read_message};
+use crate::messages::{append_record, read_flat, read_message};
 use dap_input::{Limits, Refused};
-use dap_message::Side;
+use dap_message::{AnyMessage, Side};
 use dap_recording::Record;
 use dap_rename::{Mode, NameFault, NameTable, Names, Tables};
 use dap_session::{Session, SessionFault};
@@ -23,8 +23,6 @@ pub struct Judge<T> {
     /// How many bytes the text of the normal form has so far.
     written: u64,
     limits: Limits,
-    /// Room for reading a record.
-    scratch: Scratch,
     /// Room for the content that is written.
     content: Vec<u8>,
     ghost sound: { AreSound limits },
@@ -32,6 +30,7 @@ pub struct Judge<T> {
 }
 
 impl<T: NameTable + Drop> Judge<T> {
+    ghost use Rattle.dap_normal.specs.Accepting.{Held, IsMessage};
     ghost use Rattle.dap_normal.specs.JudgingSteps.{JudgesRecord, StandsFor, held_of, judge_limits};
     ghost use Rattle.dap_normal.specs.JudgingSteps.{judge_mode};
 
@@ -48,17 +47,20 @@ impl<T: NameTable + Drop> Judge<T> {
             names: Names::new(alloc, tables, mode),
             written: 0,
             limits,
-            scratch: Scratch::new(alloc),
             content: Vec::new(alloc),
         }
     }
 
     /// Judges the record of that number, and appends the record of its normal form to `out`.
+    ///
+    /// Its content is read as a flat document, and as a tree if that cannot be. `scratch` is room
+    /// for reading, kept from record to record.
     pub fn judge(
         &mut self,
         alloc: Global,
         number: u64,
         whole: &Record,
+        scratch: &mut Scratch,
         out: &mut Vec<u8>,
     ) -> Result<(), Refused>
         ensures judges { (messages normal : List Sent)
@@ -69,32 +71,48 @@ impl<T: NameTable + Drop> Judge<T> {
         ensures mode { judge_mode self.new ≡ judge_mode self.old }
         ensures kept { OnErr result (out.new.items ≡ out.old.items) }
     {
-        let message = read_message(
-            alloc,
-            number,
-            whole.side,
-            whole.content.as_slice(),
-            &mut self.scratch,
-        )?;
-        match self.session.accept(&message) {
+        let content = whole.content.as_slice();
+        if let Some(message) = read_flat(alloc, number, whole.side, content, scratch)? {
+            return self.judge_message(alloc, number, message, out);
+        }
+        let message = read_message(alloc, number, whole.side, content, scratch)?;
+        self.judge_message(alloc, number, message, out)
+    }
+
+    /// Judges the message that the record of that number holds, whatever form its document is held
+    /// in, and appends the record of its normal form to `out`.
+    pub fn judge_message<M: AnyMessage + Drop>(
+        &mut self,
+        alloc: Global,
+        number: u64,
+        message: M,
+        out: &mut Vec<u8>,
+    ) -> Result<(), Refused>
+        ensures judges { (messages normal : List Sent) (held : Held)
+            → StandsFor T.numbers T.limit self.old messages normal → IsMessage held (M.sent message)
+            → JudgesRecord T.numbers T.limit messages normal held number self.old self.new
+            out.old.items out.new.items result }
+        ensures limits { judge_limits self.new ≡ judge_limits self.old }
+        ensures mode { judge_mode self.new ≡ judge_mode self.old }
+        ensures kept { OnErr result (out.new.items ≡ out.old.items) }
+    {
+        match self.session.accept_any(&message) {
             Ok(()) => {}
             Err(SessionFault::Broken(rule)) => return Err(Refused::Rule(number, rule)),
             Err(SessionFault::Memory) => return Err(Refused::Memory),
         }
-        let renamed = match self.names.rename(message) {
-            Ok(renamed) => renamed,
+        let names = match self.names.name_message(&message) {
+            Ok(names) => names,
             Err(NameFault::Full) => return Err(Refused::TooManyIds(number)),
             Err(NameFault::Memory) => return Err(Refused::Memory),
         };
-        self.written = append_record(
-            alloc,
-            number,
-            &renamed,
-            self.written,
-            self.limits,
-            &mut self.content,
-            out,
-        )?;
+        let side = message.side();
+        self.content.clear();
+        let Ok(()) = message.write_with_ids(alloc, names.as_slice(), &mut self.content) else {
+            return Err(Refused::Memory);
+        };
+        let content = self.content.as_slice();
+        self.written = append_record(number, side, content, self.written, self.limits, out)?;
         Ok(())
     }
 

@@ -1,11 +1,14 @@
-//! Reads the message of a record, and writes the record of a message.
-ghost use Rattle.std.specs.Prelude.{◌≡◌, ◌≤◌, List, IfOk, IfErr, OnErr};
+//! Reads the message of a record, and writes the record of a content.
+ghost use Rattle.std.specs.Prelude.{◌≡◌, ◌≤◌, List, IfOk, IfErr, IfSome, OnErr};
+ghost use Rattle.dap_tree.specs.Json.{text_of};
+ghost use Rattle.dap_flat_message.specs.FlatMessages.{flat_sent};
 ghost use Rattle.dap_message.specs.Message.{Sent, sent};
 ghost use Rattle.dap_normal.specs.Accepting.{HoldsNoMessage, IsMessage, Objects};
 ghost use Rattle.dap_normal.specs.JudgingSteps.{Writes};
 ghost use Rattle.dap_input.specs.Limits.{AreSound};
 ghost use Rattle.dap_input.specs.Refusals.{RefusesHeld};
 
+use dap_flat_message::{FlatFault, FlatMessage, read_flat_message};
 use dap_frame::FrameFault;
 use dap_input::{Limits, Refused};
 use dap_message::{Message, MessageFault, Side, typed};
@@ -13,6 +16,10 @@ use dap_recording::write_record;
 use dap_rename::Mode;
 use dap_tree::{Scratch, TreeFault, read_tree_with};
 use std::alloc::Global;
+
+/// The bytes of a content for each of its nodes, at least, in most contents. It is a guess of how
+/// many nodes there will be, and nothing depends on it but how often their vector grows.
+const BYTES_A_NODE: usize = 8;
 
 /// The message that the record of that number holds, read with room that is kept from record to
 /// record.
@@ -42,29 +49,50 @@ pub fn read_message(
     }
 }
 
-/// Appends the record of a message behind a text that has so many bytes, and answers how many it
-/// then has. `content` is room for the message's content, kept from record to record.
-pub fn append_record(
+/// Reads the message that the record of that number holds as a flat document. Returns `None` if its
+/// content has to be read as a tree.
+pub fn read_flat<'a>(
     alloc: Global,
     number: u64,
-    message: &Message,
+    side: Side,
+    content: &'a [u8],
+    scratch: &'a mut Scratch,
+) -> Result<Option<FlatMessage<'a>>, Refused>
+    ensures ok { IfOk result
+        (λ found. IfSome found (λ message. IsMessage (side, content.now) (flat_sent message))) }
+    ensures err { IfErr result (λ because. (limits : Limits) (mode : Mode) (messages : List Sent)
+        → RefusesHeld (Objects limits mode messages (side, content.now)) number because) }
+{
+    let Ok(nodes) = Vec::with_capacity(alloc, content.len() / BYTES_A_NODE + 8) else {
+        return Err(Refused::Memory);
+    };
+    match read_flat_message(side, content, scratch, nodes) {
+        Ok(message) => Ok(Some(message)),
+        Err(FlatFault::Unclear) => Ok(None),
+        Err(FlatFault::Memory) => Err(Refused::Memory),
+        Err(FlatFault::Message(fault)) => Err(Refused::Message(number, fault)),
+    }
+}
+
+/// Appends the record of a side and a content to a text that has `written` bytes, and returns how
+/// many bytes the text then has.
+pub fn append_record(
+    number: u64,
+    side: Side,
+    content: &[u8],
     written: u64,
     limits: Limits,
-    content: &mut Vec<u8>,
     out: &mut Vec<u8>,
 ) -> Result<u64, Refused>
     requires sound { AreSound limits }
     requires short { written ≤ limits.input }
-    ensures writes { Writes limits (sent message.now) number written out.old.items out.new.items
-        result }
+    ensures writes { (message : Sent) → message.side ≡ side → text_of message.doc ≡ content.now
+        → Writes limits message number written out.old.items out.new.items result }
+    ensures within { IfOk result (λ after. after ≤ limits.input) }
     ensures kept { OnErr result (out.new.items ≡ out.old.items) }
 {
-    content.clear();
-    let Ok(()) = message.write_content_to(alloc, content) else {
-        return Err(Refused::Memory);
-    };
     let before = out.len();
-    match write_record(out, message.side(), content.as_slice(), limits.frame) {
+    match write_record(out, side, content, limits.frame) {
         Ok(()) => {}
         Err(FrameFault::ContentTooLong) => return Err(Refused::Grew(number)),
         Err(_) => return Err(Refused::Memory),

@@ -17,6 +17,7 @@ use dap_input::{Limits, Records, Refused};
 use dap_message::Side;
 use dap_recording::RecordReader;
 use dap_rename::{Mode, NameFault, NameTable, Renaming, Tables};
+use dap_tree::Scratch;
 use std::alloc::{AllocError, Global};
 
 /// The records of an input, of which those before the next one are accepted. One record is held at
@@ -25,6 +26,8 @@ use std::alloc::{AllocError, Global};
 pub struct NormalRecords<T> {
     records: Records<RecordReader>,
     judge: Judge<T>,
+    /// Room for reading a content.
+    scratch: Scratch,
 }
 
 impl<T: NameTable + Drop> NormalRecords<T> {
@@ -47,6 +50,7 @@ impl<T: NameTable + Drop> NormalRecords<T> {
         Ok(NormalRecords {
             records: Records::new(alloc, reader, limits.input)?,
             judge: Judge::new(alloc, limits, tables, mode),
+            scratch: Scratch::new(alloc),
         })
     }
 
@@ -106,7 +110,8 @@ impl<T: NameTable + Drop> NormalRecords<T> {
         let Some(whole) = self.records.next(reader)? else {
             return Ok(false);
         };
-        self.judge.judge(alloc, number, &whole, text)?;
+        self.judge
+            .judge(alloc, number, &whole, &mut self.scratch, text)?;
         self.records.recycle(whole);
         Ok(true)
     }

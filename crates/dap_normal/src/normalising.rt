@@ -1,10 +1,10 @@
 //! Normalises recordings.
-ghost use Rattle.std.specs.Prelude.{◌≡◌, ◌+◌, ◌<◌, ◌≤◌, ◌^◌, [], IfErr, IfOk};
+ghost use Rattle.std.specs.Prelude.{◌≡◌, ◌+◌, ◌<◌, ◌≤◌, ◌^◌, [], IfErr, IfOk, IsErrOf};
 ghost use Rattle.dap_input.specs.Limits.{AreSound};
 ghost use Rattle.dap_normal.specs.NameTables.{AreReady};
 ghost use Rattle.dap_normal.specs.NormalSteps.{StandsBefore};
 ghost use Rattle.dap_normal.specs.Normalising.{IsCanonical, RefusesBytes};
-ghost use Rattle.dap_normal.specs.Streaming.{Ends, Flushes, Streams};
+ghost use Rattle.dap_normal.specs.Streaming.{Ends, Flushes, HasGivenUpAt, Streams};
 
 use crate::default_tables::index_tables;
 use crate::normal_records::NormalRecords;
@@ -199,6 +199,12 @@ fn write_records<R: Source, W: Sink, T: NameTable + Drop>(
     requires write_failures { W.failures writer.old < 2 ^ 62 }
     ensures answer { Streams R.Source W.Sink limits mode reader.old reader.new
         writer.old writer.new result }
+
+    // If memory was refused, the text of each record that was taken has gone out, but perhaps of
+    // the last.
+    ensures given_up { IsErrOf result Refused.Memory
+        → HasGivenUpAt R.Source W.Sink limits mode records.new.records.number
+        reader.old reader.new writer.old writer.new }
     ensures taken { R.given reader.new ≤ R.given reader.old + limits.input + 1 }
 {
     let mut text = Vec::new(alloc);

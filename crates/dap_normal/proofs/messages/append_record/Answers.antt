@@ -1,9 +1,7 @@
 use Rattle.std.proofs.Common.{◌≡◌, ◌+◌, ◌-◌, ◌≤◌, ◌++◌, ◌∙◌, ℕ, List, ⊎_elim, ap, ap₂, arith}
-use Rattle.std.proofs.Common.{length, length-append, subst}
+use Rattle.std.proofs.Common.{length, length-append, subst, sym}
 use Rattle.std.proofs.lemmas.Bool.{cases_lt}
-use Rattle.dap_message.specs.Message.{doc_of, sent}
 use Rattle.dap_recording.specs.Recording.{record_text}
-use Rattle.dap_tree.specs.Json.{text_of}
 use Rattle.dap_normal.specs.JudgingSteps.{record_of}
 use Rattle.dap_normal.proofs.messages.append_record.Goals as goal
 
@@ -14,20 +12,16 @@ counted old added new written before after is first last =
     omega (arith, first, last, ap length is, length-append old added)
 
 pub returns-clause-writes : goal.returns-clause-writes
-returns-clause-writes c =
-    let text = text_of (doc_of c.args.message.now) in
-    let content : c.as_slice.result.now ≡ text =
-    c.as_slice.ensures.value ∙ c.in-Ok.ensures.text ∙ ap (λ xs. xs ++ text) c.clear.ensures.items in
+returns-clause-writes c message side text =
     let wrote =
-    c.in-Ok-write_record.ensures.ok
-    ∙ ap₂ (λ side bytes. c.args.out.now.items ++ record_text side bytes) c.side.ensures content
-    in
-    let short : length c.as_slice.result.now ≤ c.args.limits.frame.content =
-    ⊎_elim (λ long. absurd (let told = c.in-Ok-write_record.ensures.too_long.1 long in cc))
-    (λ le. le) (cases_lt c.args.limits.frame.content (length c.as_slice.result.now)) in (
-      subst (λ bytes. length bytes ≤ c.args.limits.frame.content) content short,
+    c.in-Ok.ensures.ok
+    ∙ ap₂ (λ s bytes. c.args.out.now.items ++ record_text s bytes) (sym side) (sym text) in
+    let short : length c.args.content.now ≤ c.args.limits.frame.content =
+    ⊎_elim (λ long. absurd (let told = c.in-Ok.ensures.too_long.1 long in cc))
+    (λ le. le) (cases_lt c.args.limits.frame.content (length c.args.content.now)) in (
+      subst (λ bytes. length bytes ≤ c.args.limits.frame.content) (sym text) short,
       wrote,
-      counted c.args.out.now.items (record_of (sent c.args.message.now))
+      counted c.args.out.now.items (record_of message)
           c.write_record.new.out.items c.args.written c.len-before.result c.len.result wrote
           (c.len-before.ensures ∙ c.args.out.now.ok.0) (c.len.ensures
           ∙ c.write_record.new.out.ok.0),

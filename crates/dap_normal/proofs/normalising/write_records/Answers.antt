@@ -9,7 +9,7 @@ use Rattle.dap_normal.proofs.PendingTexts.{Waiting, failed_inside, longer_is, no
 use Rattle.dap_normal.proofs.PendingTexts.{stops_behind, waits_on}
 use Rattle.dap_normal.proofs.StreamAnswers.{ended, gone}
 use Rattle.dap_normal.proofs.StreamLoop.{all_taken, at_start, few_taken, gone_taken, on}
-use Rattle.dap_normal.proofs.StreamWriting.{all_refused, all_streamed}
+use Rattle.dap_normal.proofs.StreamWriting.{all_given_up, all_refused, all_streamed, not_given_up}
 use Rattle.dap_normal.proofs.normalising.write_records.Goals as goal
 
 pub records-init : goal.records-init
@@ -162,6 +162,11 @@ returns-in-Ok-false-clause-answer g c =
     (subst (λ t. Ends g.W.Sink t c.records.writer c.ended.new.writer (Ok tt) c.ended.result)
     (c.as_slice-in-Ok-false.ensures.value ∙ end.kept) c.ended.ensures)
 
+pub returns-in-Ok-false-clause-given_up : goal.returns-in-Ok-false-clause-given_up
+returns-in-Ok-false-clause-given_up g c = λ memory.
+    absurd (not_given_up g.W.Sink c.as_slice-in-Ok-false.result.now c.records.writer
+    c.ended.new.writer c.ended.result c.ended.ensures memory)
+
 pub returns-in-Ok-false-clause-taken : goal.returns-in-Ok-false-clause-taken
 returns-in-Ok-false-clause-taken g c =
     let was = c.records.invariant.going in
@@ -190,6 +195,22 @@ returns-in-Err-clause-answer g c =
     (subst (λ t. Ends g.W.Sink t c.records.writer c.ended-in-Err.new.writer
     (Err c.in-Err.refused) c.ended-in-Err.result)
     (c.as_slice-in-Err.ensures.value ∙ c.in-Err.ensures.kept) c.ended-in-Err.ensures)
+
+pub returns-in-Err-clause-given_up : goal.returns-in-Err-clause-given_up
+returns-in-Err-clause-given_up g c = λ memory.
+    let was = c.records.invariant.going in
+    all_given_up g.R.Source g.W.Sink c.args.limits c.args.mode c.args.reader.now c.args.writer.now
+    c.records.reader c.records.records was c.records.writer c.records.invariant.sent
+    c.records.text.items c.records.invariant.written c.records.invariant.waits c.next.new.self
+    c.next.new.reader
+    (c.in-Err.ensures.at_hand c.args.limits c.args.mode was.bytes was.messages was.normal
+    was.stands)
+    c.in-Err.refused
+    (c.in-Err.ensures.next c.args.limits c.args.mode was.bytes was.messages was.normal was.stands)
+    c.ended-in-Err.new.writer c.ended-in-Err.result
+    (subst (λ t. Ends g.W.Sink t c.records.writer c.ended-in-Err.new.writer
+    (Err c.in-Err.refused) c.ended-in-Err.result)
+    (c.as_slice-in-Err.ensures.value ∙ c.in-Err.ensures.kept) c.ended-in-Err.ensures) memory
 
 pub returns-in-Err-clause-taken : goal.returns-in-Err-clause-taken
 returns-in-Err-clause-taken g c =

@@ -37,7 +37,11 @@ returns-in_err-judge-clause-next g c = λ limits mode bytes messages normal was.
     rw (because.1, because.2)
     (refused_judge g.R.Source limits mode bytes c.args.self.now
     messages normal was c.next.new.self c.args.reader.now c.next.new.reader c.in-Some.whole read
-    c.judge.new.self c.args.text.now.items c.judge.new.out.items _
+    c.judge.new.self (record {
+      records = c.next.new.self;
+      judge = c.judge.new.self;
+      scratch = c.judge.new.scratch;
+    }) c.args.text.now.items c.judge.new.out.items _
     (rw c.number-number.ensures at c.in_err-judge.ensures.judges))
 
 pub returns-clause-next : goal.returns-clause-next
@@ -50,7 +54,11 @@ returns-clause-next g c = λ limits mode bytes messages normal was.
     rw c.recycle.ensures
     (gone_on g.R.Source limits mode bytes c.args.self.now
     messages normal was c.next.new.self c.args.reader.now c.next.new.reader c.in-Some.whole read
-    c.judge.new.self c.args.text.now.items c.judge.new.out.items c.in_ok-judge.ensures.limits
+    c.judge.new.self (record {
+      records = c.next.new.self;
+      judge = c.judge.new.self;
+      scratch = c.judge.new.scratch;
+    }) c.args.text.now.items c.judge.new.out.items c.in_ok-judge.ensures.limits
     c.in_ok-judge.ensures.mode c.in_ok-judge.ensures.judges)
 
 pub returns-in_err-whole-clause-at_hand : goal.returns-in_err-whole-clause-at_hand

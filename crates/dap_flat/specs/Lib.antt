@@ -1,0 +1,9 @@
+pub mod Pieces
+pub mod Reading
+pub mod Order
+pub mod Writing
+pub mod Placing
+pub mod Canonical
+pub mod Ids
+pub mod Finding
+pub mod Document

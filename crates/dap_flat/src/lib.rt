@@ -1,0 +1,23 @@
+//! JSON documents as flat lists of nodes, in the order of their text.
+//!
+//! A flat document borrows the content that it is read from. Reading it allocates one vector for
+//! all nodes, where a `Tree` allocates each text, list and object.
+#![tactic(auto)]
+
+mod canonical;
+mod find;
+mod ids;
+mod node;
+mod parse;
+mod place;
+mod unread;
+mod write;
+
+pub use canonical::append_canonical;
+pub use find::child;
+pub use ids::{add_ids, replace_ids};
+pub use node::Node;
+pub use parse::read_flat;
+pub use place::value_end;
+pub use unread::Unread;
+pub use write::write_flat;

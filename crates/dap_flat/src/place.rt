@@ -1,0 +1,159 @@
+//! Inserts a member among those that were read before it, in the order of their names.
+ghost use Rattle.std.specs.Prelude.{◌≡◌, ◌++◌, ◌+◌, ◌-◌, ◌<◌, ◌≤◌, length, take, drop, OnOk, IfOk, IfSome, slice_index_or};
+ghost use Rattle.std.specs.Prelude.{option_map, reverse};
+ghost use Rattle.std.specs.Bool.{MatchBool};
+ghost use Rattle.dap_flat.specs.Order.{IsAbove, IsNotAbove};
+ghost use Rattle.dap_flat.specs.declared.node.Node.{Node};
+ghost use Rattle.dap_flat.specs.Pieces.{piece_of};
+ghost use Rattle.dap_flat.specs.Placing.{InsertsAt, Places, PlacesMember, size};
+
+use crate::node::Node;
+use crate::unread::Unread;
+use std::cmp::Ordering;
+
+/// Moves the last member, which starts at `at`, to its place among those that start at `start`.
+///
+/// Returns `Unclear` if one of them has its name, or if too many nodes were moved before.
+#[inline(never)]
+pub(crate) fn insert_member(
+    nodes: &mut Vec<Node<'_>>,
+    start: usize,
+    at: usize,
+    name: &str,
+    moves: &mut usize,
+) -> Result<(), Unread>
+    requires { (start ≤ at) × (at ≤ length nodes.old.items) }
+    ensures { OnOk result (Places start at name.now nodes.old.items nodes.new.items) }
+{
+    let p = position(&nodes[start..at], name).ok_or(Unread::Unclear)?;
+    spend(moves, nodes.len() - start)?;
+    rotate(nodes, start + p, at);
+    Ok(())
+}
+
+/// Puts the member that was read last in its place, and returns the greatest name after that.
+#[inline(always)]
+pub(crate) fn place_member<'a>(
+    nodes: &mut Vec<Node<'a>>,
+    start: usize,
+    at: usize,
+    last: Option<&'a str>,
+    name: &'a str,
+    moves: &mut usize,
+) -> Result<Option<&'a str>, Unread>
+    requires { (start ≤ at) × (at ≤ length nodes.old.items) }
+    ensures { IfOk result (λ now. PlacesMember start at (option_map (λ s. s.now) last.entry) name.now
+        nodes.old.items nodes.new.items (option_map (λ s. s.now) now)) }
+{
+    if is_greatest(last, name) {
+        return Ok(Some(name));
+    }
+    insert_member(nodes, start, at, name, moves)?;
+    Ok(last)
+}
+
+/// Subtracts the cost of a move from what the content may spend, so that a content whose members
+/// come in falling order does not take quadratic time.
+#[inline(always)]
+fn spend(moves: &mut usize, cost: usize) -> Result<(), Unread> {
+    match moves.checked_sub(cost) {
+        Some(left) => {
+            *moves = left;
+            Ok(())
+        }
+        None => Err(Unread::Unclear),
+    }
+}
+
+/// Moves the nodes from `at` on before those from `from` on.
+fn rotate(nodes: &mut Vec<Node<'_>>, from: usize, at: usize)
+    requires { (from ≤ at) × (at ≤ length nodes.old.items) }
+    ensures { nodes.new.items ≡ take from nodes.old.items
+        ++ (drop at nodes.old.items ++ take (at - from) (drop from nodes.old.items)) }
+{
+    swap_halves(&mut nodes[from..], at - from);
+}
+
+/// Exchanges the nodes before `mid` and those from `mid` on. Three reversals do it, since the
+/// standard library's `rotate_left` clears a buffer of 4 KB at each call.
+fn swap_halves(nodes: &mut [Node<'_>], mid: usize)
+    requires { mid ≤ length nodes.old }
+    ensures { nodes.new ≡ drop mid nodes.old ++ take mid nodes.old }
+{
+    reverse_prefix(nodes, mid);
+    reverse_suffix(nodes, mid);
+    nodes.reverse();
+}
+
+fn reverse_prefix(nodes: &mut [Node<'_>], mid: usize)
+    requires { mid ≤ length nodes.old }
+    ensures { nodes.new ≡ reverse (take mid nodes.old) ++ drop mid nodes.old }
+{
+    nodes[..mid].reverse();
+}
+
+fn reverse_suffix(nodes: &mut [Node<'_>], mid: usize)
+    requires { mid ≤ length nodes.old }
+    ensures { nodes.new ≡ take mid nodes.old ++ reverse (drop mid nodes.old) }
+{
+    nodes[mid..].reverse();
+}
+
+/// Returns the place of a member with that name, or `None` if there is such a member.
+fn position(held: &[Node<'_>], name: &str) -> Option<usize>
+    ensures within { IfSome result (λ p. p ≤ length held.now) }
+    ensures goes { IfSome result (InsertsAt held.now name.now) }
+{
+    let mut p = 0;
+    while p < held.len() {
+        let Node::Name(other) = held[p] else {
+            return None;
+        };
+        match name.cmp(other) {
+            Ordering::Less => return Some(p),
+            Ordering::Equal => return None,
+            Ordering::Greater => {}
+        }
+        p = value_end(held, p + 1)?;
+    }
+    Some(p)
+}
+
+/// Returns the place after the value that starts at `at`.
+#[inline(always)]
+pub fn value_end(nodes: &[Node<'_>], at: usize) -> Option<usize>
+    ensures within { IfSome result (λ end. (at < end) × (end ≤ length nodes.now)) }
+    ensures size { IfSome result
+        (λ end. (x : Node) → end ≡ at + size (piece_of (slice_index_or nodes.now at x))) }
+{
+    if at >= nodes.len() {
+        return None;
+    }
+    let end = at.checked_add(node_size(&nodes[at])?)?;
+    if nodes.len() < end {
+        return None;
+    }
+    Some(end)
+}
+
+#[inline(always)]
+fn node_size(node: &Node<'_>) -> Option<usize>
+    ensures { IfSome result (λ n. n ≡ size (piece_of node.now)) }
+{
+    match *node {
+        Node::List(inside) | Node::Object(inside) => inside.checked_add(2),
+        _ => Some(1),
+    }
+}
+
+/// Returns whether the name is greater than the greatest one so far.
+#[inline(always)]
+fn is_greatest(last: Option<&str>, name: &str) -> bool
+    ensures { MatchBool result (IsAbove (option_map (λ s. s.now) last.entry) name.now)
+        (IsNotAbove (option_map (λ s. s.now) last.entry) name.now) }
+{
+    match last {
+        None => true,
+        Some(last) => last < name,
+    }
+}

@@ -1,0 +1,63 @@
+-- What is wrong with a document of a kind and a name.
+use Rattle.std.proofs.Common.{◌≡◌, ℕ, List, true, false, cond, Option, Some, None, refl, sym, ap}
+use Rattle.std.proofs.Common.{◌∙◌, get_or}
+use Rattle.dap_tree.specs.Doc.{Doc, null, boolean, whole, text, list, object, id}
+use Rattle.dap_profile.specs.ProfileRows.{ProfileRow}
+use Rattle.dap_profile.specs.Stretches.{rows_asked}
+use Rattle.dap_profile.specs.declared.profile.Kind.{Kind}
+use Rattle.dap_message.specs.AskedRows.{kind_told, first_by}
+use Rattle.dap_message.specs.Faults.{has_kind, row_broken}
+use Rattle.dap_message.specs.Places.{is_object}
+use Rattle.dap_message.specs.declared.fault.MessageFault.{MessageFault}
+use Rattle.dap_message.specs.declared.fault.MessageFault.TheVariants.{NotObject, UnknownType}
+use Rattle.dap_message.proofs.AskedRows.{asked-rows, any_name, fault-asked, fault-kindless}
+use Rattle.dap_flat.specs.declared.node.Node.{Node}
+use Rattle.dap_flat.specs.Pieces.{piece_of, Represents}
+use Rattle.dap_flat_message.specs.Judging.{top_of}
+use Rattle.dap_flat_message.specs.Heads.{IsFirst, IsFault, IsNamed, AreAsked}
+use Rattle.dap_flat_message.proofs.Tops.{top_there, is_object-top}
+use Rattle.dap_flat_message.proofs.Heads.{holds_whole}
+
+object_of_kind : (d : Doc) (k : Kind) → kind_told d ≡ Some k → is_object d ≡ true
+object_of_kind null k h = absurd (cc)
+object_of_kind (boolean b) k h = absurd (cc)
+object_of_kind (whole z) k h = absurd (cc)
+object_of_kind (text s) k h = absurd (cc)
+object_of_kind (list ds) k h = absurd (cc)
+object_of_kind (object ms) k h = refl
+object_of_kind (id s z) k h = absurd (cc)
+
+pub asked_fault : (ns : List Node) (rs : List ProfileRow) (f : Option MessageFault)
+    → AreAsked ns rs → IsFirst ns 0 rs f → IsFault ns f
+asked_fault ns rs f asked first d shows =
+    let told = asked d shows in
+    first d (holds_whole ns d shows) ∙ ap (λ rs. first_by rs d) told.2
+    ∙ sym (fault-asked d told.0 (object_of_kind d told.0 told.1) told.1)
+
+pub named_asked : (ns : List Node) (k : Kind) (n : Option (List ℕ)) (rs : List ProfileRow)
+    → rs ≡ rows_asked (Some k) n → IsNamed ns k n → AreAsked ns rs
+named_asked ns k n rs is named d shows =
+    let told = named d shows in (
+      k,
+      told.0,
+      is ∙ sym (asked-rows d ∙ ap (λ j. rows_asked j (any_name j d)) told.0
+          ∙ ap (rows_asked (Some k)) told.1),
+    )
+
+object_there : (ns : List Node) (x : Node) (d : Doc) → Represents ns d
+    → is_object (top_of (piece_of (get_or ns 0 x))) ≡ is_object d
+object_there ns x d shows =
+    ap is_object (top_there ns 0 d (get_or ns 0 x) x (holds_whole ns d shows) refl)
+    ∙ is_object-top d
+
+pub not_object : (ns : List Node) (x : Node)
+    → is_object (top_of (piece_of (get_or ns 0 x))) ≡ false → IsFault ns (Some NotObject)
+not_object ns x is d shows =
+    sym (ap (λ b. cond b (cond (has_kind d) (row_broken d) (Some UnknownType)) (Some NotObject))
+    (sym (object_there ns x d shows) ∙ is))
+
+pub kindless : (ns : List Node) (x : Node)
+    → is_object (top_of (piece_of (get_or ns 0 x))) ≡ true
+    → ((d : Doc) → Represents ns d → kind_told d ≡ None) → IsFault ns (Some UnknownType)
+kindless ns x is none d shows =
+    sym (fault-kindless d (sym (object_there ns x d shows) ∙ is) (none d shows))

@@ -1,0 +1,81 @@
+-- Messages that tell no capabilities.
+use Rattle.std.proofs.Common.{◌≡◌, ℕ, List, Bool, true, false, cond, ◌&&◌, Option, Some, None, refl, sym}
+use Rattle.std.proofs.Common.{ap, ◌∙◌, bytes_eq, codes, subst}
+use Rattle.std.specs.Option.{option_map_or}
+use Rattle.dap_tree.specs.Doc.{Doc, null, boolean, whole, text, list, object, id, get}
+use Rattle.dap_tree.specs.declared.side.Side.{Side}
+use Rattle.dap_tree.specs.declared.side.Side.TheVariants.{Client, Adapter}
+use Rattle.dap_profile.specs.Stretches.{same_kind}
+use Rattle.dap_profile.specs.declared.profile.Kind.{Kind}
+use Rattle.dap_profile.specs.declared.profile.Kind.TheVariants.{Request, Response, Event}
+use Rattle.dap_message.specs.AskedRows.{kind_told, name_told}
+use Rattle.dap_message.specs.Capabilities.{tells_capabilities, with_capabilities}
+use Rattle.dap_message.specs.Envelope.{text_value}
+use Rattle.dap_message.specs.Marks.{mark}
+use Rattle.dap_message.specs.Message.{message_of}
+use Rattle.dap_message.specs.Rows.{is_text, is_true, is_of_kind}
+use Rattle.dap_message.proofs.AskedRows.{kind-told}
+use Rattle.dap_flat.specs.declared.node.Node.{Node}
+use Rattle.dap_flat.specs.Pieces.{Represents}
+use Rattle.dap_flat_message.specs.Heads.{IsNamed, IsFault}
+use Rattle.dap_flat_message.specs.Marked.{Makes}
+use Rattle.dap_flat_message.specs.Typed.{IsTypedFlat, may_tell}
+
+text-value : (w : List ℕ) (o : Option Doc)
+    → is_text w o ≡ option_map_or (bytes_eq w) (text_value o) false
+text-value w None = refl
+text-value w (Some null) = refl
+text-value w (Some (boolean b)) = refl
+text-value w (Some (whole z)) = refl
+text-value w (Some (text s)) = refl
+text-value w (Some (list ds)) = refl
+text-value w (Some (object ms)) = refl
+text-value w (Some (id s z)) = refl
+
+both_true : (a : Bool) → (a && true) ≡ a
+both_true true = refl
+both_true false = refl
+
+both_false : (a : Bool) → (a && false) ≡ false
+both_false true = refl
+both_false false = refl
+
+worded : (w : List ℕ) (o : Option Doc) (b : Bool)
+    → (is_text w o && b) ≡ option_map_or (bytes_eq w) (cond b (text_value o) None) false
+worded w o true = both_true (is_text w o) ∙ text-value w o
+worded w o false = both_false (is_text w o)
+
+grouped : (a b c : Bool) → ((a && b) && c) ≡ (a && (b && c))
+grouped true b c = refl
+grouped false b c = refl
+
+other_kind : (d : Doc) (k : Kind) → kind_told d ≡ Some k → same_kind Response k ≡ false
+    → tells_capabilities Adapter d ≡ false
+other_kind d k told other =
+    ap (λ a. (a && is_text (codes "initialize") (get (codes "command") d))
+    && is_true (get (codes "success") d))
+    (kind-told Response d ∙ ap (λ o. option_map_or (same_kind Response) o false) told ∙ other)
+
+untold : (side : Side) (d : Doc) (k : Kind) (n : Option (List ℕ)) → kind_told d ≡ Some k
+    → name_told k d ≡ n → may_tell side k n ≡ false → tells_capabilities side d ≡ false
+untold Client d k n told name not_told = refl
+untold Adapter d Request n told name not_told = other_kind d Request told refl
+untold Adapter d Event n told name not_told = other_kind d Event told refl
+untold Adapter d Response n told name not_told =
+    let w = codes "initialize" in
+    let o = get (codes "command") d in
+    let b = is_true (get (codes "success") d) in
+    grouped (is_of_kind Response d) (is_text w o) b
+    ∙ ap (λ c. is_of_kind Response d && c)
+    (worded w o b ∙ ap (λ n. option_map_or (bytes_eq w) n false) name ∙ not_told)
+    ∙ both_false (is_of_kind Response d)
+
+pub typed_nodes : (side : Side) (old new : List Node) (k : Kind) (n : Option (List ℕ))
+    → IsNamed old k n → may_tell side k n ≡ false → IsFault old None → Makes old new (mark side)
+    → IsTypedFlat side old new None
+typed_nodes side old new k n named not_told fits makes d shows =
+    let told = named d shows in
+    let none = untold side d k n told.0 told.1 not_told in
+    let is : mark side d ≡ message_of side d =
+    ap (λ b. mark side (cond b (with_capabilities d) d)) (sym none) in
+    (sym (fits d shows), subst (Represents new) is (makes d shows))

@@ -1,0 +1,29 @@
+-- What typing makes of the nodes of a document.
+use Rattle.std.specs.Prelude.{◌≡◌, ℕ, List, Bool, false, Option, Some, None, bytes_eq, codes}
+use Rattle.std.specs.Option.{option_map_or}
+use Rattle.dap_tree.specs.Doc.{Doc}
+use Rattle.dap_tree.specs.declared.side.Side.{Side}
+use Rattle.dap_tree.specs.declared.side.Side.TheVariants.{Client, Adapter}
+use Rattle.dap_profile.specs.declared.profile.Kind.{Kind}
+use Rattle.dap_profile.specs.declared.profile.Kind.TheVariants.{Request, Response, Event}
+use Rattle.dap_message.specs.Faults.{fault, Fits}
+use Rattle.dap_message.specs.Message.{message_of}
+use Rattle.dap_message.specs.declared.fault.MessageFault.{MessageFault}
+use Rattle.dap_flat.specs.declared.node.Node.{Node}
+use Rattle.dap_flat.specs.Pieces.{Represents}
+
+-- With no fault told, the document fits, and the nodes show the message that it is on this side;
+-- else the fault is its first.
+abbrev pub IsTypedFlat : Side → List Node → List Node → Option MessageFault → Type 0
+IsTypedFlat side old new None = (d : Doc) → Represents old d → Fits d × Represents new (message_of side d)
+IsTypedFlat side old new (Some f) = (d : Doc) → Represents old d → fault d ≡ Some f
+
+abbrev pub HasFault : List Node → MessageFault → Type 0
+HasFault ns f = (d : Doc) → Represents ns d → fault d ≡ Some f
+
+-- For private clauses: a message of this kind and name tells capabilities.
+abbrev pub may_tell : Side → Kind → Option (List ℕ) → Bool
+may_tell Client k n = false
+may_tell Adapter Request n = false
+may_tell Adapter Response n = option_map_or (bytes_eq (codes "initialize")) n false
+may_tell Adapter Event n = false
