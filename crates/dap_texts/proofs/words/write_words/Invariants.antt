@@ -1,0 +1,15 @@
+use Rattle.std.proofs.Common.{◌≡◌, ◌≤◌, ◌-◌, ◌++◌, drop, take, length}
+use Rattle.dap_texts.specs.Words.{pairs_of, replaced}
+use Rattle.dap_texts.proofs.words.write_words.Given as goal
+
+-- what was written, and what becomes of the bytes that are left, is what becomes of the whole text
+abbrev pub invariant-loop-i : goal.invariant-loop-i
+invariant-loop-i l = record {
+  within : l.i ≤ length l.bytes;
+  begun : take (length l.initial.out.items) l.out.items ≡ l.initial.out.items;
+  whole : l.out.items ++ replaced (pairs_of l.words) (drop l.i l.bytes)
+      ≡ l.initial.out.items ++ replaced (pairs_of l.words) l.bytes;
+}
+
+abbrev pub decreases-loop-i : goal.decreases-loop-i
+decreases-loop-i l = length l.bytes - l.i
