@@ -1,3 +1,4 @@
 pub mod CommandFiles
 pub mod CommandWalk
+pub mod FirstWords
 pub mod ToldWords

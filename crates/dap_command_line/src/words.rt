@@ -6,6 +6,7 @@ ghost use Rattle.dap_command_line.specs.CommandLine.{IsToldFor, IsToldOf, asks_p
 ghost use Rattle.dap_command_line.specs.CommandLine.{is_asked, is_set, job_named, job_of, mask};
 ghost use Rattle.dap_command_line.specs.CommandLine.{names_job, program, text_in, texts_in};
 ghost use Rattle.dap_command_line.specs.CommandLine.{told, two_files};
+ghost use Rattle.dap_command_line.specs.FirstWords.{FirstDecides};
 ghost use Rattle.dap_command_line.specs.declared.jobs.UsageFault.TheVariants.{Memory};
 
 use crate::definition::command;
@@ -140,8 +141,9 @@ fn no_job(alloc: Global) -> UsageFault
 ///
 /// # Errors
 ///
-/// `Help` where help or the version is asked for, `Usage` with `clap`'s text where the words are
-/// wrong, `Memory`.
+/// - `Help`: the words ask for help or the version. It has the text.
+/// - `Usage`: the words are wrong. It has the text that `clap` writes.
+/// - `Memory`: an allocation failed.
 pub fn job<'a>(alloc: Global, words: &'a [&'a str]) -> Result<Job<'a>, UsageFault>
     // The job is the one that clap's own definition of the command finds in the words.
     ensures ok { IfOk result
@@ -159,6 +161,11 @@ pub fn job<'a>(alloc: Global, words: &'a [&'a str]) -> Result<Job<'a>, UsageFaul
     // mistake where it finds another error, or no job.
     ensures told { IfErr result
         (IsToldFor (faults_of program (map (λ w. w.now) words.entry.now))) }
+
+    // Of words that ask for help and make a mistake, the first is told: what some first words show,
+    // whatever comes after them. That a word is missing is told only if no word shows anything.
+    ensures first { IfErr result (λ fault.
+        FirstDecides program (map (λ w. w.now) words.entry.now) (λ kinds. IsToldFor kinds fault)) }
 {
     let Ok(command) = command(alloc) else {
         return Err(UsageFault::Memory);

@@ -1,5 +1,6 @@
 pub mod DefinitionLemmas
 pub mod EnteredSubcommand
+pub mod FirstArguments
 pub mod Found
 pub mod NoFault
 pub mod RequiredValues

@@ -8,6 +8,7 @@ ghost use Rattle.dap_command_line.specs.CommandLine.{IsToldOf, compare, diff, is
 ghost use Rattle.dap_command_line.specs.CommandLine.{is_set, job_of, mask, over_files, text_in};
 ghost use Rattle.dap_command_line.specs.CommandLine.{texts_in, two_files};
 ghost use Rattle.dap_command_line.specs.CommandLine.{told as told_job};
+ghost use Rattle.dap_command_line.specs.FirstWords.{FirstDecides};
 ghost use Rattle.dap_command_line.specs.declared.jobs.UsageFault.TheVariants.{Memory};
 ghost use Rattle.dap_commands.specs.Commands.{IsFaultFor, command_named, command_of};
 ghost use Rattle.dap_commands.specs.Commands.{compare_action, compare_of, comparison_of};
@@ -373,6 +374,12 @@ pub fn command<'a>(alloc: Global, words: &'a [&'a str]) -> Result<Command<'a>, U
     // `Help` is returned if that definition finds that the arguments request help or the version,
     // and `Usage` if it finds another error.
     ensures told { IfErr result (IsFaultFor (faults_of program (texts words.entry.now))) }
+
+    // If arguments request help and have an error, the first of the two is reported: what some
+    // first arguments show, whatever comes after them. That an argument is missing is reported only
+    // if no argument shows anything.
+    ensures first { IfErr result (λ fault. FirstDecides program (texts words.entry.now)
+        (λ kinds. IsFaultFor kinds fault)) }
 {
     let Ok(program) = definition::program(alloc) else {
         return Err(UsageFault::Memory);

@@ -1,6 +1,9 @@
 pub mod DiffRun
 pub mod GoldenRun
+pub mod MemoryFiles
+pub mod OneFile
 pub mod Run
+pub mod TwoFiles
 pub mod ViewRun
 pub use Rattle.dap_command_line.specs.CommandLine
 pub use Rattle.dap_command_line.specs.Jobs

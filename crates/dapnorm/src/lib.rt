@@ -2,9 +2,14 @@
 #![tactic(auto)]
 
 mod diff_run;
+mod files;
 mod golden_run;
 pub mod laws;
+mod memory_files;
+mod one_file;
+mod program_limits;
 mod run_job;
+mod two_files;
 mod view_run;
 
 pub use dap_command_line::Job;
@@ -104,9 +109,20 @@ pub use dap_show::show_with;
 pub use dap_trace::record;
 pub use diff_run::run_diff;
 pub use diff_run::run_diff_with;
+pub use files::Files;
+pub use files::OpenFault;
 pub use golden_run::GoldenRun;
 pub use golden_run::run_golden;
+pub use memory_files::MemoryFiles;
+pub use one_file::OneFileRun;
+pub use one_file::run_file;
+pub use one_file::view_file;
+pub use program_limits::LIMITS;
 pub use run_job::run_stream;
 pub use run_job::run_stream_with;
 pub use run_job::run_usage;
+pub use two_files::OpenStop;
+pub use two_files::TwoFilesRun;
+pub use two_files::compare_files;
+pub use two_files::diff_files;
 pub use view_run::run_view;

@@ -2,15 +2,17 @@
 ghost use Rattle.std.specs.Prelude.{◌<◌, ◌^◌};
 
 use crate::explaining::print;
-use crate::reports::{report_failure, report_unopened};
+use crate::files::{OpenedInput, SystemFiles};
+use crate::reports::{report_failure, report_reason, report_unopened};
 use crate::rules::rules_of;
-use crate::{LIMITS, REFUSED, Setting, USAGE, tables};
+use crate::{REFUSED, Setting, USAGE, tables};
 use dap_explanations::{explain_applying, explain_comparison};
 use dap_file::{KeptInput, is_standard, open_input};
 use dap_matching::run_diff_all_with;
 use dapnorm::{
-    ApplyRefused, Comparison, MaskRules, MemorySource, Mode, Printed, Refused, Source, StdSink,
-    StdSource, Which, check_with, read_by_rules, report_unapplied, run_compare_with, run_diff_with,
+    ApplyRefused, Comparison, LIMITS, MaskRules, MemorySource, Mode, OpenFault, OpenStop, Printed,
+    Refused, Source, StdSink, StdSource, TwoFilesRun, Which, check_with, compare_files, diff_files,
+    read_by_rules, report_unapplied, run_compare_with, run_diff_with,
 };
 use std::hash::RandomState;
 
@@ -98,15 +100,85 @@ fn compare_sources<A: Source, B: Source>(
     }
 }
 
-/// Compares the recordings of two files, and prints the verdict or the differences.
-pub fn compare_files(
+/// Compares the recordings of two files, and prints the verdict.
+fn print_verdict(
     rt: &HostRuntime,
     a: &str,
     b: &str,
     mode: Mode,
-    printed: Printed,
+    setting: Setting,
+) -> TwoFilesRun<OpenedInput> {
+    let alloc = rt.alloc();
+    let files = SystemFiles {
+        rt,
+        is_kept: setting.explain,
+    };
+    compare_files(
+        alloc,
+        &files,
+        a,
+        b,
+        &mut StdSink::new(rt.stdout()),
+        &mut StdSink::new(rt.stderr()),
+        tables(alloc, LIMITS, setting.hasher),
+        tables(alloc, LIMITS, setting.hasher),
+        mode,
+    )
+}
+
+/// Compares the recordings of two files, and prints what differs at the first record at which they
+/// differ.
+fn print_first_difference(
+    rt: &HostRuntime,
+    a: &str,
+    b: &str,
+    mode: Mode,
+    setting: Setting,
+) -> TwoFilesRun<OpenedInput> {
+    let alloc = rt.alloc();
+    let files = SystemFiles {
+        rt,
+        is_kept: setting.explain,
+    };
+    diff_files(
+        alloc,
+        &files,
+        a,
+        b,
+        &mut StdSink::new(rt.stdout()),
+        &mut StdSink::new(rt.stderr()),
+        tables(alloc, LIMITS, setting.hasher),
+        tables(alloc, LIMITS, setting.hasher),
+        mode,
+    )
+}
+
+/// Explains a comparison of two files if explanations are requested, and returns its status.
+fn explained(
+    rt: &HostRuntime,
+    names: (&str, &str),
+    run: &TwoFilesRun<OpenedInput>,
+    mode: Mode,
     setting: Setting,
 ) -> u8 {
+    if !setting.explain {
+        return run.status;
+    }
+    match &run.inputs {
+        Ok((a, b)) => explain(rt, names, (a.kept(), b.kept()), run.status, mode, setting),
+        Err(OpenStop::Unopened(Which::A, OpenFault::Unread(error))) => {
+            report_reason(rt, names.0, error);
+        }
+        Err(OpenStop::Unopened(Which::B, OpenFault::Unread(error))) => {
+            report_reason(rt, names.1, error);
+        }
+        Err(_) => {}
+    }
+    run.status
+}
+
+/// Compares the recordings of two files, and prints all differences.
+fn print_all_differences(rt: &HostRuntime, a: &str, b: &str, mode: Mode, setting: Setting) -> u8 {
     let (mut input_a, mut input_b) = match open_both(rt, a, b, setting) {
         Ok(inputs) => inputs,
         Err(status) => return status,
@@ -116,13 +188,35 @@ pub fn compare_files(
         &mut StdSource::new(&mut input_a),
         &mut StdSource::new(&mut input_b),
         mode,
-        printed,
+        Printed::AllDifferences,
         setting.hasher,
     );
     if setting.explain {
         explain(rt, (a, b), (&input_a, &input_b), status, mode, setting);
     }
     status
+}
+
+/// Compares the recordings of two files, and prints the verdict or the differences.
+pub fn compare_two(
+    rt: &HostRuntime,
+    a: &str,
+    b: &str,
+    mode: Mode,
+    printed: Printed,
+    setting: Setting,
+) -> u8 {
+    match printed {
+        Printed::Verdict => {
+            let run = print_verdict(rt, a, b, mode, setting);
+            explained(rt, (a, b), &run, mode, setting)
+        }
+        Printed::FirstDifference => {
+            let run = print_first_difference(rt, a, b, mode, setting);
+            explained(rt, (a, b), &run, mode, setting)
+        }
+        Printed::AllDifferences => print_all_differences(rt, a, b, mode, setting),
+    }
 }
 
 /// Reports why the rules cannot be applied to one of two inputs, and returns the status.
@@ -221,7 +315,7 @@ fn compare_by_rules(
 pub fn run_comparison(rt: &HostRuntime, comparison: &Comparison<'_>, setting: Setting) -> u8 {
     let (a, b) = (comparison.a, comparison.b);
     let Some(name) = comparison.rules else {
-        return compare_files(rt, a, b, comparison.mode(), comparison.printed, setting);
+        return compare_two(rt, a, b, comparison.mode(), comparison.printed, setting);
     };
     let is_input_standard = is_standard(a) || is_standard(b);
     let rules = match rules_of(rt, name, is_input_standard, setting.explain) {

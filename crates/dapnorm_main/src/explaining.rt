@@ -1,10 +1,9 @@
 //! Prints explanations on standard error, after the line of a refusal.
-use crate::LIMITS;
 use dap_explain::{explain, explain_rules};
 use dap_explanations::{explain_mask, explain_order};
 use dap_file::find_file;
 use dap_runs::send;
-use dapnorm::{Refused, Replaceable, RulesFault, StdSink};
+use dapnorm::{LIMITS, Refused, Replaceable, RulesFault, StdSink};
 use std::alloc::AllocError;
 use std::fs;
 use std::hash::RandomState;

@@ -4,11 +4,11 @@ ghost use Rattle.std.specs.Prelude.{◌≡◌};
 use crate::explaining::{explain_file, print};
 use crate::reports::{report_failure, report_reason, report_unopened, report_unwritten};
 use crate::rules::rules_of;
-use crate::{FAULT, LIMITS, USAGE, report_usage};
+use crate::{FAULT, USAGE, report_usage};
 use dap_explanations::explain_golden;
 use dap_file::{FileAt, find_file, is_standard, open_input};
 use dapnorm::{
-    Golden, GoldenRequest, GoldenStop, MaskRules, MemorySource, StdSink, StdSource, Stop,
+    Golden, GoldenRequest, GoldenStop, LIMITS, MaskRules, MemorySource, StdSink, StdSource, Stop,
     UsageFault, read_all, run_golden,
 };
 use std::fs;

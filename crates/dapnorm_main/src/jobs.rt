@@ -1,16 +1,18 @@
 //! Does the jobs of the command line, over their files.
 ghost use Rattle.std.specs.Prelude.{◌≡◌, ◌<◌, ◌^◌, IfSome};
 
-use crate::comparing::compare_files;
+use crate::comparing::compare_two;
 use crate::explaining::{explain_mask_of, explain_order_of, print};
+use crate::files::{OpenedInput, SystemFiles};
 use crate::reports::{report_failure, report_reason, report_unopened, report_unwritten};
 use crate::rules::open_rules;
-use crate::{LIMITS, REFUSED, Setting, report_usage, tables};
+use crate::{REFUSED, Setting, report_usage, tables};
 use dap_explanations::{explain_job, explain_view};
-use dap_file::{KeptInput, Output, find_file, open_input, open_output};
+use dap_file::{KeptInput, Output, find_file, is_standard, open_input, open_output};
 use dapnorm::{
-    Job, MemorySink, Order, Printed, ShowRequest, Sink, StdSink, StdSource, TextSink, UsageFault,
-    run_mask, run_order, run_stream_with, run_view, save,
+    Job, LIMITS, MemorySink, OneFileRun, OpenFault, Order, Printed, ShowRequest, Sink, StdSink,
+    StdSource, TextSink, UsageFault, run_file, run_mask, run_order, run_stream_with, run_view,
+    save, view_file,
 };
 use std::hash::RandomState;
 use std::io::{self, Write};
@@ -227,8 +229,118 @@ fn explain(
     }
 }
 
+/// Does a job over the input of a name, and writes its output to standard output.
+fn print_job(
+    rt: &HostRuntime,
+    job: Job<'_>,
+    name: Option<&str>,
+    setting: Setting,
+) -> OneFileRun<OpenedInput>
+    requires no_compare { (a b per_stop : _) → job ≡ Job.Compare a b per_stop → ⊥ }
+    requires no_mask { (rules : _) → job ≡ Job.Mask rules → ⊥ }
+    requires no_diff { (a b per_stop : _) → job ≡ Job.Diff a b per_stop → ⊥ }
+{
+    let files = SystemFiles {
+        rt,
+        is_kept: setting.explain,
+    };
+    run_file(
+        rt.alloc(),
+        &files,
+        &job,
+        name,
+        &mut StdSink::new(rt.stdout()),
+        &mut StdSink::new(rt.stderr()),
+        tables(rt.alloc(), LIMITS, setting.hasher),
+    )
+}
+
+/// Prints the recording of a name to standard output, as a request of `show` says.
+fn print_view(
+    rt: &HostRuntime,
+    request: ShowRequest,
+    name: Option<&str>,
+    setting: Setting,
+) -> OneFileRun<OpenedInput> {
+    let files = SystemFiles {
+        rt,
+        is_kept: setting.explain,
+    };
+    view_file(
+        rt.alloc(),
+        &files,
+        request,
+        name,
+        &mut StdSink::new(rt.stdout()),
+        &mut StdSink::new(rt.stderr()),
+    )
+}
+
+/// Explains a task that was done over the input of a name, and returns its status. Why an input did
+/// not open is always explained.
+fn explained(
+    rt: &HostRuntime,
+    task: Task<'_>,
+    name: Option<&str>,
+    run: &OneFileRun<OpenedInput>,
+    setting: Setting,
+) -> u8 {
+    match &run.input {
+        Ok(input) => {
+            if setting.explain {
+                explain(rt, task, name, input.kept(), run.status, setting);
+            }
+        }
+        Err(OpenFault::Unread(error)) => {
+            if let Some(name) = name {
+                report_reason(rt, name, error);
+            }
+        }
+        Err(OpenFault::Memory) => {}
+    }
+    run.status
+}
+
+/// Does a task over one input, and writes its output to standard output.
+fn print_task(rt: &HostRuntime, task: Task<'_>, name: Option<&str>, setting: Setting) -> u8
+    requires no_compare { (a b per_stop : _) → task ≡ Task.Job (Job.Compare a b per_stop) → ⊥ }
+    requires no_diff { (a b per_stop : _) → task ≡ Task.Job (Job.Diff a b per_stop) → ⊥ }
+{
+    match task {
+        Task::Job(Job::Mask { .. }) | Task::Order(_) => {
+            run_opened(rt, task, name, None, setting)
+        }
+        Task::Job(job) => {
+            let run = print_job(rt, job, name, setting);
+            explained(rt, task, name, &run, setting)
+        }
+        Task::Show(request) => {
+            let run = print_view(rt, request, name, setting);
+            explained(rt, task, name, &run, setting)
+        }
+    }
+}
+
 /// Does a task over one input.
 pub fn run_over_input(
+    rt: &HostRuntime,
+    task: Task<'_>,
+    input: Option<&str>,
+    output: Option<&str>,
+    setting: Setting,
+) -> u8
+    requires no_compare { (a b per_stop : _) → task ≡ Task.Job (Job.Compare a b per_stop) → ⊥ }
+    requires no_diff { (a b per_stop : _) → task ≡ Task.Job (Job.Diff a b per_stop) → ⊥ }
+{
+    if output.is_none_or(is_standard) {
+        print_task(rt, task, input, setting)
+    } else {
+        run_opened(rt, task, input, output, setting)
+    }
+}
+
+/// Opens one input, and does a task over it.
+fn run_opened(
     rt: &HostRuntime,
     task: Task<'_>,
     input: Option<&str>,
@@ -259,10 +371,10 @@ pub fn run_job(
 ) -> u8 {
     match job {
         Job::Compare { a, b, .. } => {
-            compare_files(rt, a, b, job.mode(), Printed::Verdict, setting)
+            compare_two(rt, a, b, job.mode(), Printed::Verdict, setting)
         }
         Job::Diff { a, b, .. } => {
-            compare_files(rt, a, b, job.mode(), Printed::FirstDifference, setting)
+            compare_two(rt, a, b, job.mode(), Printed::FirstDifference, setting)
         }
         _ => run_over_input(rt, Task::Job(job), input, output, setting),
     }

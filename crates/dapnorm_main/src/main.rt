@@ -8,6 +8,7 @@ ghost use Rattle.dapnorm.specs.NameTables.{AreReady};
 
 mod comparing;
 mod explaining;
+mod files;
 mod golden;
 mod jobs;
 mod reports;
@@ -18,23 +19,12 @@ use crate::comparing::run_comparison;
 use crate::golden::keep_golden;
 use crate::jobs::{Task, run_job, run_over_input};
 use crate::showing::show_recording;
-use dap_frame::FrameLimits;
 use dapnorm::{Action, IndexNames, Limits, StdSink, Tables, UsageFault, command, run_usage};
 use std::alloc::Global;
 use std::env;
 use std::hash::RandomState;
 use std::io::{Error, ErrorKind};
 use std::process::ExitCode;
-
-/// The limits of the program.
-const LIMITS: Limits = Limits {
-    frame: FrameLimits {
-        header: 4096,
-        content: 16_777_216,
-    },
-    ids: 2_147_483_647,
-    input: 4_294_967_296,
-};
 
 /// The status if an input is refused.
 const REFUSED: u8 = 2;

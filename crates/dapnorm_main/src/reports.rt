@@ -11,7 +11,7 @@ const STANDARD_INPUT: &str = "standard input";
 
 /// Returns whether an allocation failed in the library. Such an error has no number of the
 /// operating system.
-fn is_out_of_memory(error: &Error) -> bool {
+pub fn is_out_of_memory(error: &Error) -> bool {
     error.kind() == ErrorKind::OutOfMemory && error.raw_os_error().is_none()
 }
 

@@ -5,6 +5,7 @@ use Rattle.clap.specs.Words.{takes}
 use Rattle.clap.proofs.WalkLemmas.{both}
 use Rattle.dap_command_line.specs.CommandLine.{IsToldFor, job_named, program, told}
 use Rattle.dap_command_line.proofs.CommandFiles.{takes_job}
+use Rattle.dap_command_line.proofs.FirstWords.{first_decides, program_splits}
 use Rattle.dap_command_line.proofs.ToldWords.{told_for}
 use Rattle.dap_command_line.proofs.words.job.Goals as goal
 
@@ -53,3 +54,15 @@ pub returns-in-Some-clause-taken : goal.returns-in-Some-clause-taken
 returns-in-Some-clause-taken c =
     ap (λ a. faults_of a (map (λ w. w.now) c.args.words.now)) (sym c.in-Ok.ensures)
     ∙ c.in-Ok-try_get_matches_from.ensures.kinds (ap is_simple_and_free c.in-Ok.ensures ∙ refl)
+
+pub returns-clause-first : goal.returns-clause-first
+returns-clause-first c =
+    first_decides program (map (λ w. w.now) c.args.words.now)
+    (λ kinds. IsToldFor kinds c.fault_of.result) (returns-clause-told c) program_splits
+
+pub returns-in-Ok-try_get_matches_from-clause-first :
+    goal.returns-in-Ok-try_get_matches_from-clause-first
+returns-in-Ok-try_get_matches_from-clause-first c =
+    first_decides program (map (λ w. w.now) c.args.words.now)
+    (λ kinds. IsToldFor kinds c.no_job.result)
+    (returns-in-Ok-try_get_matches_from-clause-told c) program_splits

@@ -10,7 +10,9 @@ use Rattle.clap.specs.declared.error.kind.ErrorKind.TheVariants as kind
 use Rattle.dap_command_line.specs.CommandLine.{IsToldOf}
 use Rattle.dap_command_line.specs.declared.jobs.UsageFault.{UsageFault}
 use Rattle.dap_command_line.specs.declared.jobs.UsageFault.TheVariants as usage
+use Rattle.dap_command_line.proofs.FirstWords.{first_decides}
 use Rattle.dap_commands.specs.Commands.{IsFaultFor, command_named, program, told}
+use Rattle.dap_commands.proofs.FirstArguments.{program_splits}
 use Rattle.dap_commands.proofs.TakenCommands.{accepted_command}
 use Rattle.dap_commands.proofs.words.command.Goals as goal
 
@@ -36,6 +38,11 @@ returns-in-Err-clause-told c =
     fault_for (faults_of program words) c.in-Err.error c.fault_of.result
     (subst (λ a. HasKind (faults_of a words) c.in-Err.error) c.in-Ok.ensures kinds)
     c.fault_of.ensures.memory c.fault_of.ensures.told
+
+pub returns-in-Err-clause-first : goal.returns-in-Err-clause-first
+returns-in-Err-clause-first c =
+    first_decides program (texts c.args.words.now) (λ kinds. IsFaultFor kinds c.fault_of.result)
+    (returns-in-Err-clause-told c) program_splits
 
 pub returns-in-Some-clause-ok : goal.returns-in-Some-clause-ok
 returns-in-Some-clause-ok c =

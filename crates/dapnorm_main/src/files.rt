@@ -1,0 +1,76 @@
+//! The files and the standard input of the operating system.
+use crate::reports::is_out_of_memory;
+use dap_file::{KeptInput, open_input};
+use dapnorm::{DeviceFault, Files, OpenFault, Source, StdSource};
+
+/// An input that was opened. It counts what it gave and how often it failed.
+#[derive(Drop)]
+pub struct OpenedInput {
+    input: KeptInput,
+    given: u64,
+    failures: u64,
+}
+
+impl OpenedInput {
+    /// Returns the input, with the bytes that it gave if they are kept.
+    pub fn kept(&self) -> &KeptInput {
+        &self.input
+    }
+}
+
+impl Source for OpenedInput {
+    ghost use Rattle.std.specs.Prelude.{None};
+
+    ghost left = { λ s. None };
+
+    ghost given = { λ s. s.given };
+
+    ghost failures = { λ s. s.failures };
+
+    fn read(&mut self, buffer: &mut [u8]) -> Result<usize, DeviceFault> {
+        match StdSource::new(&mut self.input).read(buffer) {
+            Ok(count) => {
+                self.given += count as u64;
+                Ok(count)
+            }
+            Err(fault) => {
+                self.failures += 1;
+                Err(fault)
+            }
+        }
+    }
+
+    fn given(&self) -> u64 {
+        self.given
+    }
+
+    fn failures(&self) -> u64 {
+        self.failures
+    }
+}
+
+/// The files and the standard input of the operating system.
+#[derive(Clone, Copy)]
+pub struct SystemFiles<'a> {
+    pub rt: &'a HostRuntime,
+    /// Whether the bytes of an input are kept to explain a refusal.
+    pub is_kept: bool,
+}
+
+impl Files<OpenedInput> for SystemFiles<'_> {
+    ghost opened = { λ files name input. Unit {0} };
+
+    ghost unopened = { λ files name fault. Unit {0} };
+
+    fn open(&self, name: &str) -> Result<OpenedInput, OpenFault> {
+        match open_input(self.rt, Some(name), self.is_kept) {
+            Ok(input) => Ok(OpenedInput {
+                input,
+                given: 0,
+                failures: 0,
+            }),
+            Err(error) if is_out_of_memory(&error) => Err(OpenFault::Memory),
+            Err(error) => Err(OpenFault::Unread(error)),
+        }
+    }
+}
