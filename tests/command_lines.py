@@ -73,6 +73,20 @@ NO_JOBS = [
 HELP = [
     (["--help"], b"Usage: dapnorm"), (["--version"], b"dapnorm 0.1.0 "), (["compact", "--help"], b"Usage: dapnorm"),
     (["check", "--help"], b"Usage: dapnorm check [OPTIONS]"), (["check", "--help"], b"--complete"), (["diff", "--help"], b"--per-stop"),
+    (["help"], b"Usage: dapnorm"), (["help", "check"], b"Usage: dapnorm check"), (["-V"], b"dapnorm 0.1.0 "), (["mask", "-h"], b"RULES"),
+]
+
+# Words that request help or the version, and a mistake after them: the request comes first.
+HELP_FIRST = [
+    (["--help", "--all"], b"Usage: dapnorm"), (["--version", "none"], b"dapnorm 0.1.0 "), (["check", "--help", "--all"], b"Usage: dapnorm check"),
+    (["check", "-h", "a", "b"], b"Usage: dapnorm check"), (["compare", "--help"], b"Usage: dapnorm compare"),
+    (["compare", "a.rec", "--help"], b"Usage: dapnorm compare"), (["check", "-ha"], b"Usage: dapnorm check"),
+]
+
+# The same with the mistake first, which alone is reported.
+MISTAKE_FIRST = [
+    ["--all", "--help"], ["none", "--version"], ["check", "--all", "--help"], ["check", "a", "b", "--help"], ["check", "-ah"],
+    ["normalise", "-o", "--help"], ["check", "--complete", "--complete", "--help"], ["help", "none"], ["check", "--version", "--help"],
 ]
 
 
@@ -90,7 +104,7 @@ def jobs(report, faulty):
 
 
 def no_jobs(report, faulty):
-    for words in NO_JOBS:
+    for words in NO_JOBS + MISTAKE_FIRST:
         status, output, errors = faulty.run(run_of(words))
         held = (status, output) == (3, b"") and errors.startswith(b"error: ") and errors.endswith(b"\n")
         report.check(f"{words} is no job", held, repr((status, output, errors)))
@@ -98,7 +112,7 @@ def no_jobs(report, faulty):
 
 def help_texts(report, faulty):
     """The text is printed if it can be written, and the status reports a write that fails after 10 bytes."""
-    for words, part in HELP:
+    for words, part in HELP + HELP_FIRST:
         status, output, errors = faulty.run(run_of(words))
         report.check(f"{words} prints {part}", status == 0 and part in output and errors == b"", repr((status, output, errors)))
         answer = faulty.run(run_of(words), write_fails=10)

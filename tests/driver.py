@@ -116,12 +116,14 @@ def many_answers(calls: Iterable[Call], count: int = 2000) -> list:
 
 
 def turns(call: Call, shim: str) -> list:
-    """The answers with the first growth refused, then the second, and so on; the last met no growth to be refused."""
+    """The answers with the first growth refused, then the second, and so on, each with the answer that the same call gives next, with
+    memory, in the same process. The last one met no growth to be refused."""
     found: list = []
     while len(found) < TURNS:
         first = len(found) + 1
-        for each in answers([call._replace(turn=turn) for turn in range(first, first + 100)], shim):
-            found.append(each)
+        given = answers([each for turn in range(first, first + 50) for each in (call._replace(turn=turn), call)], shim)
+        for each, again in zip(given[::2], given[1::2]):
+            found.append((each, again))
             if not each.refused:
                 return found
     raise DriverFailed(f"{call.name} meets a growth after the {TURNS}th")

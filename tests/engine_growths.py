@@ -1,5 +1,5 @@
 """Each growth of memory of an engine refused in turn, over the shim tests/fault_injection.c: the answer is that of ample memory, or says
-that memory was refused, and never another."""
+that memory was refused, and never another. The same call made next, with memory, gives the answer of ample memory."""
 import sys
 import tempfile
 
@@ -22,17 +22,24 @@ def leading(lines):
 
 def wrong_turns(found, wanted, texts):
     """The turns whose answer is neither the wanted one nor, if a growth was refused, want of memory with one of these texts written and not
-    flushed."""
+    flushed; and those after which the same call with memory does not give the wanted answer."""
     wrong = []
-    for turn, each in enumerate(found, 1):
+    for turn, (each, again) in enumerate(found, 1):
         if each.result in ("Err(Memory)", "5"):
             line = OUT_OF_MEMORY if each.result == "5" else b""
             holds = each.refused and each.output in texts and each.errors == line and each.flushes == 0
         else:
-            holds = (each.result, each.output, each.errors) == wanted
+            holds = gives(each, wanted)
         if not holds:
             wrong.append(f"growth {turn}: {each!r}")
+        if again.refused or not gives(again, wanted):
+            wrong.append(f"after growth {turn}: {again!r}")
     return wrong
+
+
+def gives(each, wanted):
+    """Whether the answer has this result, this output and these errors."""
+    return (each.result, each.output, each.errors) == wanted
 
 
 def each_turn(report, shim, name, call, result, written=b"", texts=(b"",), least=1):
@@ -80,9 +87,14 @@ def want_of_memory_is_told_without_memory(report, shim):
     each_turn(report, shim, "run_stream of compact", Call("run-compact", Input(LOOSE)), "0", CANONICAL)
 
 
+def named(more):
+    """What is particular to a call, behind its name."""
+    return "".join(f", {name} {value}" for name, value in more.items())
+
+
 def normalises(report, shim, lines, result, written, least=1, **more):
     call = Call("normalise", Input(recording(lines)), **more)
-    each_turn(report, shim, f"normalise of {len(lines)} lines {more or ''}", call, result, recording(written), leading(written), least)
+    each_turn(report, shim, f"normalise of {len(lines)} lines{named(more)}", call, result, recording(written), leading(written), least)
 
 
 def normalise_is_refused_in_turn(report, shim):
@@ -127,9 +139,10 @@ def compares(report, shim, a, b, result, least=1, **more):
     """The pairs that a renaming has are those with ample memory."""
     call = Call("compare", Input(recording(a)), Input(recording(b)), **more)
     found = turns(call, shim)
-    wrong = wrong_turns(found, (result, found[-1].output, b""), (b"",))
-    name = f"compare answered with {result}"
-    report.check(f"{name} with each growth refused in turn", found[-1].result == result and not wrong, "; ".join(wrong[:2])[:500])
+    last, _ = found[-1]
+    wrong = wrong_turns(found, (result, last.output, b""), (b"",))
+    name = f"compare answered with {result}{named(more)}"
+    report.check(f"{name} with each growth refused in turn", last.result == result and not wrong, "; ".join(wrong[:2])[:500])
     report.check(f"{name} meets growths", len(found) > least, str(len(found)))
 
 
@@ -146,8 +159,12 @@ def compare_per_stop_is_refused_in_turn(report, shim):
     compares(report, shim, STALE_FRAME, FRAMES_LINES, "Ok(Differ(3))", mode="per-stop")
 
 
+# Two recordings that are the same in a mode of names, and the pairs that are printed.
+ALIKE = [(FRAMES_LINES, EXCHANGED_LINES, "whole", FRAME_PAIRS), (STALE_FRAME, NEW_FRAME, "per-stop", STOP_PAIRS)]
+
+
 def run_compare_is_refused_in_turn(report, shim):
-    for a, b, mode, printed in ((FRAMES_LINES, EXCHANGED_LINES, "whole", FRAME_PAIRS), (STALE_FRAME, NEW_FRAME, "per-stop", STOP_PAIRS)):
+    for a, b, mode, printed in ALIKE:
         call = Call("run-compare", Input(recording(a)), Input(recording(b)), mode=mode)
         each_turn(report, shim, f"run_compare, {mode}", call, "0", printed)
 
@@ -166,18 +183,60 @@ def run_diff_is_refused_in_turn(report, shim):
         each_turn(report, shim, f"run_diff with {len(lines)} lines", call, "1", printed)
 
 
-def engines_with_tables_are_refused_in_turn(report, shim):
-    """`normalise_with`, `check_with`, `compare_with`, `run_stream_with` and `run_compare_with`, with both kinds of tables."""
+def normalise_with_tables_is_refused_in_turn(report, shim):
+    """`normalise_with`, with both kinds of tables: a recording without records, accepted ones in both modes, one that breaks a rule, and
+    one past the limit of ids."""
     for tables in HANDED:
+        normalises(report, shim, [], "Ok(())", [], 0, tables=tables)
         normalises(report, shim, CONFIGURED, "Ok(())", NORMAL_CONFIGURED, tables=tables)
-        call = Call("check", Input(SESSION), complete=True, tables=tables)
-        each_turn(report, shim, f"check with tables that are {tables}", call, accepted(5))
+        normalises(report, shim, NEW_FRAME, "Ok(())", NORMAL_PER_STOP, mode="per-stop", tables=tables)
+        normalises(report, shim, TWICE_LINES, "Err(Rule(3, AnsweredTwice))", NORMAL_BEGUN, tables=tables)
+        few = {"limits": Limits(ids=2), "tables": tables}
+        normalises(report, shim, THREE_FRAMES, "Err(TooManyIds(4))", [*NORMAL_BEGUN, STACK], **few)
+
+
+def check_with_tables_is_refused_in_turn(report, shim):
+    """`check_with`, with both kinds of tables and in both modes."""
+    for tables in HANDED:
+        for lines, mode, result in (
+            (CONFIGURED, "whole", accepted(5)), (NEW_FRAME, "per-stop", accepted(len(NEW_FRAME))),
+            (TWICE_LINES, "whole", "Err(Rule(3, AnsweredTwice))"),
+        ):
+            call = Call("check", Input(recording(lines)), mode=mode, complete=True, tables=tables)
+            each_turn(report, shim, f"check answered with {result}, {mode}, tables {tables}", call, result)
+
+
+def compare_with_tables_is_refused_in_turn(report, shim):
+    """`compare_with`, with both kinds of tables and in both modes."""
+    for tables in HANDED:
         compares(report, shim, FRAMES_LINES, EXCHANGED_LINES, "Ok(Same(7))", tables=tables)
+        compares(report, shim, FRAMES_LINES, [], "Ok(Differ(1))", tables=tables)
+        compares(report, shim, FRAMES_LINES, TWICE_LINES, "Err(Input(B, Rule(3, AnsweredTwice)))", tables=tables)
+        compares(report, shim, STALE_FRAME, NEW_FRAME, "Ok(Same(11))", mode="per-stop", tables=tables)
+
+
+def run_stream_with_tables_is_refused_in_turn(report, shim):
+    """`run_stream_with`, with both kinds of tables: the jobs that name ids."""
+    for tables in HANDED:
         call = Call("run-normalise", Input(SESSION), tables=tables)
         texts = leading(NORMAL_CONFIGURED)
-        each_turn(report, shim, f"run_stream with tables that are {tables}", call, "0", recording(NORMAL_CONFIGURED), texts)
-        call = Call("run-compare", Input(recording(FRAMES_LINES)), Input(recording(EXCHANGED_LINES)), tables=tables)
-        each_turn(report, shim, f"run_compare with tables that are {tables}", call, "0", FRAME_PAIRS)
+        each_turn(report, shim, f"run_stream of normalise, tables {tables}", call, "0", recording(NORMAL_CONFIGURED), texts)
+        call = Call("run-normalise", Input(recording(NEW_FRAME)), mode="per-stop", tables=tables)
+        texts = leading(NORMAL_PER_STOP)
+        each_turn(report, shim, f"run_stream of normalise by stops, tables {tables}", call, "0", recording(NORMAL_PER_STOP), texts)
+        call = Call("run-check", Input(SESSION), complete=True, tables=tables)
+        each_turn(report, shim, f"run_stream of check, tables {tables}", call, "0", b"accepted records=5 open=0,0\n")
+
+
+def run_compare_and_run_diff_with_tables_are_refused_in_turn(report, shim):
+    """`run_compare_with` and `run_diff_with`, with both kinds of tables."""
+    for tables in HANDED:
+        for a, b, mode, printed in ALIKE:
+            call = Call("run-compare", Input(recording(a)), Input(recording(b)), mode=mode, tables=tables)
+            each_turn(report, shim, f"run_compare, {mode}, tables {tables}", call, "0", printed)
+        for lines, printed in DIFFERENCES:
+            call = Call("run-diff", Input(recording(STEP)), Input(recording(lines)), tables=tables)
+            each_turn(report, shim, f"run_diff with {len(lines)} lines, tables {tables}", call, "1", printed)
 
 
 TESTS = [
@@ -185,7 +244,8 @@ TESTS = [
     normalise_is_refused_in_turn, normalise_per_stop_is_refused_in_turn, normalise_past_a_limit_is_refused_in_turn,
     normalise_bytes_is_refused_in_turn, check_is_refused_in_turn, check_prints_its_line_or_wants_memory, compare_is_refused_in_turn,
     compare_per_stop_is_refused_in_turn, run_compare_is_refused_in_turn, run_diff_is_refused_in_turn,
-    engines_with_tables_are_refused_in_turn,
+    normalise_with_tables_is_refused_in_turn, check_with_tables_is_refused_in_turn, compare_with_tables_is_refused_in_turn,
+    run_stream_with_tables_is_refused_in_turn, run_compare_and_run_diff_with_tables_are_refused_in_turn,
 ]
 
 

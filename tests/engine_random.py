@@ -1,5 +1,5 @@
-"""Inputs made at random out of worked recordings, in each run the same ones. `normalise`, `check` and `compare` are held to each other on
-each."""
+"""Inputs made at random out of worked recordings, in each run the same ones. `normalise`, `check`, `compare` and `show` are held to each
+other on each. `show` reads a content as a tree, and the others as a flat document if they can."""
 import sys
 
 from driver import Call, Input, Output, many_answers, run_tests
@@ -104,6 +104,19 @@ def asks_accepted(report, accepted):
     report.check(f"{len(accepted)} accepted inputs", not wrong, "; ".join(wrong[:2])[:1000])
 
 
+def asks_shown(report, texts, checked):
+    """`show`, which reads each content as a tree, accepts and refuses what `check` does, but for the rules of a session, which it does not
+    judge."""
+    asked = [(text, each.result) for text, each in zip(texts, checked) if not each.result.startswith("Err(Rule(")]
+    shown = many_answers(Call("show", Input(text), output=ROOM) for text, _ in asked)
+    wrong = []
+    for (text, result), each in zip(asked, shown):
+        wanted = "Ok(())" if result.startswith("Ok(") else result
+        if each.result != wanted:
+            wrong.append(repr((text, wanted, each.result)))
+    report.check(f"{len(asked)} inputs, which check and show judge alike", not wrong and len(asked) > 10_000, "; ".join(wrong[:2])[:1000])
+
+
 def random_inputs(report):
     texts = list(inputs())
     normalised = many_answers(map(normalise, texts))
@@ -119,6 +132,7 @@ def random_inputs(report):
     alike = len(texts) == INPUTS and not wrong
     report.check(f"{len(texts)} inputs, which check and normalise answer alike", alike, "; ".join(wrong[:2])[:1000])
     asks_accepted(report, accepted)
+    asks_shown(report, texts, checked)
     compared = many_answers(compare(text, text) for text, _ in refused)
     wanted = [f"Err(Input(A, {result[4:-1]}))" for _, result in refused]
     other = [repr((text, want, each)) for (text, _), want, each in zip(refused, wanted, compared) if each.result != want]

@@ -2,8 +2,8 @@
 import sys
 
 from driver import Call, Input, Limits, many_answers, run_tests
-from engine_inputs import LOOSE, SESSION, worked
-from worked_runs import NEW_FRAME, TRACE, frame, recording
+from engine_inputs import LOOSE, SESSION, STALE_FRAME, worked
+from worked_runs import FRAMES_LINES, NEW_FRAME, TRACE, frame, recording
 
 # Limits that many recordings pass: of their contents, their ids, and their bytes; and those of the program.
 LIMITS = [
@@ -35,6 +35,27 @@ def recordings_with_handed_tables(report):
         report.check(f"some recordings are answered with {word}", any(word in result for result in results))
 
 
+def recordings_per_stop_with_handed_tables(report):
+    """In the mode in which names begin again at each stop, also past a limit of ids."""
+    texts = [*worked(), recording(NEW_FRAME), recording(STALE_FRAME)]
+    own = agree(report, "recordings by stops", (
+        Call(name, Input(text), mode="per-stop", limits=limits, complete=True)
+        for text in texts for limits in (Limits(), Limits(ids=1), Limits(ids=2)) for name in ("normalise", "check")
+    ))
+    results = [each.result for each in own]
+    for word in ("Ok(", "TooManyIds"):
+        report.check(f"some recordings by stops are answered with {word}", any(word in result for result in results))
+
+
+def two_recordings_per_stop_with_handed_tables(report):
+    """The first two are the same by stops alone."""
+    texts = [recording(lines) for lines in (STALE_FRAME, NEW_FRAME, FRAMES_LINES, [])]
+    pairs = [(a, b) for a in texts for b in texts]
+    names = ("compare", "run-compare", "run-diff")
+    own = agree(report, "two recordings by stops", (Call(name, Input(a), Input(b), mode="per-stop") for name in names for a, b in pairs))
+    report.check("two stops are the same by stops", own[1].result == "Ok(Same(11))", repr(own[1]))
+
+
 def two_recordings_with_handed_tables(report):
     """Each is compared with the one before it, and with the configured session."""
     pairs, before = [], b""
@@ -64,7 +85,10 @@ def jobs_with_handed_tables(report):
     report.check("each job has a status", {each.result for each in own} == {"0", "2"}, repr({each.result for each in own}))
 
 
-TESTS = [recordings_with_handed_tables, two_recordings_with_handed_tables, jobs_per_stop_with_handed_tables, jobs_with_handed_tables]
+TESTS = [
+    recordings_with_handed_tables, recordings_per_stop_with_handed_tables, two_recordings_with_handed_tables,
+    two_recordings_per_stop_with_handed_tables, jobs_per_stop_with_handed_tables, jobs_with_handed_tables,
+]
 
 if __name__ == "__main__":
     sys.exit(run_tests(TESTS))

@@ -86,6 +86,8 @@ def usage(report):
     rows = len(re.findall(rb"^\| \d+ \|", read("../docs/PROFILE.md"), re.MULTILINE))
     wanted = f"dapnorm {version} (profile of {rows} rows)\n".encode()
     report.check("the version is that of the changelog", (status, output, errors) == (0, wanted, b""), repr(output))
+    told = [re.findall(rb"^const VERSION.*", read(f"../crates/{crate}/src/definition.rt"), re.MULTILINE) for crate in ("dap_commands", "dap_command_line")]
+    report.check("both definitions of the command line have the version", told[0] == told[1] and len(told[0]) == 1, repr(told))
     status, output, errors = run(["check", "--help"])
     report.check("help of check names its flag", status == 0 and b"--complete" in output and errors == b"")
     status, output, errors = run(["check", "--all"])
@@ -96,6 +98,8 @@ def rows(report):
     numbers = re.findall(rb"^\| (\d+) \|", read("../docs/PROFILE.md"), re.MULTILINE)
     status, output, errors = run(["rows"])
     printed = [line.split()[0] for line in output.splitlines()]
+    version = run(["--version"])[1]
+    report.check("the version names the profile that runs", version.endswith(b" (profile of %d rows)\n" % len(printed)), repr(version))
     report.check("rows prints each row of the profile", (status, printed, errors) == (0, numbers, b""), repr((printed, errors)))
     for number, line in [
         ("1", b"1 * * seq needed own-seq\n"),
