@@ -162,8 +162,9 @@ pub fn job<'a>(alloc: Global, words: &'a [&'a str]) -> Result<Job<'a>, UsageFaul
     ensures told { IfErr result
         (IsToldFor (faults_of program (map (λ w. w.now) words.entry.now))) }
 
-    // Of words that ask for help and make a mistake, the first is told: what some first words show,
-    // whatever comes after them. That a word is missing is told only if no word shows anything.
+    // If words ask for help and make a mistake, the first of the two is told: what some first words
+    // show, whatever comes after them. That a word is missing is told only if no word shows
+    // anything.
     ensures first { IfErr result (λ fault.
         FirstDecides program (map (λ w. w.now) words.entry.now) (λ kinds. IsToldFor kinds fault)) }
 {

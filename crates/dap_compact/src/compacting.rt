@@ -100,8 +100,11 @@ fn compact_records<R: Source>(
 ///
 /// # Errors
 ///
-/// The first refusal of the input; `ReadFault` where the reader failed and what came before is not
-/// refused; `WriteFault` where the writer failed; `Memory`.
+/// - The first refusal of the input. The rest of the input is read and dropped then, and a read of
+///   it that fails is not reported.
+/// - `ReadFault`: the reader failed, and what came before is refused for nothing but its end.
+/// - `WriteFault`: the writer failed.
+/// - `Memory`: an allocation failed.
 pub fn compact<R: Source, W: Sink>(
     alloc: Global,
     reader: &mut R,
@@ -113,8 +116,9 @@ pub fn compact<R: Source, W: Sink>(
     requires read_failures { R.failures reader.old < 2 ^ 62 }
     requires write_failures { W.failures writer.old < 2 ^ 62 }
 
-    // The compact text of the input goes out and is flushed, or its first refusal is answered and
-    // nothing goes out. A fault of a device is answered exactly where that device failed.
+    // The compact text of the input goes out and is flushed, or its first refusal is returned and
+    // nothing goes out. `WriteFault` is returned if and only if the writer failed, `ReadFault` only
+    // if the reader failed: a read that fails after a refusal is not reported.
     ensures answer { Answers R.Source W.Sink limits.input (Compacts limits)
         (IsRefused (compacting limits)) reader.old reader.new writer.old writer.new result }
 

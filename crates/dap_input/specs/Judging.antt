@@ -6,7 +6,7 @@ use Rattle.dap_message.specs.Message.{Refusal}
 use Rattle.dap_recording.specs.declared.record_fault.RecordCause.{RecordCause}
 use Rattle.dap_session.specs.declared.rule.Rule.{Rule}
 
--- Why a whole record is refused: it holds no message, or one that breaks a rule; with it some sort
+-- Why a whole record is refused: it holds no message, or one that breaks a rule; with it some class
 -- has too many ids, or the text to be written passes a limit.
 pub data Objection : Type 0 where
   no_message : Refusal → Objection

@@ -9,7 +9,8 @@ use dap_frame::FrameLimits;
 pub struct Limits {
     /// How long a header part and a content may be, in bytes.
     pub frame: FrameLimits,
-    /// How many distinct ids of a sort a recording may have.
+    /// How many distinct ids a class may have: all ids of a sort, or, if names begin again at each
+    /// stop, the frame ids or the references between two stops.
     pub ids: usize,
     /// How many bytes an input may have, and the text that is written.
     pub input: u64,

@@ -28,7 +28,8 @@ pub enum Refused {
     /// The message of this record breaks a rule of its session.
     #[error("record {0}: {1}")]
     Rule(u64, Rule),
-    /// With this record, some sort has more distinct ids than the limit.
+    /// With this record, some class has more distinct ids than the limit. A class is all ids of a
+    /// sort; if names begin again at each stop, frame ids and references have one for each stop.
     #[error("record {0}: TooManyIds")]
     TooManyIds(u64),
     /// With this record, the text to be written would pass a limit.

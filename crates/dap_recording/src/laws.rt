@@ -44,7 +44,7 @@ pub fn one_outcome()
     ensures open_not_faulty { OpenNotFaulty }
 {}
 
-/// All bytes begin with a record, or show a fault, or are open; no bytes are open.
+/// Every byte string begins with a record, shows a fault, or is open. The empty one is open.
 pub fn some_outcome()
     ensures some { SomeOutcome }
     ensures open_none { OpenNone }

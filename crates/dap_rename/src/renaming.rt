@@ -84,7 +84,8 @@ impl Renaming {
     /// then of the names.
     ///
     /// The only fault is `Memory`. Beside the pairs it takes 8 bytes a pair, for the index by which
-    /// [`carries`](Renaming::carries) looks each id up. If no number has a name, it takes no memory.
+    /// [`carries`](Renaming::carries) looks each id up. If no number has a name, it takes no
+    /// memory.
     pub fn between<T: NameTable>(
         alloc: Global,
         from: &Names<T>,

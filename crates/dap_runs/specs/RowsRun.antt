@@ -19,8 +19,9 @@ RowsArePrinted sink lines before after (Err WriteFault) = FrontWritten sink befo
 RowsArePrinted sink lines before after (Err Memory) = after ≡ before
 RowsArePrinted sink lines before after (Err refused) = ⊥
 
--- If there are lines, they are printed, and an error is reported. If there are none, that is reported
--- as a mistake of the user, and never a failed allocation: no line is known without any growth.
+-- If there are lines, they are printed, and an error is reported. If there are none, that is
+-- reported as a mistake of the user, and never as a failed allocation: it is known before any
+-- growth.
 abbrev pub TellsRows : {W E : Type 0} → Sink W → Sink E → List ℕ → W → W → E → E → ℕ → Type 0
 TellsRows sink errors lines before after old new status =
     Answered (λ answer. (lines ≢ []) × RowsArePrinted sink lines before after answer)

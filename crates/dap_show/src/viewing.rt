@@ -179,7 +179,8 @@ pub fn show_with<R: Source, W: Sink>(
     requires write_failures { W.failures writer.old < 2 ^ 62 }
 
     // The lines of all records go out and are flushed, or the first refusal is returned and nothing
-    // goes out. A fault of a device is returned if and only if that device failed.
+    // goes out. `WriteFault` is returned if and only if the writer failed, `ReadFault` only if the
+    // reader failed.
     ensures answer { ShowsInput detail limits R.Source W.Sink reader.old reader.new writer.old
         writer.new result }
 
@@ -221,8 +222,8 @@ pub fn show_faulty<R: Source, W: Sink>(
     requires write_failures { W.failures writer.old < 2 ^ 62 }
 
     // The lines of all records, or of those before a fault of the framing and its own line, go out
-    // and are flushed. Else nothing goes out. A fault of a device is returned if and only if that
-    // device failed.
+    // and are flushed. Else nothing goes out. `WriteFault` is returned if and only if the writer
+    // failed, `ReadFault` only if the reader failed.
     ensures answer { ViewsInput true detail limits R.Source W.Sink reader.old reader.new
         writer.old writer.new result }
 

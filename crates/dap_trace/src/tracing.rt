@@ -177,8 +177,12 @@ fn write_records<W: Sink>(
 /// The first in the order of the input of: a byte past the limit, `TraceTooLong`; a fault of a
 /// piece, `Trace`; a fault of a frame of a side, `Recorder`. Then, at the end of the trace, a
 /// `Cut`: of the last piece, or else of a frame of the client, or else of one of the adapter.
-/// `ReadFault` where the reader failed and what came before is not refused but for its end;
-/// `WriteFault` where the writer failed; `Memory`.
+///
+/// - `ReadFault`: the reader failed, and what came before is refused for nothing but its end. After
+///   another fault the rest of the input is read and dropped, and a read of it that fails is not
+///   reported.
+/// - `WriteFault`: the writer failed, also after a fault of the trace.
+/// - `Memory`: an allocation failed.
 pub fn record<R: Source, W: Sink>(
     alloc: Global,
     reader: &mut R,
@@ -190,9 +194,9 @@ pub fn record<R: Source, W: Sink>(
     requires read_failures { R.failures reader.old < 2 ^ 62 }
     requires write_failures { W.failures writer.old < 2 ^ 62 }
 
-    // The records of the frames that ended go out and are flushed, on a refusal too, and nothing
-    // goes out where memory was refused. A fault of a device is answered exactly where that device
-    // failed.
+    // The records of the frames that ended go out and are flushed, after a refusal too. After
+    // `Memory` nothing goes out. `WriteFault` is returned if and only if the writer failed,
+    // `ReadFault` only if the reader failed: a read that fails after a refusal is not reported.
     ensures answer { RecordsTrace R.Source W.Sink limits reader.old reader.new
         writer.old writer.new result }
 

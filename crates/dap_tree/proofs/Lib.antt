@@ -20,3 +20,4 @@ pub mod Utf8
 pub mod IdPaths
 pub mod Sorts
 pub mod Sides
+pub mod NoIds

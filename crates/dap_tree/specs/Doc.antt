@@ -25,6 +25,16 @@ mutual
     no_members : Members
     member : List ℕ → Doc → Members → Members
 
+-- Null, a boolean or a number: its tree has a fixed size, and owns no memory.
+abbrev pub has_fixed_size : Doc → Bool
+has_fixed_size null = true
+has_fixed_size (boolean b) = true
+has_fixed_size (whole z) = true
+has_fixed_size (text s) = false
+has_fixed_size (list ds) = false
+has_fixed_size (object ms) = false
+has_fixed_size (id s z) = true
+
 -- ---- sound documents
 
 -- How deep lists and objects nest (own): one of them is one deeper than its deepest part, and all

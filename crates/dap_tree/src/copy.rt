@@ -1,5 +1,6 @@
 //! Copies of trees, with memory of their own.
-ghost use Rattle.std.specs.Prelude.{◌≡◌, IfOk, IfErr};
+ghost use Rattle.std.specs.Prelude.{◌≡◌, true, IfOk, IfErr, IsOk};
+ghost use Rattle.dap_tree.specs.Doc.{has_fixed_size};
 ghost use Rattle.dap_tree.specs.View.{view, items_view, members_view};
 ghost use Rattle.dap_tree.specs.declared.fault.TreeFault.{TreeFault};
 
@@ -8,10 +9,11 @@ use std::alloc::{AllocError, Global};
 use std::collections::BTreeMap;
 
 impl Tree {
-    /// An equal tree, with memory of its own.
+    /// An equal tree, with memory of its own. A copy of null, a boolean or a number takes none.
     pub fn copy(&self, alloc: Global) -> Result<Tree, TreeFault>
         ensures equal { IfOk result (λ t. view t ≡ view self.now) }
         ensures memory { IfErr result (λ f. f ≡ TreeFault.Memory) }
+        ensures fixed { has_fixed_size (view self.now) ≡ true → IsOk result }
     {
         Ok(copy_tree(alloc, self)?)
     }
@@ -19,7 +21,8 @@ impl Tree {
 
 #[cycle(copy_tree)]
 fn copy_tree(alloc: Global, tree: &Tree) -> Result<Tree, AllocError>
-    ensures { IfOk result (λ t. view t ≡ view tree.now) }
+    ensures equal { IfOk result (λ t. view t ≡ view tree.now) }
+    ensures fixed { has_fixed_size (view tree.now) ≡ true → IsOk result }
 {
     match tree {
         Tree::Null => Ok(Tree::Null),

@@ -1,5 +1,5 @@
 //! The ids of a tree: listed, and replaced by other numbers.
-ghost use Rattle.std.specs.Prelude.{◌≡◌, ◌++◌, ◌≤◌, true, length, drop, OnOk, OnErr};
+ghost use Rattle.std.specs.Prelude.{◌≡◌, ◌++◌, ◌≤◌, [], true, length, drop, IsOk, OnOk, OnErr};
 ghost use Rattle.dap_tree.specs.Doc.{depth, items_depth, members_depth, is_sound, is_ordered};
 ghost use Rattle.dap_tree.specs.Doc.{items_ordered, members_ordered};
 ghost use Rattle.dap_tree.specs.Ids.{ids, items_ids, members_ids, id_count, items_id_count};
@@ -14,10 +14,11 @@ use std::collections::BTreeMap;
 
 impl Tree {
     /// Appends the ids of the tree, each its sort and its number, in the order in which the text of
-    /// the tree has them.
+    /// the tree has them. A tree without ids takes no memory.
     pub fn add_ids(&self, found: &mut Vec<(Sort, i64)>) -> Result<(), AllocError>
         ensures ok { OnOk result (found.new.items ≡ found.old.items ++ ids (view self.now)) }
         ensures err { OnErr result (found.new.items ≡ found.old.items) }
+        ensures none { ids (view self.now) ≡ [] → IsOk result }
 
         // So the order of the ids is that of their paths.
         ensures ordered { OnOk result (is_ordered (view self.now) ≡ true) }
@@ -52,6 +53,7 @@ impl Tree {
 fn add(tree: &Tree, found: &mut Vec<(Sort, i64)>) -> Result<(), AllocError>
     ensures ok { OnOk result (found.new.items ≡ found.old.items ++ ids (view tree.now)) }
     ensures err { OnErr result (Extends found.old.items found.new.items) }
+    ensures none { ids (view tree.now) ≡ [] → IsOk result }
     ensures ordered { OnOk result (is_ordered (view tree.now) ≡ true) }
 {
     match tree {
@@ -70,6 +72,7 @@ fn add_items(items: &Vec<Tree>, found: &mut Vec<(Sort, i64)>) -> Result<(), Allo
     ensures ok { OnOk result (found.new.items
         ≡ found.old.items ++ items_ids (items_view items.now.items)) }
     ensures err { OnErr result (Extends found.old.items found.new.items) }
+    ensures none { items_ids (items_view items.now.items) ≡ [] → IsOk result }
     ensures ordered { OnOk result (items_ordered (items_view items.now.items) ≡ true) }
 {
     for item in items {
@@ -86,6 +89,7 @@ fn add_members(
     ensures ok { OnOk result (found.new.items
         ≡ found.old.items ++ members_ids (members_view members.now.entries)) }
     ensures err { OnErr result (Extends found.old.items found.new.items) }
+    ensures none { members_ids (members_view members.now.entries) ≡ [] → IsOk result }
     ensures ordered { OnOk result (members_ordered (members_view members.now.entries) ≡ true) }
 {
     for (_, member) in members.iter() {

@@ -22,5 +22,5 @@ copy_members-loop-name-preserved t c =
       ap members_view c.in_ok-insert.ensures.entries
           ∙ members_view-insert_entry c.loop-name.copies.entries c.in_ok-name.name
           c.in_ok-copy_tree.field-0
-          ∙ rw (named, c.in_ok-copy_tree.ensures, c.loop-name.invariant.2) last,
+          ∙ rw (named, c.in_ok-copy_tree.ensures.equal, c.loop-name.invariant.2) last,
     )
