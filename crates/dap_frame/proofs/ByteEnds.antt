@@ -1,4 +1,4 @@
--- With what byte lists end, and which marks stand nowhere in them, as one byte more comes.
+-- How byte lists end, and which marks do not occur in them, after one more byte.
 use Rattle.std.proofs.Common.{◌≡◌, ℕ, zero, suc, ◌+◌, ◌-◌, Bool, true, false, ◌&&◌, List, [], ◌∷◌}
 use Rattle.std.proofs.Common.{◌++◌, length, drop, refl, ap, ◌∙◌, arith, inl, inr, nat_eq}
 use Rattle.std.proofs.lemmas.Bool.{cases_lt, and_right}
@@ -61,12 +61,12 @@ lacks_more m xs b lacks last j le =
           (take_all j (xs ++ b ∷ []) (omega (arith, length-append xs (b ∷ [])))) ∙ last
     ]
 
--- a mark is like itself
+-- a mark is equal to itself
 pub same_mark : (mark : List ℕ) → pointwise nat_eq mark mark ≡ true
 same_mark [] = refl
 same_mark (x ∷ mark) = ap (λ b. b && pointwise nat_eq mark mark) (eq-eqb x x refl) ∙ same_mark mark
 
--- no line ends in no bytes, and no header part
+-- neither a line nor a header part ends in the empty list
 pub no_line_end : Lacks line_end []
 no_line_end zero h = refl
 no_line_end (suc j) h = refl

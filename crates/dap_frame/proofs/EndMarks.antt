@@ -1,4 +1,4 @@
--- How much of a CR LF CR LF stands at the end of the bytes, as one byte more comes.
+-- The part of a CR LF CR LF at the end of the bytes, after one more byte.
 use Rattle.std.proofs.Common.{◌≡◌, ℕ, true, false, List, [], ◌∷◌, ◌++◌, refl, ◌∙◌, nat_eq}
 use Rattle.std.proofs.lemmas.Bool.{and_right}
 use Rattle.dap_frame.specs.declared.header_scan.EndMark.{EndMark}

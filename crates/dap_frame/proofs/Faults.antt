@@ -1,4 +1,4 @@
--- What shows a fault: one of the bytes, and none of the end of a stream or of memory.
+-- An error is proved by one of the bytes, and it is neither `Cut` nor `Memory`.
 use Rattle.std.proofs.Common.{◌≡◌, ◌≢◌, ℕ, ◌<◌, ◌≤◌, List, length, Result, Err, refl, sym, ◌∙◌}
 use Rattle.dap_items.proofs.Ends as items
 use Rattle.dap_frame.specs.declared.limits.FrameLimits.{FrameLimits}

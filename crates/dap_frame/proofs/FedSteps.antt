@@ -1,4 +1,4 @@
--- What a framer stands for once it has taken of a frame.
+-- The rest that a framer represents after it has consumed bytes of a frame.
 use Rattle.std.proofs.Common.{◌≡◌, ℕ, ◌+◌, ◌-◌, ◌<◌, ◌≤◌, List, [], ◌++◌, length, take, drop, min}
 use Rattle.std.proofs.Common.{Result, Ok, Err, refl, sym, ap, ◌∙◌, subst, arith}
 use Rattle.std.proofs.lemmas.List.{take-append-drop, take_all, append_assoc, length-append}
@@ -23,7 +23,7 @@ use Rattle.dap_frame.proofs.Frames.{frame_grammar, frame_of, open_in_content}
 use Rattle.dap_items.proofs.Ends.{item_not_faulty, item_not_open, one_item}
 use Rattle.dap_items.specs.Then.{first_open}
 
--- what the fields keep is that of the rest that the framer stands for
+-- the fields represent the rest that the framer represents
 pub kept_of : (fields : Inside) (framer : Reading) (progress : Progress) (rest : List ℕ)
     → reading fields ≡ framer
     → fields.state ≡ Open progress → Stands framer rest
@@ -32,7 +32,7 @@ kept_of fields framer progress rest view is stands =
     let inside = subst (λ (r : Reading). Stands r rest) (sym view) stands in
     subst (λ s. IsKeptBy fields.limits (progress_in s) fields.bytes.items rest) is inside.kept
 
--- where the header part had not ended
+-- if the header part had not ended
 pub rest_taken : (limits : FrameLimits) (bytes rest piece : List ℕ)
     (result : Result HeaderTaken FrameFault)
     → bytes ≡ [] → TakesHeader limits rest piece result
@@ -110,7 +110,7 @@ module _ (limits : FrameLimits) (bytes rest piece new : List ℕ) (header_len co
             exact,
       )
 
--- a piece that begins with a header part and as many bytes as it says
+-- a chunk that starts with a header part and as many bytes as it states
 pub frame_in : (limits : FrameLimits) (piece : List ℕ) (header_len content_len used : ℕ)
     → HasEnded limits [] piece header_len content_len used
     → content_len ≤ length piece - used
@@ -126,7 +126,7 @@ frame_in limits piece header_len content_len used ended short =
           (omega (arith, behind, length-take-le content_len (drop used piece) (omega arith)))).1,
     )
 
--- memory is asked for bytes of a content alone
+-- memory is allocated only for bytes of a content
 pub content_byte : (limits : FrameLimits) (bytes rest piece : List ℕ)
     (header_len content_len used : ℕ)
     → IsAtContent limits bytes rest piece header_len content_len used
@@ -151,9 +151,9 @@ content_byte limits bytes rest piece header_len content_len used begun wanted so
       );
     }
 
--- ---- whether the frame ends in the piece
+-- ---- whether the frame ends in the chunk
 
--- the rest, so much of the piece, and what is left of it
+-- the rest, the first n bytes of the chunk, and the remaining bytes
 split_piece : (rest piece : List ℕ) (n : ℕ) → rest ++ piece ≡ (rest ++ take n piece) ++ drop n piece
 split_piece rest piece n =
     sym (append_assoc rest (take n piece) (drop n piece)
@@ -164,7 +164,7 @@ module _ (limits : FrameLimits) (bytes rest piece : List ℕ) (header_len conten
   abbrev content_in : ℕ → List ℕ
   content_in more = bytes ++ take more (drop used piece)
 
-  -- the frame, if as many bytes of the piece are left as its content wants
+  -- the frame, if the chunk has as many bytes left as its content needs
   whole_in : (more : ℕ) → more ≡ content_len - length bytes → more ≤ length piece - used
       → (length (content_in more) ≡ content_len)
       × IsFrame limits (rest ++ take (used + more) piece) (content_in more)
@@ -195,7 +195,7 @@ module _ (limits : FrameLimits) (bytes rest piece : List ℕ) (header_len conten
         },
       )
 
-  -- a frame that ends in the piece has the content that its header part says
+  -- a frame that ends in the chunk has the content length that its header part states
   module _ (content : List ℕ) (n : ℕ) (frame : IsFrame limits (rest ++ take n piece) content) where
     pub content_len_is : content_len - length bytes ≤ length piece - used
         → content_len ≡ length content
@@ -207,7 +207,7 @@ module _ (limits : FrameLimits) (bytes rest piece : List ℕ) (header_len conten
         (sym (split_piece rest piece (used + more)) ∙ split_piece rest piece n) whole.1 frame in
         sym whole.0 ∙ ap length same.1
 
-    -- and as many bytes of the piece are left as it wants
+    -- the chunk then has as many bytes left as the content needs
     pub not_short : length piece - used < content_len - length bytes → ⊥
     not_short short =
         let more : ℕ = length (drop used piece) in
@@ -223,14 +223,14 @@ module _ (limits : FrameLimits) (bytes rest piece : List ℕ) (header_len conten
 
 module _ (limits : FrameLimits) (rest piece content : List ℕ) (n : ℕ)
     (frame : IsFrame limits (rest ++ take n piece) content) where
-  -- if a frame ends in the piece, its header part ends there too
+  -- if a frame ends in the chunk, its header part also ends there
   pub not_unfinished : (scan : HeaderScan) → GoesOn limits rest piece scan → ⊥
   not_unfinished scan goes_on =
       item_not_open (frame_grammar limits) (rest ++ take n piece) (drop n piece) content frame
       (subst (IsOpen limits) (split_piece rest piece n)
       (first_open (goes_on.short, goes_on.scanned.lacks)))
 
-  -- and shows no fault
+  -- its header part then has no error
   pub not_faulty : (fault : FrameFault) → ShowsInHeader limits rest piece fault → ⊥
   not_faulty fault shows =
       item_not_faulty (frame_grammar limits) (rest ++ take n piece) (drop n piece) content fault

@@ -1,4 +1,4 @@
--- What the lines of a header part say, as one line more comes.
+-- The length that the lines of a header part state, after one more line.
 use Rattle.std.proofs.Common.{◌≡◌, ℕ, Bool, true, false, ◌&&◌, cond, List, [], ◌∷◌, ◌++◌, Result}
 use Rattle.std.proofs.Common.{Err, refl, sym, ap, ◌∙◌, inl, inr}
 use Rattle.std.proofs.lemmas.Bool.{cases_Bool, and_right, false≢true}

@@ -1,4 +1,4 @@
--- Frames are the items of a grammar: a header part, and as many bytes as it says.
+-- Frames are the items of a grammar: a header part, and as many bytes as it states.
 use Rattle.std.proofs.Common.{◌≡◌, ℕ, ◌+◌, ◌<◌, ◌≤◌, List, [], ◌++◌, length, take, drop, Result, Ok}
 use Rattle.std.proofs.Common.{Err, refl, sym, ap, ◌∙◌, subst, arith}
 use Rattle.std.proofs.lemmas.List.{take_at, take-append-drop, take-take, length-append, length-drop}
@@ -22,8 +22,8 @@ use Rattle.dap_frame.proofs.Outcomes.{some_header}
 use Rattle.dap_frame.proofs.OneHeader.{begins_one, no_end}
 
 module _ (limits : FrameLimits) where
-  -- a header part within the limit does not end behind a front as long as the limit in which none
-  -- ends
+  -- a header part within the limit does not end after a prefix as long as the limit in which no
+  -- header part ends
   late : (f o y z : List ℕ) (a : Result ℕ FrameFault) → f ++ y ≡ o ++ z
       → BeginsWith limits f (length f) a
       → length o ≡ limits.header → Lacks header_end o → ⊥
@@ -77,7 +77,7 @@ module _ (limits : FrameLimits) where
       (BeginsWith-front limits bytes (take len bytes) len (Ok n)
       (sym (take-take len len bytes (omega arith))) (omega (arith, long)) begins))
 
-  -- what stands behind a header part is the content, or its front
+  -- the bytes after a header part are the content, or a prefix of it
   pub frame_of : (bytes content : List ℕ) (len n : ℕ) → BeginsWith limits bytes len (Ok n)
       → drop len bytes ≡ content → length content ≡ n → IsFrame limits bytes content
   frame_of bytes content len n begins behind exact =
@@ -114,7 +114,7 @@ module _ (limits : FrameLimits) where
         omega (arith, ap length same, ap length e, length-append front more),
       )
 
-  -- the fault of a frame is that of its header part
+  -- the error of a frame is that of its header part
   pub header_fault : (bytes : List ℕ) (fault : FrameFault) → (frames limits).Ends bytes (Err fault)
       → EndsHeader limits bytes (Err fault)
   header_fault bytes fault (in_first other p u) = let same : other ≡ fault =

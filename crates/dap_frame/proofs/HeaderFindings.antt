@@ -1,4 +1,4 @@
--- What the lines of a header part can say.
+-- The results that the lines of a header part can state.
 use Rattle.std.proofs.Common.{◌≡◌, ◌≢◌, ℕ, ◌≤◌, Bool, true, false, not, cond, List, [], ◌∷◌, Ok}
 use Rattle.std.proofs.Common.{Err, ◌⊎◌, inl, inr, refl, arith, leb}
 use Rattle.std.specs.List.{list_all}
@@ -58,7 +58,7 @@ the_length-fault limits [] fault e = (λ same. cc, λ same. cc)
 the_length-fault limits (value ∷ []) fault e = length_from-fault limits (trimmed value) fault e
 the_length-fault limits (value ∷ other ∷ values) fault e = (λ same. cc, λ same. cc)
 
--- a header part says no fault but those of its format
+-- a header part has only the errors of its format
 pub judged-fault : (limits : FrameLimits) (lines : List (List ℕ)) (fault : FrameFault)
     → told_length limits lines ≡ Err fault
     → (fault ≢ Cut) × (fault ≢ Memory)

@@ -1,4 +1,4 @@
--- What a header part that has ended says of the bytes that begin with it.
+-- The result that a complete header part states, for the bytes that start with it.
 use Rattle.std.proofs.Common.{◌≡◌, ℕ, ◌≤◌, true, List, length, refl, sym, ◌∙◌, subst, arith}
 use Rattle.std.proofs.lemmas.List.{take_all}
 use Rattle.dap_frame.specs.declared.limits.FrameLimits.{FrameLimits}
@@ -8,7 +8,7 @@ use Rattle.dap_frame.specs.Frame.{BeginsWith, told_length}
 use Rattle.dap_frame.specs.Findings.{AreFindings}
 use Rattle.dap_frame.specs.HeaderScan.{HeaderEnds}
 
--- it says what its lines say
+-- it states what its lines state
 pub header_begins : (limits : FrameLimits) (header : List ℕ) (findings : Findings)
     (ends : HeaderEnds limits header findings)
     → length header ≤ limits.header
@@ -25,7 +25,7 @@ header_begins limits header findings ends within = record {
   };
 }
 
--- and what the findings say, where each line is a field line
+-- if each line is a field line, it states what the findings state
 pub judged_by_findings : (limits : FrameLimits) (lines : List (List ℕ)) (findings : Findings)
     → AreFindings limits lines findings → findings.are_fields ≡ true
     → told_length limits lines ≡ findings.length

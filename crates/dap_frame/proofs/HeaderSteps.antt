@@ -1,4 +1,4 @@
--- What a byte more of a piece makes of a header part.
+-- The effect of one more byte of a chunk on a header part.
 use Rattle.std.proofs.Common.{refl, ◌≡◌, ℕ, ◌+◌, ◌<◌, ◌≤◌, List, [], ◌∷◌, ◌++◌, length, take, drop}
 use Rattle.std.proofs.Common.{get_or, Result, Ok, Err, sym, ap, ◌∙◌, subst, arith}
 use Rattle.std.proofs.lemmas.List.{take_more, take-append-drop, append_assoc, length-append}
@@ -82,7 +82,7 @@ module _ (limits : FrameLimits) (rest piece : List ℕ) (i : ℕ) (scan : Header
           small = judged-small limits b.says.lines content (sym b.says.said_so);
         }
 
-    -- the front that was taken shows the fault
+    -- the consumed prefix proves the error
     shown : {fault : FrameFault} → EndsHeader limits (rest ++ take (i + 1) piece) (Err fault)
         → Shows limits (rest ++ piece) fault (length (rest ++ take (i + 1) piece))
     shown {fault} ends =

@@ -1,4 +1,4 @@
--- A run of steps over the value of a length says what the whole value says.
+-- A run of steps over the value of a length states what the whole value states.
 use Rattle.std.proofs.Common.{◌≡◌, ℕ, zero, suc, ◌+◌, ◌-◌, ◌*◌, ◌^◌, ◌<◌, ◌≤◌, Bool, true, false}
 use Rattle.std.proofs.Common.{◌&&◌, cond, List, [], ◌∷◌, length, take, drop, get_or, Result, Err}
 use Rattle.std.proofs.Common.{refl, sym, ap, ◌∙◌, arith, lit<, inl, inr, nat_lt, nat_le}
@@ -22,7 +22,7 @@ abbrev pub is_nil : List ℕ → Bool
 is_nil [] = true
 is_nil (x ∷ xs) = false
 
--- without the blanks at the end
+-- without trailing blanks
 abbrev pub without_end : List ℕ → List ℕ
 without_end [] = []
 without_end (x ∷ xs) = cond (is_blank x && is_nil (without_end xs)) [] (x ∷ without_end xs)
@@ -107,7 +107,7 @@ abbrev pub length_run : LengthScan → List ℕ → LengthScan
 length_run d [] = d
 length_run d (b ∷ bs) = length_run (length_step d b) bs
 
--- what so many digits of this number and then the text say
+-- the result for n digits of this number and the text after them
 abbrev said_from : FrameLimits → ℕ → ℕ → List ℕ → Result ℕ FrameFault
 said_from limits c n [] = number_outcome limits n
 said_from limits c n (b ∷ t) =
@@ -177,7 +177,7 @@ run_front limits (b ∷ bs) =
       ]
     ]
 
--- the closed form of what a text says
+-- the closed form of what a text states
 closed : (limits : FrameLimits) (c n : ℕ) (t : List ℕ) → n + 1 ≤ 10 ^ c → c ≤ 10
     → cond (nat_le (c + length t) 10 && list_all is_ascii_digit t)
     (number_outcome limits (fold (λ n digit. n * 10 + (digit - 48)) n t)) (Err BadLength)

@@ -16,4 +16,5 @@ pub mod Frames
 pub mod Faults
 pub mod WrittenFrames
 pub mod UsualNames
+pub mod PlainLengths
 pub mod Streams

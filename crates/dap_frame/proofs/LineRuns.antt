@@ -1,4 +1,4 @@
--- A run of steps over a line says what the whole line says.
+-- A run of steps over a line states what the whole line states.
 use Rattle.std.proofs.Common.{◌≡◌, ℕ, suc, ◌+◌, ◌<◌, ◌≤◌, Bool, true, false, not, ◌&&◌, cond, List}
 use Rattle.std.proofs.Common.{[], ◌∷◌, ◌++◌, length, take, drop, get_or, refl, sym, ap, ◌∙◌, subst}
 use Rattle.std.proofs.Common.{arith, inl, inr, nat_lt, nat_eq}
@@ -43,14 +43,14 @@ run_length d (b ∷ bs) =
       | inr h ↦ rw h (run_none bs)
     ]
 
--- a line of which so many bytes of a name have gone before
+-- a line after k bytes of a name
 abbrev field_from : ℕ → List ℕ → Bool
 field_from k xs =
     nat_lt 0 (k + length (name_of xs)) && nat_lt (length (name_of xs)) (length xs)
     && list_all is_name_byte (name_of xs) && list_all is_value_byte (value_of xs)
 
--- what the state says of the rest of a line, where `same` found whether the rest of the name makes
--- it Content-Length
+-- the facts about the rest of a line in each state; `same` decides whether the rest of the name
+-- completes Content-Length
 abbrev RestSays : FrameLimits → ℕ → (List ℕ → Bool) → List ℕ → LineScan → Type 0
 RestSays limits k same xs (Name n) = field_from k xs ≡ false
 RestSays limits k same xs OtherName = field_from k xs ≡ false
@@ -293,12 +293,12 @@ whole_says limits line (Length d) says = (field_whole line ∙ says.0, says.1, s
 whole_says limits line OtherValue says = (field_whole line ∙ says.0, says.1)
 whole_says limits line NoField says = field_whole line ∙ says
 
--- the machine's state at a line's end is what the line says
+-- the state at the end of a line states what the line states
 pub line_says : (limits : FrameLimits) (line : List ℕ)
     → LineSays limits line (line_run (Name 0) line)
 line_says limits line = whole_says limits line _ (names limits 0 line (omega arith))
 
--- a run over more bytes goes on from the run over the first
+-- a run over more bytes continues the run over the first bytes
 pub run_append : (s : LineScan) (xs ys : List ℕ)
     → line_run s (xs ++ ys) ≡ line_run (line_run s xs) ys
 run_append s [] ys = refl

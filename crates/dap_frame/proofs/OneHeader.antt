@@ -1,4 +1,4 @@
--- A header part has one list of lines and says one thing.
+-- A header part has one list of lines and states one thing.
 use Rattle.std.proofs.Common.{◌≡◌, ℕ, ◌+◌, ◌-◌, ◌<◌, ◌≤◌, ⊎_elim, true, List, [], ◌∷◌, ◌++◌, length}
 use Rattle.std.proofs.Common.{take, drop, get_or, Result, refl, sym, ap, ◌∙◌, subst, arith, nat_eq}
 use Rattle.std.proofs.lemmas.List.{take-append-le, take_at, append_assoc, append_cancel_left}
@@ -15,7 +15,7 @@ use Rattle.dap_frame.specs.Frame.{Says, BeginsWith, told_length}
 use Rattle.dap_frame.proofs.MarkEnds.{ends_at_front}
 use Rattle.dap_frame.proofs.ByteEnds.{same_mark}
 
--- behind a line stands its end
+-- a line is followed by its end
 ends_behind : (line rest : List ℕ)
     → ends_at line_end (line ++ (line_end ++ rest)) (length line + 2) ≡ true
 ends_behind line rest =

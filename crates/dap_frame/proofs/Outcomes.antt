@@ -1,4 +1,5 @@
--- In all bytes a header part ends, or they are open: the scan of the bytes decides.
+-- Either a header part ends in the bytes, or they are incomplete. The scan of the bytes decides
+-- which.
 use Rattle.std.proofs.Common.{◌≡◌, ℕ, ◌≤◌, false, ◌⊎◌, inl, inr, List, [], ◌∷◌, ◌++◌, length, take}
 use Rattle.std.proofs.Common.{drop, Err, refl, sym, ap, ◌∙◌, subst, arith}
 use Rattle.std.proofs.lemmas.List.{append_assoc, append-nil, take-append-le, take-append-drop}
@@ -18,7 +19,7 @@ use Rattle.dap_frame.proofs.MarkEnds.{ends_at_front}
 use Rattle.dap_frame.proofs.HeaderParts.{header_begins}
 use Rattle.dap_frame.proofs.ScanSteps.{scan_gives, scan_start}
 
--- the bytes begin with a header part, however long
+-- the bytes start with a header part of any length
 record HasHeader (limits : FrameLimits) (bytes : List ℕ) : Type 0 where
   header : List ℕ
   behind : List ℕ
@@ -43,7 +44,7 @@ after_step limits bytes more b (Ended findings) gives go_on =
       ends = gives;
     })
 
--- the scan of the bytes goes on until a header part ends, or to their end
+-- the scan of the bytes continues until a header part ends, or to their end
 scanned : (limits : FrameLimits) (bytes more : List ℕ) (scan : HeaderScan)
     → IsScanOf limits bytes scan
     → HasHeader limits (bytes ++ more) ⊎ Lacks header_end (bytes ++ more)
@@ -53,7 +54,7 @@ scanned limits bytes (b ∷ more) scan is =
     (after_step limits bytes more b (header_step limits scan b) (scan_gives limits bytes scan b is)
     (λ next is_next. scanned limits (bytes ++ b ∷ []) more next is_next))
 
--- a front as long as the limit in which no header part ends
+-- a prefix as long as the limit in which no header part ends
 cut_off : (limits : FrameLimits) (bytes : List ℕ) → limits.header ≤ length bytes
     → ((j : ℕ) → j ≤ limits.header → ends_at header_end bytes j ≡ false)
     → HasEnd (headers limits) bytes

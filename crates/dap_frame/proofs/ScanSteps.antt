@@ -1,4 +1,4 @@
--- The scan of a header part stays that of its bytes, as one byte more comes.
+-- The scan of a header part remains that of its bytes after one more byte.
 use Rattle.std.proofs.Common.{◌≡◌, ℕ, ◌+◌, true, false, ◌&&◌, List, [], ◌∷◌, ◌++◌, length, Err}
 use Rattle.std.proofs.Common.{refl, sym, ap, ◌∙◌, subst, arith, inl, inr, nat_eq}
 use Rattle.std.proofs.lemmas.Bool.{cases_Bool, and_left, and_right, eqb-true}
@@ -26,7 +26,7 @@ use Rattle.dap_frame.proofs.ByteEnds.{no_header_end}
 use Rattle.dap_frame.proofs.EndMarks.{cr_all, mark_lf, mark_cr, mark_other}
 use Rattle.dap_frame.proofs.FindingsSteps.{found_more}
 
--- the present line with the CR that stands behind it
+-- the current line with the CR after it
 record HeldLine (limits : FrameLimits) (bytes : List ℕ) (count : ℕ) (mark : EndMark)
     (findings : Findings) (state : LineScan) : Type 0 where
   lines : List (List ℕ)
@@ -107,7 +107,7 @@ counted : (bytes : List ℕ) (b count : ℕ) → count ≡ length bytes
     → count + 1 ≡ length (bytes ++ b ∷ [])
 counted bytes b count e = omega (arith, e, length-append bytes (b ∷ []))
 
--- a byte that ends no line and is no CR
+-- a byte that neither ends a line nor is a CR
 push : (limits : FrameLimits) (bytes : List ℕ) (count : ℕ) (mark : EndMark) (findings : Findings)
     (line : LineScan) (b : ℕ)
     → IsScanOf limits bytes (scan_of count mark findings line) → nat_eq 13 b ≡ false
@@ -171,7 +171,7 @@ each_push : (lines : List (List ℕ)) (line : List ℕ) → AllByRecursion (Lack
 each_push [] line all one = (one, tt)
 each_push (x ∷ xs) line all one = (all.0, each_push xs line all.1 one)
 
--- a line's end
+-- the end of a line
 end_line : (limits : FrameLimits) (bytes : List ℕ) (count : ℕ) (findings : Findings)
     (line : LineScan)
     → IsScanOf limits bytes (scan_of count Cr findings line)
@@ -197,7 +197,7 @@ end_line limits bytes count findings line h = record {
       ∙ and_left (ends (13 ∷ 10 ∷ 13 ∷ []) bytes) _ h.mark.three);
 }
 
--- the header part's end
+-- the end of the header part
 end_header : (limits : FrameLimits) (bytes : List ℕ) (count : ℕ) (findings : Findings)
     (line : LineScan)
     → IsScanOf limits bytes (scan_of count CrLfCr findings line)
@@ -241,7 +241,7 @@ at_line_feed limits bytes count CrLf findings line h =
 at_line_feed limits bytes count CrLfCr findings line h =
     end_header limits bytes count findings line h
 
--- what is kept of the bytes and one more
+-- the state after one more byte
 pub scan_gives : (limits : FrameLimits) (bytes : List ℕ) (scan : HeaderScan) (b : ℕ)
     → IsScanOf limits bytes scan
     → StepGives limits bytes b (header_step limits scan b)
@@ -271,11 +271,11 @@ scan_gives limits bytes scan b h =
       ]
     ]
 
--- the findings of no lines
+-- the findings of zero lines
 abbrev pub none_found : Findings
 none_found = record { are_fields = true; has_length = false; length = Err NoLength }
 
--- nothing has come yet
+-- the state before the first byte
 pub scan_start : (limits : FrameLimits) → IsScanOf limits [] (scan_of 0 Nothing none_found (Name 0))
 scan_start limits = record {
   lines = [];

@@ -16,7 +16,7 @@ use Rattle.dap_frame.specs.Reading.{Reading, Stands, HasFailed, limits_of}
 use Rattle.dap_frame.specs.Feeding.{IsCall, Feeds, calls}
 use Rattle.dap_frame.proofs.Frames.{frame_grammar}
 
--- The framer has these limits and stands for the rest, whatever stands before it.
+-- The framer has these limits and represents the rest, whatever contents came before it.
 abbrev StandsBehind : FrameLimits → Reading → List (List ℕ) → List ℕ → Type 0
 StandsBehind limits framer contents rest = Stands framer rest × (limits_of framer ≡ limits)
 

@@ -1,4 +1,4 @@
--- The name of the field that frames are written with is taken at once.
+-- The field name that written frames start with is read in one step.
 use Rattle.std.proofs.Common.{◌≡◌, ℕ, ◌+◌, List, [], ◌++◌, length, take, codes}
 use Rattle.std.proofs.Common.{Ok, sym, ap, ◌∙◌, subst, arith, Bor, Some, true}
 use Rattle.std.proofs.Common.{drop, nat_eq}
@@ -26,14 +26,14 @@ pub name_scanned : (limits : FrameLimits)
     → IsScanOf limits name_text (scan_of 16 Nothing none_found (Length Blank))
 name_scanned limits = name_scan limits
 
--- what a piece holds that begins with the name
+-- a chunk that starts with the name
 pub is_behind : (piece : List ℕ) (behind : Bor (List ℕ))
     → (pointwise nat_eq (take 16 piece) name_text ≡ true) × (behind.now ≡ drop 16 piece)
     × (length behind.now + 16 ≡ length piece)
     → piece ≡ name_text ++ behind.now
 is_behind piece behind found = strip_prefix_is Decides-eqb piece name_text (Some behind) found
 
--- what is taken behind the name, told of the bytes with it
+-- facts about the bytes after the name, stated about the bytes with it
 module _ (limits : FrameLimits) (piece behind : List ℕ) (is : piece ≡ name_text ++ behind) where
   pub goes_on : (scan : HeaderScan) → GoesOn limits name_text behind scan
       → GoesOn limits [] piece scan

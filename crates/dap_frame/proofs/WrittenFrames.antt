@@ -1,4 +1,4 @@
--- What is written for a content is a frame with this content: the scan of its header part says so.
+-- The output for a content is a frame with this content: the scan of its header part states so.
 use Rattle.std.proofs.Common.{◌≡◌, ℕ, zero, suc, ◌+◌, ◌-◌, ◌*◌, ◌/◌, ◌%◌, ◌^◌, ◌<◌, ◌≤◌, Bool, true}
 use Rattle.std.proofs.Common.{false, not, ◌&&◌, List, [], ◌∷◌, ◌++◌, length, nat_eq, nat_lt, nat_le}
 use Rattle.std.proofs.Common.{◌==◌, codes, decimal, Ok, refl, sym, ap, ◌∙◌, subst, arith, lit<}
@@ -28,10 +28,10 @@ use Rattle.dap_frame.proofs.HeaderParts.{header_begins, judged_by_findings}
 use Rattle.dap_frame.proofs.ScanSteps.{scan_gives, scan_start, scan_of, none_found}
 
 -- a byte that is neither CR nor LF
-abbrev is_plain : ℕ → Bool
+abbrev pub is_plain : ℕ → Bool
 is_plain b = not (b == 10) && not (b == 13)
 
-plain_append : (xs ys : List ℕ) → list_all is_plain xs ≡ true → list_all is_plain ys ≡ true
+pub plain_append : (xs ys : List ℕ) → list_all is_plain xs ≡ true → list_all is_plain ys ≡ true
     → list_all is_plain (xs ++ ys) ≡ true
 plain_append [] ys all more = more
 plain_append (x ∷ xs) ys all more =
@@ -90,7 +90,7 @@ next_digit n ds more before (suc (suc j)) some most fits =
       plain = plain_append ds ((48 + n % 10) ∷ []) was.plain (rw plain refl);
     }
 
--- what is written for a number is its digits
+-- the decimal text of a number is its digits
 decimal_is : (n : ℕ) → n < 10 ^ 10 → AreDigits n 10 (decimal n)
 decimal_is n small =
     let wide : n < 2 ^ 64 = omega arith in
@@ -126,7 +126,7 @@ scan_plain limits bytes (b ∷ text) count findings line all is =
           (append_assoc bytes (b ∷ []) text) rest.1,
     )
 
--- the name of the one field
+-- the name of the only field
 pub name_scan : (limits : FrameLimits)
     → IsScanOf limits (codes "Content-Length: ") (scan_of 16 Nothing none_found (Length Blank))
 name_scan limits =
@@ -135,7 +135,7 @@ name_scan limits =
     subst (λ n. IsScanOf limits (codes "Content-Length: ")
     (scan_of n Nothing none_found (Length Blank))) s.1.count s.1
 
--- a lone line, and the header part's end
+-- the only line, and the end of the header part
 ends_after : (limits : FrameLimits) (line : List ℕ) → list_all is_plain line ≡ true
     → HeaderEnds limits (line ++ codes "\r\n\r\n")
     (with_line limits none_found (line_run (Name 0) line))
@@ -148,21 +148,20 @@ ends_after limits line plain =
     subst (λ xs. HeaderEnds limits xs (with_line limits none_found (line_run (Name 0) line)))
     (simp append_assoc) ended
 
-pub written_is_frame : (limits : FrameLimits) (content : List ℕ) → IsSound limits
-    → length content ≤ limits.content
-    → IsFrame limits (frame_text content) content
-written_is_frame limits content sound short =
-    let high = sound.content_high in
+-- a header part with one line, the field Content-Length with these digits
+pub length_header : (limits : FrameLimits) (digits : List ℕ) (count n : ℕ) → IsSound limits
+    → line_run (Length Blank) digits ≡ Length (Digits count n) → length digits ≤ 10
+    → list_all is_plain digits ≡ true → n ≤ limits.content
+    → BeginsWith limits ((codes "Content-Length: " ++ digits) ++ codes "\r\n\r\n")
+    (length ((codes "Content-Length: " ++ digits) ++ codes "\r\n\r\n")) (Ok n)
+length_header limits digits count n sound digits_run few plain short =
     let low = sound.header_low in
-    let n : ℕ = length content in
-    let digits = decimal_is n (omega arith) in
-    let line : List ℕ = codes "Content-Length: " ++ decimal n in
+    let line : List ℕ = codes "Content-Length: " ++ digits in
     let header : List ℕ = line ++ codes "\r\n\r\n" in
-    let run : line_run (Name 0) line ≡ Length (Digits (length (decimal n)) n) =
-    run_append (Name 0) (codes "Content-Length: ") (decimal n) ∙ digits.run in
+    let run : line_run (Name 0) line ≡ Length (Digits count n) =
+    run_append (Name 0) (codes "Content-Length: ") digits ∙ digits_run in
     let ends = subst (λ s. HeaderEnds limits header (with_line limits none_found s)) run
-    (ends_after limits line
-    (plain_append (codes "Content-Length: ") (decimal n) refl digits.plain)) in
+    (ends_after limits line (plain_append (codes "Content-Length: ") digits refl plain)) in
     let fits : nat_le n limits.content ≡ true = grind (arith, short) in
     let says : told_length limits ends.lines ≡ Ok n =
     judged_by_findings limits ends.lines _ ends.found refl ∙ rw fits refl in
@@ -170,10 +169,20 @@ written_is_frame limits content sound short =
     omega (
       arith,
       length-append line (codes "\r\n\r\n"),
-      length-append (codes "Content-Length: ") (decimal n),
-      digits.few,
+      length-append (codes "Content-Length: ") digits,
+      few,
     ) in
-    let begins =
     subst (BeginsWith limits header (length header)) says
-    (header_begins limits header _ ends (omega arith)) in
+    (header_begins limits header _ ends (omega arith))
+
+pub written_is_frame : (limits : FrameLimits) (content : List ℕ) → IsSound limits
+    → length content ≤ limits.content
+    → IsFrame limits (frame_text content) content
+written_is_frame limits content sound short =
+    let high = sound.content_high in
+    let n : ℕ = length content in
+    let digits = decimal_is n (omega arith) in
+    let header : List ℕ = (codes "Content-Length: " ++ decimal n) ++ codes "\r\n\r\n" in
+    let begins = length_header limits (decimal n) (length (decimal n)) n sound digits.run
+    digits.few digits.plain short in
     in_second header content n refl (in_header begins) (refl, refl)

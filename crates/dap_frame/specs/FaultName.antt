@@ -1,4 +1,4 @@
--- The names of faults, as they are written. Source: own.
+-- The names of errors, as they are written. Source: own.
 use Rattle.std.specs.Prelude.{ℕ, List, codes}
 use Rattle.dap_frame.specs.declared.fault.FrameFault.{FrameFault}
 use Rattle.dap_frame.specs.declared.fault.FrameFault.TheVariants.{HeaderLine, NoLength, TwoLengths}

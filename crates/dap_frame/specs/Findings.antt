@@ -1,4 +1,4 @@
--- What the finished lines of a header part say.
+-- The findings of the complete lines of a header part.
 use Rattle.std.specs.Prelude.{◌≡◌, Bool, true, false, List, [], ◌∷◌, ℕ, if◌then◌else◌, Err}
 use Rattle.std.specs.List.{list_all}
 use Rattle.dap_frame.specs.declared.limits.FrameLimits.{FrameLimits}
@@ -11,30 +11,30 @@ use Rattle.dap_frame.specs.Lines.{is_field_line}
 use Rattle.dap_frame.specs.Frame.{lengths_in, the_length}
 use Rattle.dap_frame.specs.LengthScan.{length_outcome}
 
--- there is a line
+-- whether the list has a line
 abbrev pub is_some_line : List (List ℕ) → Bool
 is_some_line [] = false
 is_some_line (line ∷ lines) = true
 
--- The findings tell the length by the fields named Content-Length among these lines, and whether
--- there is one.
+-- The findings have the length that the fields named Content-Length among these lines state, and
+-- whether there is such a field.
 pub record FindsLength (limits : FrameLimits) (lines : List (List ℕ)) (findings : Findings) : Type 0
   where
     pub length : findings.length ≡ the_length limits (lengths_in lines)
     pub has_length : findings.has_length ≡ is_some_line (lengths_in lines)
 
--- The findings are what these lines say. Where some line is no field line, that alone counts.
+-- The findings are what these lines state. If a line is not a field line, only that counts.
 pub record AreFindings (limits : FrameLimits) (lines : List (List ℕ)) (findings : Findings) : Type 0
   where
     pub are_fields : findings.are_fields ≡ list_all is_field_line lines
     pub lengths : findings.are_fields ≡ true → FindsLength limits lines findings
 
--- the findings where a line is no field line
+-- the findings if a line is not a field line
 abbrev pub with_no_field : Findings → Findings
 with_no_field findings =
     record { are_fields = false; has_length = findings.has_length; length = findings.length }
 
--- the findings with one line more, whose scan is this one at its end
+-- the findings with one more line, whose scan at its end is this one
 abbrev pub with_line : FrameLimits → Findings → LineScan → Findings
 with_line limits findings (Name n) = with_no_field findings
 with_line limits findings OtherName = with_no_field findings

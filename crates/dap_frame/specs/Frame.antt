@@ -1,4 +1,4 @@
--- Frames, and what the bytes of a stream hold ("Base Protocol" of the Debug Adapter Protocol).
+-- Frames, and what the bytes of a stream contain ("Base Protocol" of the Debug Adapter Protocol).
 use Rattle.std.specs.Prelude.{◌≡◌, ℕ, ◌<◌, ◌≤◌, not, if◌then◌else◌, List, [], ◌∷◌, ◌++◌, length}
 use Rattle.std.specs.Prelude.{take, nat_le, Result, Ok, Err, map, filter, codes, decimal}
 use Rattle.std.specs.List.{list_all}
@@ -13,14 +13,16 @@ use Rattle.dap_frame.specs.declared.fault.FrameFault.TheVariants.{ContentTooLong
 use Rattle.dap_frame.specs.Lines.{header_end, IsFirstEnd, Lacks, AreLines, is_field_line}
 use Rattle.dap_frame.specs.Lines.{is_length_line, value_of, trimmed, is_length_text, number_of}
 
--- what the value of the one length says: 1 to 10 digits, and a number within the limit (own)
+-- the length that the value of a single length field states: 1 to 10 digits, and a number within
+-- the limit (own)
 abbrev pub length_from : FrameLimits → List ℕ → Result ℕ FrameFault
 length_from limits text =
     if not (is_length_text text) then Err BadLength
     else (if nat_le (number_of text) limits.content then Ok (number_of text) else Err
     ContentTooLong)
 
--- what the values of the fields named Content-Length say: there is just one (own)
+-- the length that the values of the fields named Content-Length state: there must be exactly one
+-- (own)
 abbrev pub the_length : FrameLimits → List (List ℕ) → Result ℕ FrameFault
 the_length limits [] = Err NoLength
 the_length limits (value ∷ []) = length_from limits (trimmed value)
@@ -30,27 +32,27 @@ the_length limits (value ∷ other ∷ values) = Err TwoLengths
 abbrev pub lengths_in : List (List ℕ) → List (List ℕ)
 lengths_in lines = map value_of (filter is_length_line lines)
 
--- what the lines of a header part say: the content's length, or the first fault that is true of
+-- the content's length that the lines of a header part state, or the first error that applies to
 -- them (own order)
 abbrev pub told_length : FrameLimits → List (List ℕ) → Result ℕ FrameFault
 told_length limits lines =
     if list_all is_field_line lines then the_length limits (lengths_in lines) else Err HeaderLine
 
--- The lines of this header part say so.
+-- The lines of this header part state this result.
 pub record Says (limits : FrameLimits) (header : List ℕ) (said : Result ℕ FrameFault) : Type 0 where
   pub lines : List (List ℕ)
   pub are_lines : AreLines header lines
   pub said_so : said ≡ told_length limits lines
 
--- The bytes begin with a header part of this length, within the limit, and it says so.
+-- The bytes start with a header part of this length, within the limit, which states this result.
 pub record BeginsWith (limits : FrameLimits) (bytes : List ℕ) (len : ℕ)
     (said : Result ℕ FrameFault) : Type 0 where
   pub ended : IsFirstEnd header_end bytes len
   pub within : len ≤ limits.header
   pub says : Says limits (take len bytes) said
 
--- The bytes begin with a header part that says a length other than 0, and a byte of the content has
--- come.
+-- The bytes start with a header part that states a length other than 0, and a byte of the content
+-- has arrived.
 pub record HasContentByte (limits : FrameLimits) (bytes : List ℕ) : Type 0 where
   pub len : ℕ
   pub content_len : ℕ
@@ -58,20 +60,20 @@ pub record HasContentByte (limits : FrameLimits) (bytes : List ℕ) : Type 0 whe
   pub some : 0 < content_len
   pub byte : len < length bytes
 
--- the frame that is written for a content (own: the one field, one space, no leading zeros)
+-- the frame that is written for a content (own: only this field, one space, no leading zeros)
 abbrev pub frame_text : List ℕ → List ℕ
 frame_text content =
     codes "Content-Length: " ++ decimal (length content) ++ codes "\r\n\r\n" ++ content
 
--- With the last of the bytes a header part says this (own): it ends there, or it is as long as its
--- limit and has not ended.
+-- The last of the bytes determines this result of a header part (own): it ends there; or it is as
+-- long as its limit and has not ended.
 pub data EndsHeader (limits : FrameLimits) (bytes : List ℕ) : Result ℕ FrameFault → Type 0 where
   in_header : {said : Result ℕ FrameFault} → BeginsWith limits bytes (length bytes) said
       → EndsHeader limits bytes said
   too_long : length bytes ≡ limits.header → Lacks header_end bytes
       → EndsHeader limits bytes (Err HeaderTooLong)
 
--- header parts as items; their values are lengths
+-- header parts as items, whose values are lengths
 abbrev pub headers : FrameLimits → Items ℕ FrameFault
 headers limits = record {
   Ends = EndsHeader limits;
@@ -79,7 +81,7 @@ headers limits = record {
 }
 
 -- frames as the items of a stream (DAP base protocol): a header part, and as many bytes of content
--- as it says
+-- as it states
 abbrev pub frames : FrameLimits → Items (List ℕ) FrameFault
 frames limits = and_then (headers limits) (so_many (λ content. content)) (λ fault. fault)
 
@@ -87,12 +89,12 @@ frames limits = and_then (headers limits) (so_many (λ content. content)) (λ fa
 abbrev pub IsFrame : FrameLimits → List ℕ → List ℕ → Type 0
 IsFrame limits = IsItem (frames limits)
 
--- The rest of a stream may still become a frame (own): its header part has not ended, or less than
--- its content has come.
+-- The bytes are incomplete (own): their header part has not ended, or part of the content is
+-- missing.
 abbrev pub IsOpen : FrameLimits → List ℕ → Type 0
 IsOpen limits = (frames limits).IsOpen
 
--- the words of items, of frames
+-- the general definitions for items, applied to frames
 abbrev pub AreFrames : FrameLimits → List ℕ → List (List ℕ) → Type 0
 AreFrames limits = AreItems (frames limits)
 

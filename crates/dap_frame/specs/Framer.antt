@@ -1,4 +1,4 @@
--- What callers see of a framer's fields, and what always holds of the fields.
+-- The view of a framer's fields that callers have, and the invariant of the fields.
 use Rattle.std.specs.Prelude.{◌≡◌, ℕ, List, [], Option, Some, None}
 use Rattle.dap_frame.specs.declared.limits.FrameLimits.{FrameLimits}
 use Rattle.dap_frame.specs.declared.fault.FrameFault.{FrameFault}
@@ -9,17 +9,17 @@ use Rattle.dap_frame.specs.declared.progress.Progress.{Progress}
 use Rattle.dap_frame.specs.Limits.{IsSound}
 use Rattle.dap_frame.specs.Reading.{Reading, IsKeptOf}
 
--- the fault that was met
+-- the error that occurred
 abbrev pub fault_in : State → Option FrameFault
 fault_in (Open progress) = None
 fault_in (Failed fault) = Some fault
 
--- how far the present frame has come
+-- the progress of the current frame
 abbrev pub progress_in : State → Option Progress
 progress_in (Open progress) = Some progress
 progress_in (Failed fault) = None
 
--- what callers see: all but the allocator
+-- the view of callers: all fields except the allocator
 abbrev pub reading : Inside → Reading
 reading a =
     record {
@@ -29,12 +29,12 @@ reading a =
       bytes = a.bytes.items;
     }
 
--- What is kept is that of some rest of a stream; after a fault no byte is kept.
+-- The fields represent some rest of a stream. After an error, no bytes are stored.
 abbrev pub IsKeptIn : FrameLimits → List ℕ → State → Type 0
 IsKeptIn limits bytes (Open progress) = (rest : List ℕ) × IsKeptOf limits progress bytes rest
 IsKeptIn limits bytes (Failed fault) = bytes ≡ []
 
--- The fields fit each other.
+-- The fields are consistent.
 pub record IsConsistent (a : Inside) : Type 0 where
   pub sound : IsSound a.limits
   pub kept : IsKeptIn a.limits a.bytes.items a.state

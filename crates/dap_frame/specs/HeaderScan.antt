@@ -1,4 +1,4 @@
--- What a byte more makes of a header part, and of which bytes a scan is the scan.
+-- The effect of one byte on the scan of a header part, and which bytes a scan represents.
 use Rattle.std.specs.Prelude.{◌≡◌, ℕ, ◌+◌, Bool, true, false, List, [], ◌∷◌, ◌++◌, length, nat_eq}
 use Rattle.std.specs.Prelude.{◌==◌, if◌then◌else◌}
 use Rattle.std.specs.List.{ends_with, AllByRecursion}
@@ -15,47 +15,47 @@ use Rattle.dap_frame.specs.Lines.{Lacks, line_end, header_end, ended, AreLines, 
 use Rattle.dap_frame.specs.LineScan.{line_step, line_run}
 use Rattle.dap_frame.specs.Findings.{AreFindings, with_line}
 
--- the CR behind the present line, which may belong to its end
+-- the CR after the current line, which may belong to its end
 abbrev pub pending : EndMark → List ℕ
 pending Nothing = []
 pending Cr = 13 ∷ []
 pending CrLf = []
 pending CrLfCr = 13 ∷ []
 
--- the scan of the present line with that CR
+-- the scan of the current line, including that CR
 abbrev pub held_line : EndMark → LineScan → LineScan
 held_line Nothing line = line
 held_line Cr line = line_step line 13
 held_line CrLf line = line
 held_line CrLfCr line = line_step line 13
 
--- a CR more
+-- after a CR
 abbrev pub at_cr : EndMark → EndMark
 at_cr Nothing = Cr
 at_cr Cr = Cr
 at_cr CrLf = CrLfCr
 at_cr CrLfCr = Cr
 
--- the scan with one byte more
+-- the scan after one more byte
 abbrev pub scan_with : HeaderScan → EndMark → Findings → LineScan → HeaderScan
 scan_with scan mark findings line =
     record { count = scan.count + 1; mark = mark; findings = findings; line = line }
 
--- what an LF more is: a byte of the line, the line's end, or the header part's end
+-- the effect of an LF: a byte of the line, the end of the line, or the end of the header part
 abbrev pub match_mark : EndMark → ScanStep → ScanStep → ScanStep → ScanStep
 match_mark Nothing a b c = a
 match_mark Cr a b c = b
 match_mark CrLf a b c = a
 match_mark CrLfCr a b c = c
 
--- an LF more
+-- after an LF
 abbrev pub at_lf : FrameLimits → HeaderScan → ScanStep
 at_lf limits scan = match_mark scan.mark
     (Unfinished (scan_with scan Nothing scan.findings (line_step scan.line 10)))
     (Unfinished (scan_with scan CrLf (with_line limits scan.findings scan.line) (Name 0)))
     (Ended scan.findings)
 
--- one byte more of a header part
+-- after one more byte of a header part
 abbrev pub header_step : FrameLimits → HeaderScan → ℕ → ScanStep
 header_step limits scan b =
     if b == 10 then at_lf limits scan
@@ -64,11 +64,11 @@ header_step limits scan b =
     else Unfinished
     (scan_with scan Nothing scan.findings (line_step (held_line scan.mark scan.line) b)))
 
--- the bytes end with the mark
+-- whether the bytes end with the mark
 abbrev pub ends : List ℕ → List ℕ → Bool
 ends mark bytes = ends_with nat_eq bytes mark
 
--- whether a CR, a CR LF or a CR LF CR stands at the end
+-- whether the bytes end with a CR, a CR LF or a CR LF CR
 abbrev pub is_cr : EndMark → Bool
 is_cr Nothing = false
 is_cr Cr = true
@@ -87,21 +87,21 @@ is_crlfcr Cr = false
 is_crlfcr CrLf = false
 is_crlfcr CrLfCr = true
 
--- So much of a CR LF CR LF stands at the end of these bytes.
+-- The bytes end with this part of a CR LF CR LF.
 pub record IsMark (bytes : List ℕ) (mark : EndMark) : Type 0 where
   pub one : ends (13 ∷ []) bytes ≡ is_cr mark
   pub two : ends (13 ∷ 10 ∷ []) bytes ≡ is_crlf mark
   pub three : ends (13 ∷ 10 ∷ 13 ∷ []) bytes ≡ is_crlfcr mark
 
--- what the mark says of the present line, without a CR that may belong to its end
+-- the facts about the current line in each mark, without a CR that may belong to its end
 abbrev pub FitsMark : EndMark → List ℕ → Type 0
 FitsMark Nothing present = ends (13 ∷ []) present ≡ false
 FitsMark Cr present = Unit {0}
 FitsMark CrLf present = present ≡ []
 FitsMark CrLfCr present = present ≡ []
 
--- The scan is that of these bytes, in which no header part ends. Its lines and the present line are
--- in the bytes alone.
+-- The scan represents these bytes, in which no header part ends. The lines and the current line
+-- occur only in this definition: the scan does not store them.
 pub record IsScanOf (limits : FrameLimits) (bytes : List ℕ) (scan : HeaderScan) : Type 0 where
   pub lines : List (List ℕ)
   pub present : List ℕ
@@ -115,14 +115,14 @@ pub record IsScanOf (limits : FrameLimits) (bytes : List ℕ) (scan : HeaderScan
   pub mark : IsMark bytes scan.mark
   pub lacks : Lacks header_end bytes
 
--- These bytes are a header part, and the findings are what its lines say.
+-- These bytes are a header part, and the findings are what its lines state.
 pub record HeaderEnds (limits : FrameLimits) (bytes : List ℕ) (findings : Findings) : Type 0 where
   pub lines : List (List ℕ)
   pub are_lines : AreLines bytes lines
   pub found : AreFindings limits lines findings
   pub first : IsFirstEnd header_end bytes (length bytes)
 
--- What a byte made of the scan of the bytes before it is right for the bytes with it.
+-- The result of a step from the scan of the bytes before b is correct for the bytes with b.
 abbrev pub StepGives : FrameLimits → List ℕ → ℕ → ScanStep → Type 0
 StepGives limits bytes b (Unfinished next) = IsScanOf limits (bytes ++ b ∷ []) next
 StepGives limits bytes b (Ended findings) = HeaderEnds limits (bytes ++ b ∷ []) findings

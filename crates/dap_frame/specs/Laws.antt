@@ -1,4 +1,4 @@
--- Laws of frames, which hold of all bytes, and of framers, which hold of any pieces.
+-- Laws of frames, which hold for all bytes, and of framers, which hold for any chunks.
 use Rattle.std.specs.Prelude.{◌≡◌, ◌≢◌, ℕ, ◌<◌, ◌≤◌, ◌⊎◌, List, [], ◌∷◌, ◌++◌, length, Err}
 use Rattle.std.specs.List.{concat}
 use Rattle.dap_frame.specs.declared.limits.FrameLimits.{FrameLimits}
@@ -9,87 +9,87 @@ use Rattle.dap_frame.specs.Frame.{IsFrame, HasFrame, Stream, Shows, IsOpen, fram
 use Rattle.dap_frame.specs.Reading.{Reading, Stands, HasFailed, limits_of}
 use Rattle.dap_frame.specs.Feeding.{IsCall, Feeds}
 
--- Bytes begin with at most one frame.
+-- Bytes start with at most one frame.
 abbrev pub OneFrame : Type 0
 OneFrame = (limits : FrameLimits) (f g y z c d : List ℕ)
     → f ++ y ≡ g ++ z → IsFrame limits f c → IsFrame limits g d → (f ≡ g) × (c ≡ d)
 
--- No frame is empty.
+-- The empty byte string is not a frame.
 abbrev pub NoEmptyFrame : Type 0
 NoEmptyFrame = (limits : FrameLimits) (content : List ℕ) → IsFrame limits [] content → ⊥
 
--- All bytes are frames of some contents, and a rest with no frame at its front.
+-- All bytes are frames with some contents, followed by a rest that does not start with a frame.
 abbrev pub SomeStream : Type 0
 SomeStream = (limits : FrameLimits) (bytes : List ℕ)
     → (contents : List (List ℕ)) × (rest : List ℕ) × Stream limits bytes contents rest
 
--- They are so in one way.
+-- They are so in only one way.
 abbrev pub OneStream : Type 0
 OneStream = (limits : FrameLimits) (bytes : List ℕ) (cs ds : List (List ℕ)) (r s : List ℕ)
     → Stream limits bytes cs r → Stream limits bytes ds s → (cs ≡ ds) × (r ≡ s)
 
--- Bytes show at most one fault, at one byte.
+-- Bytes prove at most one error, at one byte.
 abbrev pub OneFault : Type 0
 OneFault = (limits : FrameLimits) (bytes : List ℕ) (f g : FrameFault) (i j : ℕ)
     → Shows limits bytes f i → Shows limits bytes g j → (f ≡ g) × (i ≡ j)
 
--- The byte that shows a fault is one of the bytes, counted from 1.
+-- The byte that proves an error is one of the bytes, counted from 1.
 abbrev pub ShownWithin : Type 0
 ShownWithin = (limits : FrameLimits) (bytes : List ℕ) (fault : FrameFault) (i : ℕ)
     → Shows limits bytes fault i → (IsSound limits → 0 < i) × (i ≤ length bytes)
 
--- Bytes show neither the end of a stream nor a lack of memory.
+-- Bytes prove neither the end of a stream nor an allocation failure.
 abbrev pub ShownOfFormat : Type 0
 ShownOfFormat = (limits : FrameLimits) (bytes : List ℕ) (fault : FrameFault) (i : ℕ)
     → Shows limits bytes fault i → (fault ≢ Cut) × (fault ≢ Memory)
 
--- A fault stays when more bytes come.
+-- An error remains if more bytes follow.
 abbrev pub FaultStays : Type 0
 FaultStays = (limits : FrameLimits) (bytes more : List ℕ) (fault : FrameFault) (i : ℕ)
     → Shows limits bytes fault i → Shows limits (bytes ++ more) fault i
 
--- A fault does not lean on bytes behind the one that shows it.
+-- An error does not depend on bytes after the one that proves it.
 abbrev pub FaultNeedsNoMore : Type 0
 FaultNeedsNoMore = (limits : FrameLimits) (bytes more : List ℕ) (fault : FrameFault) (i : ℕ)
     → Shows limits (bytes ++ more) fault i → i ≤ length bytes → Shows limits bytes fault i
 
--- What begins with a frame shows no fault.
+-- Bytes that start with a frame prove no error.
 abbrev pub FrameNotFaulty : Type 0
 FrameNotFaulty = (limits : FrameLimits) (frame more content : List ℕ) (fault : FrameFault) (i : ℕ)
     → IsFrame limits frame content → Shows limits (frame ++ more) fault i → ⊥
 
--- What begins with a frame is not open.
+-- Bytes that start with a frame are not incomplete.
 abbrev pub FrameNotOpen : Type 0
 FrameNotOpen = (limits : FrameLimits) (frame more content : List ℕ)
     → IsFrame limits frame content → IsOpen limits (frame ++ more) → ⊥
 
--- What is open shows no fault.
+-- Incomplete bytes prove no error.
 abbrev pub OpenNotFaulty : Type 0
 OpenNotFaulty = (limits : FrameLimits) (bytes : List ℕ) (fault : FrameFault) (i : ℕ)
     → IsOpen limits bytes → Shows limits bytes fault i → ⊥
 
--- All bytes begin with a frame, or show a fault, or are open.
+-- Every byte string starts with a frame, proves an error, or is incomplete.
 abbrev pub SomeOutcome : Type 0
 SomeOutcome = (limits : FrameLimits) (bytes : List ℕ)
     → HasFrame limits bytes
     ⊎ (((fault : FrameFault) × (i : ℕ) × Shows limits bytes fault i) ⊎ IsOpen limits bytes)
 
--- What is written for a content is a frame with this content.
+-- The output for a content is a frame with this content.
 abbrev pub WrittenIsFrame : Type 0
 WrittenIsFrame = (limits : FrameLimits) (content : List ℕ)
     → IsSound limits → length content ≤ limits.content → IsFrame limits (frame_text content) content
 
--- Whatever the pieces: once they are used up, the contents that were given are those of the stream
--- of the bytes that the framer stood for and of the pieces, and the framer stands for that stream's
--- rest.
+-- For any chunks: after all are used, the returned contents are those of the stream that consists
+-- of the bytes that the framer represented and of the chunks. The framer then represents the rest
+-- of that stream.
 abbrev pub AnyPieces : Type 0
 AnyPieces = (first last : Reading) (held : List ℕ) (pieces contents : List (List ℕ))
     → Stands first held → Feeds first pieces contents [] last
     → (rest : List ℕ) × Stream (limits_of first) (held ++ concat pieces) contents rest
     × Stands last rest
 
--- Whatever the pieces: where a call tells a fault of the format, the contents that were given
--- before are those of that stream, and the stream's rest shows the fault.
+-- For any chunks: if a call returns an error of the format, the contents returned before are those
+-- of that stream, and the rest of the stream proves the error.
 abbrev pub FaultInAnyPieces : Type 0
 FaultInAnyPieces =
     (first last new : Reading) (held piece : List ℕ) (pieces contents left : List (List ℕ))

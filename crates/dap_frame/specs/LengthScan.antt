@@ -1,5 +1,6 @@
--- What a byte more makes of the value of a length. The code's own steps: proofs/LengthRuns.antt
--- shows that a run of them over a whole value says what `length_from` says of it.
+-- The effect of one byte on the value of a length. These are the code's own steps.
+-- proofs/LengthRuns.antt proves that a run of them over a whole value states what `length_from`
+-- states about it.
 use Rattle.std.specs.Prelude.{ℕ, ◌+◌, ◌-◌, ◌*◌, ◌&&◌, nat_lt, nat_le, if◌then◌else◌, Result, Ok}
 use Rattle.std.specs.Prelude.{Err}
 use Rattle.std.specs.Char.{is_ascii_digit}
@@ -11,7 +12,7 @@ use Rattle.dap_frame.specs.declared.length_scan.LengthScan.TheVariants.{Blank, D
 use Rattle.dap_frame.specs.declared.length_scan.LengthScan.TheVariants.{Invalid}
 use Rattle.dap_frame.specs.Lines.{is_blank}
 
--- one byte more of the value
+-- after one more byte of the value
 abbrev pub length_step : LengthScan → ℕ → LengthScan
 length_step Blank b =
     if is_blank b then Blank else (if is_ascii_digit b then Digits 1 (b - 48) else Invalid)
@@ -28,7 +29,7 @@ abbrev pub number_outcome : FrameLimits → ℕ → Result ℕ FrameFault
 number_outcome limits number =
     if nat_le number limits.content then Ok number else Err ContentTooLong
 
--- what the value says if it ends here
+-- the length that the value states if it ends here
 abbrev pub length_outcome : FrameLimits → LengthScan → Result ℕ FrameFault
 length_outcome limits Blank = Err BadLength
 length_outcome limits (Digits count number) = number_outcome limits number

@@ -1,5 +1,6 @@
--- What a byte more makes of a line. The code's own steps: proofs/LineRuns.antt shows that a run of
--- them over a whole line says what `is_field_line`, `is_length_line` and `length_from` say of it.
+-- The effect of one byte on a line. These are the code's own steps. proofs/LineRuns.antt proves
+-- that a run of them over a whole line states what `is_field_line`, `is_length_line` and
+-- `length_from` state about it.
 use Rattle.std.specs.Prelude.{◌≡◌, ℕ, ◌+◌, true, false, ◌&&◌, List, [], ◌∷◌, codes, nat_eq, nat_lt}
 use Rattle.std.specs.Prelude.{if◌then◌else◌, slice_index_or}
 use Rattle.std.specs.Char.{eq_ignore_ascii_case}
@@ -17,7 +18,7 @@ use Rattle.dap_frame.specs.LengthScan.{length_step, length_outcome}
 abbrev pub length_name : List ℕ
 length_name = codes "content-length"
 
--- one byte more of the line
+-- after one more byte of the line
 abbrev pub line_step : LineScan → ℕ → LineScan
 line_step (Name n) b =
     if is_colon b then
@@ -36,7 +37,7 @@ abbrev pub line_run : LineScan → List ℕ → LineScan
 line_run s [] = s
 line_run s (b ∷ bs) = line_run (line_step s b) bs
 
--- The scan of a line at its end says what the whole line says.
+-- The scan of a line at its end states what the whole line states.
 abbrev pub LineSays : FrameLimits → List ℕ → LineScan → Type 0
 LineSays limits line (Name n) = is_field_line line ≡ false
 LineSays limits line OtherName = is_field_line line ≡ false

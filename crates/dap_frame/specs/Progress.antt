@@ -1,4 +1,4 @@
--- What is taken of a piece for a frame. `rest` is the part of the frame that came before the piece.
+-- The part of a chunk that a frame consumes. `rest` is the part of the frame before the chunk.
 use Rattle.std.specs.Prelude.{◌≡◌, ◌≢◌, ℕ, ◌+◌, ◌-◌, ◌<◌, ◌≤◌, List, [], ◌++◌, length, take, drop}
 use Rattle.std.specs.Prelude.{Result, Ok, Err}
 use Rattle.dap_frame.specs.declared.limits.FrameLimits.{FrameLimits}
@@ -10,17 +10,18 @@ use Rattle.dap_frame.specs.declared.progress.HeaderTaken.TheVariants.{Unfinished
 use Rattle.dap_frame.specs.Frame.{BeginsWith, Shows}
 use Rattle.dap_frame.specs.HeaderScan.{IsScanOf}
 
--- The scan is that of some bytes, fewer than the limit of a header part.
+-- The scan represents some bytes, fewer than the limit of a header part.
 abbrev pub IsShortScan : FrameLimits → HeaderScan → Type 0
 IsShortScan limits scan = (rest : List ℕ) × IsScanOf limits rest scan
     × (length rest < limits.header)
 
--- The whole piece was taken, and the header part goes on.
+-- The whole chunk was consumed, and the header part continues.
 pub record GoesOn (limits : FrameLimits) (rest piece : List ℕ) (scan : HeaderScan) : Type 0 where
   pub scanned : IsScanOf limits (rest ++ piece) scan
   pub short : length (rest ++ piece) < limits.header
 
--- So much of the piece was taken, the header part ended there, and it says how long the content is.
+-- `used` bytes of the chunk were consumed. The header part ended there, and states the length of
+-- the content.
 pub record HasEnded (limits : FrameLimits) (rest piece : List ℕ)
     (header_len content_len used : ℕ) : Type 0 where
   pub within : used ≤ length piece
@@ -29,22 +30,22 @@ pub record HasEnded (limits : FrameLimits) (rest piece : List ℕ)
   pub header : BeginsWith limits (rest ++ take used piece) header_len (Ok content_len)
   pub small : content_len ≤ limits.content
 
--- The header part shows this fault, which is not one of memory.
+-- The header part has this error, which is not an allocation failure.
 pub record ShowsInHeader (limits : FrameLimits) (rest piece : List ℕ) (fault : FrameFault) : Type 0
   where
     pub no_memory : fault ≢ Memory
     pub place : ℕ
     pub shown : Shows limits (rest ++ piece) fault place
 
--- what a piece makes of a header part that had not ended
+-- the effect of a chunk on a header part that had not ended
 abbrev pub TakesHeader : FrameLimits → List ℕ → List ℕ → Result HeaderTaken FrameFault → Type 0
 TakesHeader limits rest piece (Ok (Unfinished scan)) = GoesOn limits rest piece scan
 TakesHeader limits rest piece (Ok (Ended header_len content_len used)) =
     HasEnded limits rest piece header_len content_len used
 TakesHeader limits rest piece (Err fault) = ShowsInHeader limits rest piece fault
 
--- So much of the piece was taken before the bytes of the content, of which these came before the
--- piece.
+-- `used` bytes of the chunk come before the bytes of the content, and `bytes` are those of the
+-- content that came before the chunk.
 pub record IsAtContent (limits : FrameLimits) (bytes rest piece : List ℕ)
     (header_len content_len used : ℕ) : Type 0 where
   pub within : used ≤ length piece
@@ -54,7 +55,7 @@ pub record IsAtContent (limits : FrameLimits) (bytes rest piece : List ℕ)
   pub behind : drop header_len (rest ++ take used piece) ≡ bytes
   pub small : content_len ≤ limits.content
 
--- what a piece makes of a header part that may have ended before it
+-- the effect of a chunk on a header part that may have ended before it
 abbrev pub TakesRestOfHeader : FrameLimits → List ℕ → List ℕ → List ℕ
     → Result HeaderTaken FrameFault → Type 0
 TakesRestOfHeader limits bytes rest piece (Ok (Unfinished scan)) = (bytes ≡ [])

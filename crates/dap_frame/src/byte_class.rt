@@ -1,4 +1,4 @@
-//! The classes of the bytes of a header part.
+//! Classes of the bytes of a header part.
 
 ghost use Rattle.std.specs.Prelude.{◌≡◌};
 ghost use Rattle.dap_frame.specs.Lines as spec;

@@ -3,8 +3,7 @@ ghost use Rattle.std.specs.Prelude.{◌≡◌, []};
 
 use std::marker::Model;
 
-/// The content of a frame: bytes of which nothing more is known. Contracts see it as the list of
-/// its bytes.
+/// The content of a frame: arbitrary bytes. Contracts see it as the list of its bytes.
 #[derive(Debug, Drop)]
 pub struct Content {
     bytes: Vec<u8>,
@@ -25,7 +24,7 @@ impl Content {
         Content { bytes }
     }
 
-    /// The memory of the bytes, without them.
+    /// Returns the buffer, empty.
     pub(crate) fn into_room(self) -> Vec<u8>
         ensures { result.items ≡ [] }
     {
@@ -34,7 +33,7 @@ impl Content {
         bytes
     }
 
-    /// The bytes, in the order of the stream. Takes no memory.
+    /// Returns the bytes, in the order of the stream. Does not allocate.
     pub fn as_slice(&self) -> &[u8]
         ensures { result.now ≡ self.now }
     {

@@ -1,12 +1,12 @@
-//! What a framer takes of a piece.
+//! The result of feeding a framer.
 use crate::content::Content;
 
-/// What a call of `Framer::feed` took of its piece.
+/// The part of its chunk that a call of `Framer::feed` consumed.
 #[derive(Debug, Drop)]
 pub struct Fed {
-    /// How many bytes of the piece were taken, from its front. The next call gets the rest.
+    /// The number of bytes consumed from the start of the chunk. Pass the rest to the next call.
     pub used: usize,
-    /// The content of the frame that ended at the last byte taken. `None`: the whole piece was
-    /// taken, and no frame ended.
+    /// The content of the frame that ended at the last byte consumed. `None`: the whole chunk was
+    /// consumed, and no frame ended.
     pub content: Option<Content>,
 }

@@ -1,4 +1,4 @@
-//! Frames read from the pieces of a stream.
+//! Reads frames from the chunks of a stream.
 ghost use Rattle.std.specs.Prelude.{◌≡◌, ℕ, ◌≤◌, ◌+◌, ◌<◌, ◌↔◌, ◌++◌, List, [], length, Err};
 ghost use Rattle.std.specs.Prelude.{IsErrOf, IfErr, IsOk, IfOk, IfSome, Some, take};
 ghost use Rattle.dap_frame.specs.Limits.{IsSound};
@@ -15,25 +15,25 @@ use std::alloc::Global;
 use std::marker::Model;
 use std::mem;
 
-/// What a framer is at.
+/// The state of a framer.
 #[derive(Clone, Copy)]
 enum State {
-    /// A frame that has not ended.
+    /// The current frame is incomplete.
     Open(Progress),
-    /// The fault that it met.
+    /// This error occurred.
     Failed(FrameFault),
 }
 
-/// Reads frames from the pieces of a stream, which may be cut anywhere.
+/// Reads frames from the chunks of a stream, which may be cut anywhere.
 ///
-/// A framer stands for the bytes that came behind the last whole frame. It keeps of them at most
-/// the bytes of the present frame's content, and none of a header part: of that it keeps a count,
-/// how the present line goes and what the finished lines say.
+/// A framer represents the bytes received since the last complete frame. It stores at most the
+/// bytes of the current frame's content. It stores no byte of a header part, but a count, the state
+/// of the current line, and what the complete lines state.
 ///
-/// To read a stream, make one framer with limits that are sound. Pass each piece to
-/// [`feed`](Framer::feed), and then again what is left of it behind `used`, until nothing is left:
-/// each answer with a content is the next frame of the stream. At the end of the stream ask
-/// [`finish`](Framer::finish) whether it ended between two frames.
+/// To read a stream, make one framer with sound limits. Pass each chunk to [`feed`](Framer::feed),
+/// then pass the rest of it after `used` again, until the rest is empty. Each result with a content
+/// is the next frame of the stream. At the end of the stream, [`finish`](Framer::finish) returns
+/// whether it ended between two frames.
 #[derive(Drop)]
 pub struct Framer {
     alloc: Global,
@@ -56,7 +56,7 @@ impl Model for Framer {
 }
 
 impl Framer {
-    /// A framer at the start of a stream. Takes no memory.
+    /// Returns a framer at the start of a stream. Does not allocate.
     pub fn new(alloc: Global, limits: FrameLimits) -> Framer
         requires { IsSound limits }
         ensures stands { Stands result [] }
@@ -70,7 +70,8 @@ impl Framer {
         }
     }
 
-    /// How many bytes of the unfinished frame were taken; 0 after a fault. Takes no memory.
+    /// Returns the number of bytes consumed of the current, incomplete frame, or 0 after an error.
+    /// Does not allocate.
     pub fn held(&self) -> usize
         ensures rest { (rest : List ℕ) → Stands self.now rest → result ≡ length rest }
         ensures failed { (fault : _) → HasFailed self.now fault → result ≡ 0 }
@@ -83,20 +84,24 @@ impl Framer {
         }
     }
 
-    /// Reads to the end of one frame or of the piece, whichever is first.
+    /// Reads to the end of one frame or of the chunk, whichever is first.
     ///
-    /// Answers every fault but `Cut`. After `Memory` the framer is unchanged and has used nothing,
-    /// so the call may be made again with the same piece. After another fault `feed` and
-    /// [`finish`](Framer::finish) answer that fault from then on. Only bytes of a content take
-    /// memory, which the answered [`Content`] then owns: an empty piece takes none, and neither
-    /// does a header part that shows a fault.
+    /// Allocates only for bytes of a content, and the returned [`Content`] then owns them. An empty
+    /// chunk and a header part with an error need no memory.
+    ///
+    /// # Errors
+    ///
+    /// - `Memory`: an allocation failed. The framer is unchanged and has consumed nothing. The call
+    ///   may be repeated with the same chunk.
+    /// - Any error except `Cut`: the bytes so far prove it. After that, `feed` and
+    ///   [`finish`](Framer::finish) always return this error.
     pub fn feed(&mut self, piece: &[u8]) -> Result<Fed, FrameFault>
         ensures gives { (rest : List ℕ) → Stands self.old rest
             → Gives (limits_of self.old) rest piece.now result self.new }
         ensures used { IfOk result (λ fed. fed.used ≤ length piece.now) }
         ensures progress { IfOk result (λ fed. 0 < length piece.now → 0 < fed.used) }
 
-        // What stands after a fault.
+        // The state after an error.
         ensures memory { IsErrOf result FrameFault.Memory → self.new ≡ self.old }
         ensures memory_for_content { IsErrOf result FrameFault.Memory → (rest : List ℕ)
             → Stands self.old rest
@@ -157,8 +162,8 @@ impl Framer {
         })
     }
 
-    /// How long the frame is that the piece begins with, where all of it is in the piece. What the
-    /// framer stands for is of no matter. Takes no memory.
+    /// Returns the length of the frame at the start of the chunk, if all of it is in the chunk. The
+    /// result does not depend on what the framer represents. Does not allocate.
     pub fn frame_in(&self, piece: &[u8]) -> Option<usize>
         ensures within { IfSome result (λ used. used ≤ length piece.now) }
         ensures frame { IfSome result (λ used. (content : List ℕ)
@@ -182,7 +187,7 @@ impl Framer {
         }
     }
 
-    /// Returns the length of the content of the present frame, if the frame ends in the piece. Does
+    /// Returns the length of the content of the current frame, if the frame ends in the chunk. Does
     /// not allocate.
     pub fn content_len_in(&self, piece: &[u8]) -> Option<usize>
         ensures ends { IfSome result (λ len. (rest : List ℕ) → Stands self.now rest
@@ -217,8 +222,8 @@ impl Framer {
         }
     }
 
-    /// Keeps the memory of a content that is done with, for the contents to come. Nothing else is
-    /// changed, and no memory is taken.
+    /// Keeps the buffer of a content that is no longer used, for later contents. Changes nothing
+    /// else. Does not allocate.
     pub fn recycle(&mut self, content: Content)
         ensures { self.new ≡ self.old }
     {
@@ -227,8 +232,12 @@ impl Framer {
         }
     }
 
-    /// Whether the stream may end here: `Cut` inside a frame, or the fault that was met. Changes
-    /// nothing and takes no memory.
+    /// Checks whether the stream may end here. Changes nothing. Does not allocate.
+    ///
+    /// # Errors
+    ///
+    /// - `Cut`: the stream ends inside a frame.
+    /// - The error that occurred before, if any.
     pub fn finish(&self) -> Result<(), FrameFault>
         ensures ok { (rest : List ℕ) → Stands self.now rest → (IsOk result ↔ (rest ≡ [])) }
         ensures cut { (rest : List ℕ) → Stands self.now rest

@@ -1,4 +1,4 @@
-//! A header part, scanned byte by byte. None of its bytes is kept.
+//! Scans a header part byte by byte, without storing its bytes.
 
 ghost use Rattle.std.specs.Prelude.{◌≡◌, ◌<◌, ℕ, List, [], codes};
 ghost use Rattle.dap_frame.specs.Frame.{told_length};
@@ -10,19 +10,19 @@ use crate::length_scan::LengthScan;
 use crate::limits::FrameLimits;
 use crate::line_scan::LineScan;
 
-/// What the finished lines of a header part say.
+/// The findings of the complete lines of a header part.
 #[derive(Clone, Copy)]
 pub struct Findings {
     /// Whether each line is a field line.
     pub are_fields: bool,
     /// Whether some line is a field `Content-Length`.
     pub has_length: bool,
-    /// The content's length or the fault, where each line is a field line.
+    /// The content's length or the error, if each line is a field line.
     pub length: Result<usize, FrameFault>,
 }
 
 impl Findings {
-    /// The findings with one line more.
+    /// Returns the findings with one more line.
     fn with(self, limits: FrameLimits, line: LineScan) -> Findings
         ensures { result ≡ with_line limits self line }
     {
@@ -48,7 +48,7 @@ impl Findings {
         }
     }
 
-    /// The content's length or the fault, by all the lines.
+    /// Returns the content's length or the error, by all the lines.
     pub fn outcome(self) -> Result<usize, FrameFault>
         ensures { (limits : _) (lines : List (List ℕ)) → AreFindings limits lines self
             → result ≡ told_length limits lines }
@@ -61,7 +61,7 @@ impl Findings {
     }
 }
 
-/// How much of a CR LF CR LF stands at the end of the bytes so far.
+/// How much of a CR LF CR LF the bytes so far end with.
 #[derive(Clone, Copy)]
 pub enum EndMark {
     Nothing,
@@ -70,26 +70,26 @@ pub enum EndMark {
     CrLfCr,
 }
 
-/// What is known of a header part that has not ended.
+/// The state of an incomplete header part.
 #[derive(Clone, Copy)]
 pub struct HeaderScan {
-    /// How many bytes of it have come.
+    /// The number of bytes so far.
     pub count: usize,
     pub mark: EndMark,
-    /// What its finished lines say.
+    /// The findings of its complete lines.
     pub findings: Findings,
-    /// The line that has not ended, without a CR that may belong to its end.
+    /// The current, incomplete line, without a CR that may belong to its end.
     pub line: LineScan,
 }
 
-/// What a byte makes of a header part.
+/// The effect of one byte on a header part.
 pub enum ScanStep {
     Unfinished(HeaderScan),
     Ended(Findings),
 }
 
 impl HeaderScan {
-    /// The scan of no bytes.
+    /// Returns the scan of no bytes.
     pub fn start() -> HeaderScan
         ensures { (limits : _) → IsScanOf limits [] result }
     {
@@ -105,7 +105,7 @@ impl HeaderScan {
         }
     }
 
-    /// The scan of `Content-Length: `, with which each frame begins that is written.
+    /// Returns the scan of `Content-Length: `, with which each written frame starts.
     pub fn behind_name() -> HeaderScan
         ensures { (limits : _) → IsScanOf limits (codes "Content-Length: ") result }
     {
@@ -121,7 +121,7 @@ impl HeaderScan {
         }
     }
 
-    /// One byte more of the header part.
+    /// Returns the scan after one more byte of the header part.
     pub fn step(self, limits: FrameLimits, byte: u8) -> ScanStep
         requires { self.count < 65536 }
         ensures { result ≡ header_step limits self byte }

@@ -1,4 +1,4 @@
-//! The value of a field `Content-Length`, scanned byte by byte.
+//! Scans the value of a field `Content-Length`, byte by byte.
 
 ghost use Rattle.std.specs.Prelude.{◌≡◌};
 ghost use Rattle.dap_frame.specs.LengthScan.{length_step, length_outcome};
@@ -7,21 +7,21 @@ use crate::byte_class::is_blank;
 use crate::fault::FrameFault;
 use crate::limits::FrameLimits;
 
-/// How far the value has come.
+/// The state of the scan of a value.
 #[derive(Clone, Copy)]
 pub enum LengthScan {
     /// Spaces and tabs, or nothing.
     Blank,
-    /// So many digits, and their number.
+    /// The number of digits, and the number that they represent.
     Digits(u8, u64),
-    /// Spaces or tabs behind the digits of this number.
+    /// Spaces or tabs after the digits of this number.
     Padded(u64),
     /// Not 1 to 10 digits between spaces and tabs.
     Invalid,
 }
 
 impl LengthScan {
-    /// One byte more of the value.
+    /// Returns the state after one more byte of the value.
     pub fn step(self, byte: u8) -> LengthScan
         ensures { result ≡ length_step self byte }
     {
@@ -55,7 +55,7 @@ impl LengthScan {
         }
     }
 
-    /// What the value says of the content's length if it ends here.
+    /// Returns the content's length that the value states if it ends here.
     pub fn outcome(self, limits: FrameLimits) -> Result<usize, FrameFault>
         ensures { result ≡ length_outcome limits self }
     {

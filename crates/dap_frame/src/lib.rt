@@ -1,9 +1,9 @@
-//! Frames of the Debug Adapter Protocol's base protocol: a header part with the length of a
+//! Frames of the base protocol of the Debug Adapter Protocol: a header part with the length of a
 //! content, and the content.
 //!
-//! A [`Framer`] reads frames from the pieces of a stream, and [`write_frame`] writes one.
-//! `specs/Frame.antt` says what a frame is, and when bytes show a fault. [`laws`] has the theorems
-//! on these definitions.
+//! A [`Framer`] reads frames from the chunks of a stream, and [`write_frame`] writes one.
+//! `specs/Frame.antt` defines frames and their errors. [`laws`] has the theorems on these
+//! definitions.
 #![tactic(auto)]
 
 mod byte_class;
@@ -16,6 +16,7 @@ pub mod laws;
 mod length_scan;
 mod limits;
 mod line_scan;
+mod plain_length;
 mod progress;
 mod write;
 

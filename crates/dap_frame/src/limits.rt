@@ -1,12 +1,12 @@
-//! How long the parts of a frame may be.
+//! Limits of the parts of a frame.
 ghost use Rattle.std.specs.Prelude.{◌↔◌, IsTrue};
 ghost use Rattle.dap_frame.specs.Limits.{IsSound};
 
-/// How long the parts of a frame may be, in bytes.
+/// The maximum lengths of the parts of a frame, in bytes.
 ///
-/// Calls take limits that are sound: `header` is from 32 to 65,536, and `content` is at most
-/// 2,147,483,647. So each header part that [`write_frame`](crate::write_frame) writes, of 30 bytes
-/// at most, is within the limit.
+/// Calls require sound limits: `header` is from 32 to 65,536, and `content` is at most
+/// 2,147,483,647. Each header part that [`write_frame`](crate::write_frame) writes has at most 30
+/// bytes, and so is within the limit.
 #[derive(Clone, Copy, Debug, PartialEq, Eq)]
 pub struct FrameLimits {
     /// The header part, with the CR LF CR LF at its end.
@@ -16,7 +16,7 @@ pub struct FrameLimits {
 }
 
 impl FrameLimits {
-    /// Whether calls take these limits. Takes no memory.
+    /// Returns whether the limits are sound. Does not allocate.
     pub fn sound(&self) -> bool
         ensures { IsTrue result ↔ IsSound self.now }
     {

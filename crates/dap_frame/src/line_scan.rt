@@ -1,4 +1,4 @@
-//! A line of a header part, scanned byte by byte.
+//! Scans a line of a header part, byte by byte.
 
 ghost use Rattle.std.specs.Prelude.{◌≡◌, ◌<◌, slice_index_or};
 ghost use Rattle.dap_frame.specs.LineScan.{line_step, length_name};
@@ -6,10 +6,10 @@ ghost use Rattle.dap_frame.specs.LineScan.{line_step, length_name};
 use crate::byte_class::{is_name_byte, is_value_byte};
 use crate::length_scan::LengthScan;
 
-/// How far a line has come.
+/// The state of the scan of a line.
 #[derive(Clone, Copy)]
 pub enum LineScan {
-    /// So many bytes of a name, which are the first of `Content-Length`.
+    /// The number of bytes of a name so far, which are a prefix of `Content-Length`.
     Name(usize),
     /// Bytes of another name.
     OtherName,
@@ -17,7 +17,7 @@ pub enum LineScan {
     Length(LengthScan),
     /// The value of another field.
     OtherValue,
-    /// No field line, whatever follows.
+    /// Not a field line, whatever follows.
     NoField,
 }
 
@@ -29,7 +29,7 @@ fn length_name_at(index: usize) -> u8
 }
 
 impl LineScan {
-    /// One byte more of the line.
+    /// Returns the state after one more byte of the line.
     pub fn step(self, byte: u8) -> LineScan
         ensures { result ≡ line_step self byte }
     {

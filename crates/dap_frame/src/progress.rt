@@ -1,4 +1,4 @@
-//! How far a frame has come, and what of a piece belongs to it.
+//! The progress of a frame, and which bytes of a chunk belong to it.
 
 ghost use Rattle.std.specs.Prelude.{◌≡◌, ◌<◌, ◌≤◌, ◌+◌, ◌-◌, ◌++◌, ℕ, List, length, take, min};
 ghost use Rattle.std.specs.Prelude.{OnErr, IfOk};
@@ -10,27 +10,28 @@ ghost use Rattle.dap_frame.specs.Progress.{TakesHeader, TakesRestOfHeader, IsSho
 use crate::fault::FrameFault;
 use crate::header_scan::{HeaderScan, ScanStep};
 use crate::limits::FrameLimits;
+use crate::plain_length::plain_length;
 use std::alloc::AllocError;
 
-/// How far a frame has come.
+/// The progress of a frame.
 #[derive(Clone, Copy)]
 pub enum Progress {
-    /// Its header part has not ended.
+    /// The header part has not ended.
     Header(HeaderScan),
-    /// Its header part had `header_len` bytes, and its content has `content_len` bytes, of which
-    /// less have come.
+    /// The header part had `header_len` bytes. The content has `content_len` bytes, and fewer have
+    /// arrived.
     Content {
         header_len: usize,
         content_len: usize,
     },
 }
 
-/// What a piece makes of a header part.
+/// The effect of a chunk on a header part.
 #[derive(Clone, Copy)]
 pub enum HeaderTaken {
-    /// It took the whole piece.
+    /// The header part consumed the whole chunk.
     Unfinished(HeaderScan),
-    /// It ended after `used` bytes of the piece.
+    /// The header part ended after `used` bytes of the chunk.
     Ended {
         header_len: usize,
         content_len: usize,
@@ -38,7 +39,7 @@ pub enum HeaderTaken {
     },
 }
 
-/// Takes what belongs to the header part, byte by byte.
+/// Reads the bytes of the chunk that belong to the header part, one at a time.
 fn scan_header(
     limits: FrameLimits,
     scan: HeaderScan,
@@ -74,8 +75,8 @@ fn scan_header(
     Ok(HeaderTaken::Unfinished(scan))
 }
 
-/// Takes what belongs to the header part. The name of its one field, as [`crate::write_frame`]
-/// writes it, is taken at once.
+/// Reads the bytes of the chunk that belong to the header part. A header part that
+/// [`crate::write_frame`] writes is read without the byte-by-byte scan.
 pub fn take_header(
     limits: FrameLimits,
     scan: HeaderScan,
@@ -88,6 +89,13 @@ pub fn take_header(
 {
     if scan.count == 0 {
         if let Some(behind) = piece.strip_prefix(b"Content-Length: ") {
+            if let Some(plain) = plain_length(limits, behind) {
+                return Ok(HeaderTaken::Ended {
+                    header_len: plain.used + 16,
+                    content_len: plain.content_len,
+                    used: plain.used + 16,
+                });
+            }
             return match scan_header(limits, HeaderScan::behind_name(), behind) {
                 Ok(
                     HeaderTaken::Ended {
@@ -108,7 +116,7 @@ pub fn take_header(
     scan_header(limits, scan, piece)
 }
 
-/// Takes what belongs to the header part, unless it has ended.
+/// Reads the bytes of the chunk that belong to the header part, unless it has ended.
 pub fn take_rest_of_header(
     limits: FrameLimits,
     progress: Progress,
@@ -132,7 +140,8 @@ pub fn take_rest_of_header(
     }
 }
 
-/// Takes what belongs to a content of `content_len` bytes, and answers how much that is.
+/// Appends the bytes of the chunk that belong to a content of `content_len` bytes, and returns
+/// their number.
 pub fn take_content(
     bytes: &mut Vec<u8>,
     piece: &[u8],

@@ -1,4 +1,4 @@
--- What has come from a source, joined.
+-- The bytes received from a source, joined.
 use Rattle.std.proofs.Common.{ℕ, ◌+◌, List, [], ◌++◌, Option, Some, None, refl, ◌∙◌}
 use Rattle.std.proofs.Common.{ap, arith, length-append}
 use Rattle.std.proofs.KnownBytes.{Consumes-nil, Consumes-trans}
@@ -8,12 +8,12 @@ use Rattle.dap_device.specs.declared.reading.Stop.{Stop}
 use Rattle.dap_device.specs.declared.reading.Stop.TheVariants.{End, Full, Failed}
 
 module _ {R : Type 0} (source : Source R) where
-  -- Nothing has come.
+  -- Nothing has been received.
   pub nothing_came : (reader : R) → HasComeSoFar source reader reader [] None
   nothing_came reader =
       record { came = Consumes-nil (source.left reader); counted = omega arith; paused = refl }
 
-  -- More came.
+  -- More bytes were received.
   pub came_on : (start mid end : R) (bytes more : List ℕ) (stop : Option Stop)
       → HasComeSoFar source start mid bytes None
       → HasComeSoFar source mid end more stop

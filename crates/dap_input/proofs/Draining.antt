@@ -1,4 +1,4 @@
--- What reading on to the end of an input keeps, and what has come in the end.
+-- The invariant of reading to the end of an input, and what has been received at the end.
 use Rattle.std.proofs.Common.{◌≡◌, ℕ, ◌+◌, ◌≤◌, List, [], ◌∷◌, ◌++◌, length, Some}
 use Rattle.std.proofs.Common.{None, true, false, Result, Ok, Err, refl, ◌∙◌, ap, subst}
 use Rattle.std.proofs.Common.{arith, append-nil, length-append}
@@ -11,7 +11,7 @@ use Rattle.dap_input.specs.RecordSteps.{ReadsRest}
 use Rattle.dap_input.specs.declared.records.Records.{Records}
 use Rattle.dap_input.proofs.Coming.{came_on, nothing_came}
 
--- So much more has come, and may have.
+-- More bytes have been received, and this was allowed.
 pub record Draining {I R : Type 0} (source : Source R) (old now : Records I) (before mid : R)
     : Type 0 where
   pub more : List ℕ
@@ -20,7 +20,7 @@ pub record Draining {I R : Type 0} (source : Source R) (old now : Records I) (be
   pub limit_is : now.pieces.limit ≡ old.pieces.limit
   pub within : old.pieces.taken ≤ old.pieces.limit → now.pieces.taken ≤ now.pieces.limit
 
--- What the test of a loop over the pieces says.
+-- The facts that the test of a loop over the chunks establishes.
 module _ {R U : Type 0} (source : Source R)
     (before after : Window) (mid end : R) where
   pub some_piece : (filled : Result U Stop) → is_ok filled ≡ true
@@ -47,7 +47,7 @@ module _ {I R : Type 0} (source : Source R) (old : Records I) (before : R) where
 
   module _ (now : Records I) (mid : R)
       (was : Draining source old now before mid) where
-    -- A piece came, and is dropped.
+    -- A chunk was received, and is dropped.
     pub drain_on : (next : Records I) (filled : Window) (after : R)
         → HasNextPiece source now.pieces filled mid after
         → next.pieces.taken ≡ filled.taken → next.pieces.limit ≡ filled.limit
@@ -73,7 +73,7 @@ module _ {I R : Type 0} (source : Source R) (old : Records I) (before : R) where
         (append-nil was.more)
         (came_on source before mid after was.more [] (Some stop) was.came next)
 
-    -- None comes any more.
+    -- No more chunks are received.
     pub drained : (after : R) (stop : Stop)
         → HasNoPiece source now.pieces mid after stop
         → old.pieces.taken ≤ old.pieces.limit → ReadsRest source old before after

@@ -1,5 +1,5 @@
--- An input that is judged record by record as its bytes come: what the judging stands for, and what
--- the next record makes of the bytes.
+-- An input that is validated record by record while it is read: what the validation represents, and
+-- what the next record of the bytes means for it.
 use Rattle.std.proofs.Common.{◌≡◌, ◌≢◌, ◌⊎◌, inl, inr, ℕ, ◌+◌, ◌<◌, ◌≤◌, List, [], ◌∷◌, ◌++◌}
 use Rattle.std.proofs.Common.{length, take, min, refl, sym, ◌∙◌, ap, subst, arith, append-nil}
 use Rattle.std.proofs.Common.{length-append, Err}
@@ -18,14 +18,14 @@ use Rattle.dap_input.proofs.Outcomes.{first_of_stop}
 use Rattle.dap_input.proofs.Runs.{ValueLaws, AcceptedFacts, Run, run_none, run_push}
 use Rattle.dap_input.proofs.Runs.{some_bytes as some_record}
 
--- What an engine reads is the input up to its limit.
+-- An engine reads the input up to its limit.
 pub read_is_taken : (bytes : List ℕ) (limit : ℕ)
     → take (min (length bytes) limit) bytes ≡ take limit bytes
 read_is_taken bytes limit =
     let least : min (length bytes) limit ≡ min limit (length bytes) =
     omega arith in rw (least, take_min)
 
--- What is owed of a judging, and of the grammar that its records are read by.
+-- The conditions for a validation and for the grammar of its records.
 pub record ReadsAs (j : Judging) {A : Type 0} (g : Items A RecordCause)
     (held_of : A → j.Held) : Type 0 where
   pub records : IsReadable j.records
@@ -37,7 +37,7 @@ pub record ReadsAs (j : Judging) {A : Type 0} (g : Items A RecordCause)
       → j.records.Ends bytes (Err cause)
   pub open_of : (bytes : List ℕ) → g.IsOpen bytes → j.records.IsOpen bytes
 
--- Of these bytes, which have come, what is unread begins behind records that are judged as these
+-- Among these received bytes, the unread ones come after records that are validated as these
 -- values.
 pub record StandsBehind {I : Type 0} (j : Judging) (stands : I → List ℕ
     → Type 0) (bytes : List ℕ) (records : Records I) (values : List j.Value) : Type 0 where
@@ -48,7 +48,7 @@ pub record StandsBehind {I : Type 0} (j : Judging) (stands : I → List ℕ
   pub limit_is : records.pieces.limit ≡ j.input
   pub between : StandsBetween stands records
   pub number_is : records.number ≡ length values + 1
-  -- no more records than bytes, so that a number that counts bytes can count records
+  -- at most as many records as bytes, so a number that counts bytes can count records
   pub few : records.number ≤ length front + 1
   pub read_to : IsReadTo j bytes (length values)
 
@@ -68,7 +68,7 @@ module _ (j : Judging) where
     read_to = record { before = []; last = []; split = refl; few = omega arith; ends = inl refl };
   }
 
-  -- A later record asks for no less.
+  -- A later record requires at least as many bytes.
   pub read_later : (bytes : List ℕ) (number later : ℕ) → number ≤ later → IsReadTo j bytes number
       → IsReadTo j bytes later
   read_later bytes number later le read =
@@ -104,7 +104,7 @@ module _ (j : Judging) {A : Type 0} (g : Items A RecordCause) (held_of : A → j
       (first_of_stop j facts.records facts.judged facts.accepted bytes front rest values why split
       run refuses)
 
-  -- What stands behind the front shows a fault.
+  -- The bytes after the prefix prove an error.
   pub first_faulty : (why : RecordCause) (place : ℕ) → Shows g rest why place
       → length bytes ≤ j.input → First (faulty why)
   first_faulty why place shows short =
@@ -120,7 +120,7 @@ module _ (j : Judging) {A : Type 0} (g : Items A RecordCause) (held_of : A → j
       refused_here (faulty why)
       (record { place = place; shows = here; in_time = omega (arith, inside, short, length_all) })
 
-  -- A byte past the limit stands behind an open record.
+  -- A byte beyond the limit comes after an incomplete record.
   pub first_too_long : (held : List ℕ) (byte : ℕ) → rest ≡ held ++ byte ∷ [] → g.IsOpen held
       → length bytes ≡ j.input + 1 → First input_too_long
   first_too_long held byte is is_open long =
@@ -151,13 +151,13 @@ module _ (j : Judging) {A : Type 0} (g : Items A RecordCause) (held_of : A → j
         in_time = omega (arith, short, length_all);
       })
 
-  -- They end where no record is begun.
+  -- They end where no record has started.
   pub whole_accepted : rest ≡ [] → j.IsAccepted bytes values
   whole_accepted none =
       subst (λ t. j.IsAccepted t values)
       (sym (split ∙ ap (λ t. front ++ t) none ∙ append-nil front)) is_accepted
 
-  -- Bytes that are open behind the front only end.
+  -- If the bytes after the prefix are incomplete, they only end.
   pub only_ends : g.IsOpen rest → length bytes ≤ j.input → EndsAt j bytes number
   only_ends is_open short = by_rest rest refl
     where
@@ -171,7 +171,7 @@ module _ (j : Judging) {A : Type 0} (g : Items A RecordCause) (held_of : A → j
     in_time : length front + length item ≤ j.input
     in_time = omega (arith, short, length_all, ap length split_rest, length-append item more)
 
-    -- The record behind the front is refused for what it holds.
+    -- The record after the prefix is rejected for its content.
     pub first_objected : (why : Objection) → j.Objects values (held_of whole) why
         → First (objected why)
     first_objected why objects = refused_here (objected why) (record {

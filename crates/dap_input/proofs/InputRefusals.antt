@@ -1,4 +1,4 @@
--- Where an input is refused, and where it is not. What is owed of being the same.
+-- Where an input is rejected, and where it is not. The conditions for equal outcomes.
 use Rattle.std.proofs.Common.{◌≡◌, ◌⊎◌, inl, inr, ⊎_elim, ℕ, ◌+◌, ◌≤◌, Bool, true, false, List, []}
 use Rattle.std.proofs.Common.{◌∷◌, ◌++◌, length}
 use Rattle.std.proofs.Common.{refl, sym, ◌∙◌, ap, subst, arith, append_assoc, append-nil}
@@ -12,7 +12,7 @@ use Rattle.dap_input.specs.Inputs.{IsNotRefusedAt, IsTaken, AcceptedBefore}
 use Rattle.dap_input.proofs.Runs.{ValueLaws, AcceptedFacts, PassesAt, run_push, run_goes_on}
 use Rattle.dap_input.proofs.Outcomes.{first_of_stop, one_refusal, one_list}
 
--- What is owed of being the same.
+-- The conditions for equal outcomes.
 pub record SameFacts (j : Judging) (AreSame : List j.Value → List j.Value → Type 0) : Type 0 where
   pub none : AreSame [] []
   pub lengths : (values others : List j.Value) → AreSame values others
@@ -26,7 +26,7 @@ module _ (j : Judging) (records : IsReadable j.records) (judged : ValueLaws j)
     (accepted : AcceptedFacts j) where
   -- ---- one input
 
-  -- Where the record of this number and those before it are accepted, no refusal is there.
+  -- If the record of this number and those before it are accepted, no rejection is there.
   module _ (input : Input) (front rest : List ℕ) (values : List j.Value) (number : ℕ)
       (split : input.bytes ≡ front ++ rest) (is : j.IsAccepted front values) (early : number
       ≤ length values) where
@@ -65,13 +65,13 @@ module _ (j : Judging) (records : IsReadable j.records) (judged : ValueLaws j)
     passed (refused why) r = no_first why r.0
     passed read_fault r = ⊎_elim (no_first cut) (λ whole. no_end whole.0 whole.1 whole.2) r.1
 
-  -- An input that is accepted as a whole is refused nowhere.
+  -- An input that is accepted as a whole is not rejected anywhere.
   pub taken_not_refused : (input : Input) (values : List j.Value) (number : ℕ)
       → IsTaken j input values → IsNotRefusedAt j input number
   taken_not_refused input values number taken (refused why) r = r.0.not_accepted values taken.0
   taken_not_refused input values number taken read_fault r = true≢false (sym r.0 ∙ taken.1)
 
-  -- Where the record is accepted, it is not refused.
+  -- If the record is accepted, it is not rejected.
   pub next_not_refused : (input : Input) (number : ℕ) → AcceptedBefore j input (number + 1)
       → IsNotRefusedAt j input number
   next_not_refused input number next =
@@ -79,7 +79,7 @@ module _ (j : Judging) (records : IsReadable j.records) (judged : ValueLaws j)
       (let is = next.is_number in omega (arith, is))
 
   module _ (input : Input) (number : ℕ) (before : AcceptedBefore j input number) where
-    -- The input has ended behind the records before.
+    -- The input has ended after the records before.
     pub ended_taken : before.rest ≡ [] → input.failed ≡ false → IsTaken j input before.values
     ended_taken none whole = (
       subst (λ t. j.IsAccepted t before.values)
@@ -119,7 +119,7 @@ module _ (j : Judging) (records : IsReadable j.records) (judged : ValueLaws j)
       is_number = omega (arith, before.is_number, length_push before.values value);
     }
 
-    -- The record is refused, or cut where the reader failed.
+    -- The record is rejected, or cut off by a failure of the reader.
     pub refused_there : (why : Reason)
         → Refuses j before.values (length before.front) before.rest why
         → (fault : Fault) × IsRefusedAt j input number fault
@@ -143,7 +143,7 @@ module _ (j : Judging) (records : IsReadable j.records) (judged : ValueLaws j)
         at_end cut is true e = (read_fault, (e, inl is))
         at_end cut is false e = (refused cut, (is, λ failed. absurd (true≢false (sym failed ∙ e))))
 
-  -- Bytes that are refused do not only end.
+  -- Rejected bytes do not only end.
   refused_not_ended : (input : Input) (number other : ℕ) (why : Reason)
       → IsRefusedAt j input number (refused why) → IsRefusedAt j input other read_fault → ⊥
   refused_not_ended input number other why p q =
@@ -162,7 +162,7 @@ module _ (j : Judging) (records : IsReadable j.records) (judged : ValueLaws j)
       whole.2 ∙ ap (λ (t : List j.Value). length t + 1)
       (one_list j records judged accepted bytes whole.0 all.0 whole.1 all.1) ∙ sym all.2
 
-  -- Two refusals of one input are one.
+  -- Two rejections of one input are equal.
   pub one_fault : (input : Input) (number other : ℕ) (fault more : Fault)
       → IsRefusedAt j input number fault → IsRefusedAt j input other more
       → (number ≡ other) × (fault ≡ more)

@@ -1,4 +1,4 @@
--- What the next record of an input makes of the judging of those before.
+-- The effect of the next record of an input on the validation of those before.
 use Rattle.std.proofs.Common.{◌≡◌, ◌≢◌, inl, inr, ℕ, ◌+◌, ◌-◌, ◌<◌, ◌≤◌, true, false, List, []}
 use Rattle.std.proofs.Common.{◌∷◌, ◌++◌, length, Option, Some, None, Result, Ok, Err, refl, sym}
 use Rattle.std.proofs.Common.{◌∙◌, ap, subst, arith, append_assoc, append-nil, length-append}
@@ -65,7 +65,7 @@ module _ {I A R : Type 0} (j : Judging) (g : Items A RecordCause) (held_of : A �
     pub at_most : length all ≤ j.input + 1
     at_most = within_one read.stop within
 
-    -- what came before the last piece is within the limit
+    -- the bytes received before the last chunk are within the limit
     early_short : (early last : List ℕ) → read.more ≡ early ++ last → 0 < length last
         → length (bytes ++ early) ≤ j.input
     early_short early last more_is some =
@@ -106,7 +106,7 @@ module _ {I A R : Type 0} (j : Judging) (g : Items A RecordCause) (held_of : A �
           );
         }
 
-    -- ---- what is refused
+    -- ---- rejections
 
     abbrev Refuses : Refused → Type 0
     Refuses because = RefusesAt j (so_far all read.stop) old.number because
@@ -161,9 +161,9 @@ module _ {I A R : Type 0} (j : Judging) (g : Items A RecordCause) (held_of : A �
       );
     }
 
-  -- ---- no record has come
+  -- ---- no record was received
 
-  -- What the refusal says, and that a cut is told only at the end.
+  -- The meaning of the rejection. A cut is reported only at the end.
   pub refused_read : (because : Refused)
       → (read : ReadsNext g stands source old new before after (Err because))
       → Says j (all (Err because) read) read.stop old.number because
@@ -198,7 +198,7 @@ module _ {I A R : Type 0} (j : Judging) (g : Items A RecordCause) (held_of : A �
       told Memory is = (tt, λ m same. absurd (let e = same in cc))
       told other is = absurd is
 
-  -- All records have come, and the input is accepted.
+  -- All records were received, and the input is accepted.
   pub none_left : (read : ReadsNext g stands source old new before after (Ok None))
       → (read.stop ≡ Some End) × j.IsAccepted (all (Ok None) read) values
       × (new.number ≡ old.number)
@@ -209,7 +209,7 @@ module _ {I A R : Type 0} (j : Judging) (g : Items A RecordCause) (held_of : A �
     read.finds.2,
   )
 
-  -- ---- a record has come
+  -- ---- a record was received
 
   module _ (whole : A)
       (read : ReadsNext g stands source old new before after (Ok (Some whole))) where
@@ -222,7 +222,7 @@ module _ {I A R : Type 0} (j : Judging) (g : Items A RecordCause) (held_of : A �
     short : length come ≤ j.input
     short = within_at (Ok (Some whole)) read None read.finds.0
 
-    -- It is refused for what it holds.
+    -- It is rejected for its content.
     pub refused_held : (because : Refused)
         → RefusesHeld (j.Objects values (held_of whole)) old.number because
         → Says j come read.stop old.number because
@@ -272,7 +272,7 @@ module _ {I A R : Type 0} (j : Judging) (g : Items A RecordCause) (held_of : A �
               (read_to (Ok (Some whole)) read);
         }
 
-    -- Fewer bytes are left.
+    -- Fewer bytes remain.
     pub shorter : (new.pieces.limit - new.pieces.taken) + length new.pieces.unread
         < (old.pieces.limit - old.pieces.taken) + length old.pieces.unread
     shorter =

@@ -1,4 +1,4 @@
--- Framers and readers of records, as readers of items.
+-- Framers and readers of records as readers of items.
 use Rattle.std.proofs.Common.{◌≡◌, ◌≢◌, inl, inr, ℕ, ◌≤◌, List, [], ◌++◌, length, take, Option}
 use Rattle.std.proofs.Common.{Some, None, Err, sym, ◌∙◌, subst}
 use Rattle.std.specs.Prelude.{MatchOption}
@@ -22,7 +22,7 @@ use Rattle.dap_input.proofs.Refusals.{IsShownCause}
 use Rattle.dap_input.specs.ItemReading.{GivesItem, StandsForFrame, StandsForRecord, frame_items}
 use Rattle.dap_input.specs.ItemReading.{record_items}
 
--- Bytes show neither that a recording ends too early nor want of memory.
+-- Bytes prove neither that a recording ends too early nor an allocation failure.
 pub shown_cause : (limits : FrameLimits) (bytes : List ℕ) (why : RecordCause) (place : ℕ)
     → ShowsFault limits bytes why place → IsShownCause why
 shown_cause limits bytes why place shows =
@@ -42,7 +42,7 @@ shown_frame_cause limits bytes why place shows = subst IsShownCause (sym shows.e
 
 module _ (limits : FrameLimits) (bytes piece : List ℕ) (old new : Reading)
     (was : StandsForFrame limits old bytes) where
-  -- What a framer took is an item, or its front.
+  -- The bytes that a framer consumed are an item, or a prefix of one.
   pub frame_fed : (used : ℕ) (ended : Option (List ℕ))
       → ((rest : List ℕ) → Stands old rest → (used ≤ length piece) × MatchOption ended
       ((used ≡ length piece) × Stands new (rest ++ piece))
@@ -60,7 +60,7 @@ module _ (limits : FrameLimits) (bytes piece : List ℕ) (old new : Reading)
         (same ∙ was.0, fed.1),
       )
 
-  -- A fault that it told is one that the bytes show.
+  -- The bytes prove the error that it returned.
   pub frame_fault : (fault : FrameFault) → fault ≢ NoRoom
       → ((rest : List ℕ) → Stands old rest → GivesFault (limits_of old) rest piece fault new)
       → (place : ℕ) × items.Shows (frame_items limits) (bytes ++ piece) (Frame fault) place
@@ -75,7 +75,7 @@ module _ (limits : FrameLimits) (bytes piece : List ℕ) (old new : Reading)
 
 module _ (limits : FrameLimits) (bytes piece : List ℕ) (old new : RecordReading)
     (was : StandsForRecord limits old bytes) where
-  -- What a reader took is an item, or its front.
+  -- The bytes that a reader consumed are an item, or a prefix of one.
   pub record_fed : (used : ℕ) (ended : Option WholeRecord)
       → ((number : ℕ) (held : List ℕ) → StandsFor old number held → (used ≤ length piece)
       × MatchOption ended
@@ -95,7 +95,7 @@ module _ (limits : FrameLimits) (bytes piece : List ℕ) (old new : RecordReadin
         (same ∙ was.0, (next_number was.1.0, fed.1)),
       )
 
-  -- A fault that it told is one that the bytes show.
+  -- The bytes prove the error that it returned.
   pub record_fault : (fault : RecordFault)
       → ((number : ℕ) (held : List ℕ) → StandsFor old number held
       → GivesRecordFault (record_limits old) number held piece fault new)

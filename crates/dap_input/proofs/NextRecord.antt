@@ -1,4 +1,4 @@
--- The record that begins the rest passes, or is refused for one reason, and not both.
+-- The first record of the rest passes, or is rejected for exactly one reason.
 use Rattle.std.proofs.Common.{◌≡◌, ◌≢◌, ◌⊎◌, inl, inr, ⊎_elim, ℕ, ◌+◌, ◌<◌, ◌≤◌, List, [], ◌∷◌}
 use Rattle.std.proofs.Common.{◌++◌, length}
 use Rattle.std.proofs.Common.{refl, sym, ◌∙◌, ap, arith, append_assoc, length-append}
@@ -13,7 +13,7 @@ use Rattle.dap_input.specs.Judging.{Refuses}
 use Rattle.dap_input.proofs.Runs.{ValueLaws, ValueFacts, PassesAt, Run, some_bytes}
 
 module _ (j : Judging) (records : IsReadable j.records) where
-  -- Where a record is refused, some bytes are left.
+  -- If a record is rejected, some bytes remain.
   pub refuses_some : (values : List j.Value) (used : ℕ) (rest : List ℕ) (why : Reason)
       → Refuses j values used rest why → used ≤ j.input → 0 < length rest
   refuses_some values used rest (faulty cause) r short = let within =
@@ -64,7 +64,7 @@ module _ (j : Judging) (records : IsReadable j.records) where
           (sym r.whole ∙ s.whole) r.is_record s.is_record in
           judged.one_objection values s.held why because (rw one.1 at r.objects) s.objects
 
-      -- A record is refused for one reason.
+      -- A record is rejected for only one reason.
       pub one_reason : (why because : Reason) → Refuses j values used rest why
           → Refuses j values used rest because → why ≡ because
       one_reason (faulty cause) (faulty other) r s =
@@ -85,7 +85,7 @@ module _ (j : Judging) (records : IsReadable j.records) where
       one_reason (objected why) cut r s = absurd (cut_not_objected why s r)
       one_reason (objected why) (objected because) r s = ap objected (one_objection why because r s)
 
-      -- A record that is refused does not pass.
+      -- A rejected record does not pass.
       pub refuses_not_passes : (front more : List ℕ) (value : j.Value) (why : Reason)
           → Refuses j values used rest why → rest ≡ front ++ more
           → PassesAt j used values front value → ⊥
@@ -102,7 +102,7 @@ module _ (j : Judging) (records : IsReadable j.records) where
           ∙ is) r.is_record p.is_record in
           judged.next_not_objected values p.held value why p.is_next (rw one.1 at r.objects)
 
-      -- No run goes on where a record is refused.
+      -- No run continues after a rejected record.
       pub run_stops : (why : Reason) (behind more : List ℕ) (last : List j.Value)
           → Refuses j values used rest why → rest ≡ behind ++ more → Run j values used behind last
           → behind ≡ []
@@ -121,7 +121,7 @@ pub record NextPasses (j : Judging) (values : List j.Value) (used : ℕ) (rest :
     pub whole : rest ≡ front ++ more
     pub passes : PassesAt j used values front value
 
--- The next record of the rest passes, or is refused.
+-- The next record of the rest passes, or is rejected.
 abbrev pub NextIsJudged : (j : Judging) → List j.Value → ℕ → List ℕ → Type 0
 NextIsJudged j values used rest = NextPasses j values used rest
     ⊎ ((why : Reason) × Refuses j values used rest why)
@@ -212,7 +212,7 @@ module _ (j : Judging) (records : IsReadable j.records) (judged : ValueFacts j) 
                 );
           }
 
-  -- Behind a run, the next record passes or is refused.
+  -- After a run, the next record passes or is rejected.
   pub judge_next : (front : List ℕ) (values : List j.Value) (rest : List ℕ)
       → Run j [] 0 front values → rest ≢ [] → NextIsJudged j values (length front) rest
   judge_next front values rest run begun =

@@ -1,4 +1,4 @@
--- An input is accepted, or has one refusal, which stays when more bytes come.
+-- An input is accepted, or has one rejection, which remains if more bytes follow.
 use Rattle.std.proofs.Common.{◌≡◌, ◌≢◌, inl, inr, ⊎_elim, ℕ, List, ◌++◌, Option, Some, None}
 use Rattle.std.proofs.Common.{MatchOption, refl, sym, ◌∙◌, ap, ap₂}
 use Rattle.dap_items.specs.Items.{Shows}
@@ -19,7 +19,7 @@ use Rattle.dap_input.proofs.Outcomes.{some_outcome_of}
 use Rattle.dap_input.proofs.Refusals.{IsShownCause, faulty_told, refused_as}
 use Rattle.dap_input.proofs.Runs.{ValueFacts, AcceptedFacts}
 
--- the refusal of a record for a reason
+-- the rejection of a record for a reason
 abbrev refusal_of : ℕ → Reason → Refused
 refusal_of n (faulty cause) = Record n cause
 refusal_of n input_too_long = InputTooLong n
@@ -31,7 +31,7 @@ refusal_of n (objected (broken rule)) = Rule n rule
 refusal_of n (objected too_many_ids) = TooManyIds n
 refusal_of n (objected grew) = Grew n
 
--- What is told, if anything is, is told by this refusal alone.
+-- Only this rejection reports the reason, if there is one.
 abbrev IsToldBy : Option (ℕ × Reason) → Refused → Type 0
 IsToldBy None because = Unit {0}
 IsToldBy (Some (n, why)) because = because ≡ refusal_of n why
@@ -50,7 +50,7 @@ told_by_one (Grew n) = refl
 told_by_one because = tt
 
 module _ (j : Judging) where
-  -- the record and the reason of a refusal
+  -- the record and the reason of a rejection
   record Told (whole : List ℕ) (because : Refused) : Type 0 where
     pub number : ℕ
     pub why : Reason
@@ -70,7 +70,7 @@ module _ (j : Judging) where
 
   module _ (shown : (bytes : List ℕ) (cause : RecordCause) (place : ℕ)
       → Shows j.records bytes cause place → IsShownCause cause) where
-    -- Each first refusal is told by a refusal.
+    -- Each first rejection is reported by a value of `Refused`.
     refused_for : (whole : List ℕ) (number : ℕ) (why : Reason)
         → IsFirstRefusal j whole number why → IsRefused j whole (refusal_of number why)
     refused_for whole n (faulty cause) first =

@@ -1,5 +1,5 @@
--- An input is accepted as one list of values, or has one first refusal, which stays when more bytes
--- come.
+-- An input is accepted as one list of values, or has one first rejection, which remains if more
+-- bytes follow.
 use Rattle.std.proofs.Common.{◌≡◌, ◌≢◌, ◌⊎◌, inl, inr, ⊎_elim, ℕ, zero, suc, ◌+◌, ◌<◌, ◌≤◌, List}
 use Rattle.std.proofs.Common.{[], ◌∷◌, ◌++◌, length, drop}
 use Rattle.std.proofs.Common.{refl, sym, ◌∙◌, ap, arith, append_assoc, append-nil, length-append}
@@ -20,7 +20,7 @@ module _ (j : Judging) where
   not_both whole values number why taken first = first.not_accepted values taken
 
   module _ (records : IsReadable j.records) (judged : ValueLaws j) where
-    -- No run is longer than the one that ends at a refused record.
+    -- No run is longer than the one that ends at a rejected record.
     pub no_longer_run : (front rest other more : List ℕ) (values others : List j.Value)
         (why : Reason)
         → front ++ rest ≡ other ++ more → Run j [] 0 front values
@@ -42,7 +42,7 @@ module _ (j : Judging) where
             omega (arith, ap length on.bytes_are, ap length none, length-append front on.behind)
 
     module _ (accepted : AcceptedFacts j) where
-      -- Where a run ends and the next record is refused, that is the first refusal.
+      -- If a run ends and the next record is rejected, that is the first rejection.
       pub first_of_stop : (whole front rest : List ℕ) (values : List j.Value) (why : Reason)
           → whole ≡ front ++ rest
           → Run j [] 0 front values → Refuses j values (length front) rest why
@@ -96,7 +96,7 @@ module _ (j : Judging) where
                 q.refuses,
           )
 
-  -- What is refused, but for a cut, is refused also where more bytes come.
+  -- Rejected bytes remain rejected if more bytes follow, unless the reason is a cut.
   pub refuses_more : (values : List j.Value) (used : ℕ) (rest more : List ℕ) (why : Reason)
       → why ≢ cut → Refuses j values used rest why → Refuses j values used (rest ++ more) why
   refuses_more values used rest more (faulty cause) not_cut r =
@@ -143,7 +143,7 @@ module _ (j : Judging) where
       (first_of_stop records judged accepted (whole ++ more) first.front (first.rest ++ more)
       first.values why split run refuses)
 
--- The input is accepted, or has a first refusal.
+-- The input is accepted, or has a first rejection.
 abbrev pub HasOutcome : (j : Judging) → List ℕ → Type 0
 HasOutcome j whole =
     ((values : List j.Value) × j.IsAccepted whole values)
@@ -176,7 +176,7 @@ module _ (j : Judging) (records : IsReadable j.records) (judged : ValueFacts j)
           let some = some_bytes j records next.front next.passes.held next.passes.is_record in
           omega (arith, ap length next.whole, length-append next.front next.more)
 
-  -- Each input is accepted, or has a first refusal.
+  -- Each input is accepted, or has a first rejection.
   pub some_outcome_of : (whole : List ℕ) → HasOutcome j whole
   some_outcome_of whole =
       some_outcome_behind (suc (length whole)) whole [] whole [] (omega arith) refl

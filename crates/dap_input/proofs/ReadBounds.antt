@@ -1,4 +1,4 @@
--- How far past a record an input is read that was read no further than the record asked for.
+-- How far beyond a record an input is read, if it was read only as far as the record required.
 use Rattle.std.proofs.Common.{◌≡◌, ◌⊎◌, inl, inr, ⊎_elim, ℕ, ◌+◌, ◌<◌, ◌≤◌, List, [], ◌∷◌, ◌++◌}
 use Rattle.std.proofs.Common.{length, sym, ◌∙◌, ap, subst, arith, append_assoc, length-append}
 use Rattle.std.proofs.lemmas.Bool.{cases_lt}
@@ -14,7 +14,7 @@ use Rattle.dap_input.proofs.Runs.{ValueLaws, AcceptedFacts, GoesOn, Run, run_goe
 
 module _ (j : Judging) (records : IsReadable j.records) (judged : ValueLaws j)
     (accepted : AcceptedFacts j) where
-  -- More values are more bytes, and those begin with a record.
+  -- More values have more bytes, and those start with a record.
   some_record : (before : List j.Value) (used : ℕ) (bytes : List ℕ) (values : List j.Value)
       → Run j before used bytes values → 0 < length values
       → (whole : List ℕ) × (more : List ℕ) × (held : j.Held) × (bytes ≡ whole ++ more)
@@ -32,7 +32,7 @@ module _ (j : Judging) (records : IsReadable j.records) (judged : ValueLaws j)
 
     module _ (before last : List ℕ) (ends : bytes ≡ before ++ last) (earlier : ℕ) (early : earlier
         ≤ number) where
-      -- It ends behind accepted records, of which there are no more.
+      -- The bytes end after accepted records, and there are no more records.
       ends_behind : (others : List j.Value) → j.IsAccepted before others
           → earlier ≡ length others + 1 → length before ≤ length front
       ends_behind others accepted_too count =
@@ -56,7 +56,7 @@ module _ (j : Judging) (records : IsReadable j.records) (judged : ValueLaws j)
           (λ le. le)
           (cases_lt (length front) (length before))
 
-      -- It ends inside a record, an earlier one or this.
+      -- The bytes end inside a record: this one or an earlier one.
       module _ (first : IsFirstRefusal j before earlier cut) where
         same : first.front ++ (first.rest ++ last) ≡ front ++ rest
         same = sym (append_assoc first.front first.rest last)
@@ -138,7 +138,8 @@ module _ (j : Judging) (records : IsReadable j.records) (judged : ValueLaws j)
             ))
             (cases_lt earlier number)
 
-      -- No more came before the last piece than those records and an open part of this one.
+      -- Before the last chunk, no more was received than those records and an incomplete part of
+      -- this one.
       pub reach : EndsAt j before earlier
           → (length before ≤ length front)
           ⊎ ((part : List ℕ) × (rest ≡ part ++ last) × j.records.IsOpen part
@@ -170,7 +171,7 @@ module _ (j : Judging) (records : IsReadable j.records) (judged : ValueLaws j)
           by_ends (inr (earlier, early, ends)) =
               by_reach (reach read.before read.last read.split earlier early ends)
 
-      -- At most so many bytes were read past a whole record.
+      -- The bound on the bytes read beyond a complete record.
       pub past_record : (whole more : List ℕ) (held : j.Held) → rest ≡ whole ++ more
           → IsItem j.records whole held → length bytes ≤ length front + length whole + 65536
       past_record whole more held whole_is is_record =
@@ -178,7 +179,7 @@ module _ (j : Judging) (records : IsReadable j.records) (judged : ValueLaws j)
           (λ part is is_open. let short = open_shorter records.grammar part read.last whole more
           held is_open (sym is ∙ whole_is) is_record in omega (arith, short))
 
-      -- At most so many were read past the byte that shows a fault.
+      -- The bound on the bytes read beyond the byte that proves an error.
       pub past_fault : (cause : RecordCause) (place : ℕ) → Shows j.records rest cause place
           → length bytes ≤ length front + place + 65536
       past_fault cause place shows =

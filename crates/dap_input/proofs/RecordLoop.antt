@@ -1,4 +1,4 @@
--- What the reading of the next record keeps, and what it may answer, whatever a record is.
+-- The invariant of reading the next record, and its possible results, for any kind of record.
 use Rattle.std.proofs.Common.{◌≡◌, ◌≢◌, ◌⊎◌, inl, inr, ℕ, ◌+◌, ◌-◌, ◌≤◌, true, false}
 use Rattle.std.proofs.Common.{List, [], ◌∷◌, ◌++◌, length, take, drop, Option, Some, None}
 use Rattle.std.proofs.Common.{Result, Ok, Err, refl, sym, ◌∙◌, ap, subst, arith, append_assoc}
@@ -23,7 +23,7 @@ use Rattle.dap_input.specs.declared.refused.Refused.TheVariants.{InputTooLong, R
 use Rattle.dap_input.specs.declared.refused.Refused.TheVariants.{Memory}
 use Rattle.dap_input.proofs.Coming.{came_on, nothing_came}
 
--- What is kept of a reader and of counts, whatever the records stand for.
+-- The facts about a reader and the counts that are preserved, for any kind of record.
 pub record AreCounted {I R : Type 0} (source : Source R) (old now : Records I) (before mid : R)
     : Type 0 where
   pub room : source.given mid + (now.pieces.limit - now.pieces.taken)
@@ -31,7 +31,7 @@ pub record AreCounted {I R : Type 0} (source : Source R) (old now : Records I) (
   pub no_failure : source.failures mid ≡ source.failures before
   pub number_is : now.number ≡ old.number
 
--- A piece came, and some of it was read.
+-- A chunk was received, and some of it was read.
 pub counted_on : {I R : Type 0} (source : Source R) (old now next : Records I)
     (before mid after : R) (filled : Window)
     → AreCounted source old now before mid
@@ -51,13 +51,13 @@ counted_on source old now next before mid after filled was got taken limit numbe
       number_is = number_is ∙ was.number_is;
     }
 
--- An option that holds nothing, or something.
+-- An option is `None` or `Some`.
 pub nothing : {A : Type 0} (o : Option A) → is_some o ≡ false → o ≡ None
 nothing None is = refl
 nothing (Some whole) is = absurd (true≢false is)
 
--- The next record is looked for: so much has come, no more than was needed, and of it the reader
--- stands for what is not unread.
+-- The invariant of the search for the next record. These bytes were received, and no more than
+-- required. The reader represents all of them except the unread ones.
 pub record Looking {I A R : Type 0} (g : Items A RecordCause) (stands : I → List ℕ
     → Type 0) (source : Source R) (old now : Records I) (before mid : R) : Type 0 where
   pub more : List ℕ
@@ -100,7 +100,7 @@ module _ {I A R : Type 0} (g : Items A RecordCause) (stands : I → List ℕ
     open_held : g.IsOpen was.held
     open_held = opens now.reader was.held was.reads
 
-    -- where nothing is unread, the reader stands for all that has come
+    -- if nothing is unread, the reader represents everything received
     all_held : now.pieces.unread ≡ [] → old.pieces.unread ++ was.more ≡ was.held
     all_held none = was.split ∙ ap (λ t. was.held ++ t) none ∙ append-nil was.held
 
@@ -123,7 +123,7 @@ module _ {I A R : Type 0} (g : Items A RecordCause) (stands : I → List ℕ
     taken_within : old.pieces.taken + length was.more ≤ old.pieces.limit
     taken_within = omega (arith, was.taken, was.within, was.limit_is)
 
-    -- ---- more has come, or none comes
+    -- ---- more was received, or the source stopped
 
     pub filled : (next : Records I) (after : R)
         → HasNextPiece source now.pieces next.pieces mid after
@@ -258,7 +258,7 @@ module _ {I A R : Type 0} (g : Items A RecordCause) (stands : I → List ℕ
           by_held (inl nothing) = subst (Gives new after) (sym nothing.1) (has_ended next nothing.0)
           by_held (inr some) = subst (Gives new after) (sym some.1) (is_cut next some.0)
 
-    -- ---- the reader has read on
+    -- ---- the reader has read more
 
     abbrev pub Fed : FedItem A → I → Type 0
     Fed fed reader = (held : List ℕ) → stands now.reader held
@@ -357,7 +357,7 @@ module _ {I A R : Type 0} (g : Items A RecordCause) (stands : I → List ℕ
           by_whole None same is = absurd (true≢false (sym is))
           by_whole (Some whole) same is = found_whole whole same number_is
 
-    -- ---- the reader tells a fault
+    -- ---- the reader returned an error
 
     module _ (new : Records I) (pieces_are : new.pieces ≡ now.pieces) (over_is : new.is_over
         ≡ now.is_over) where
@@ -402,7 +402,7 @@ module _ {I A R : Type 0} (g : Items A RecordCause) (stands : I → List ℕ
         finds = finds;
       }
 
-      -- A fault that the reader told is one that the bytes show.
+      -- The bytes prove the error that the reader returned.
       pub faulty : (why : RecordCause) (reader : I) → why ≢ cause.Memory
           → ((held : List ℕ) → stands now.reader held
           → GivesItem g stands held now.pieces.unread (Err why) reader)

@@ -1,4 +1,4 @@
--- What follows from what a refusal says.
+-- Consequences of what a rejection means.
 use Rattle.std.proofs.Common.{◌≡◌, ◌≢◌, ℕ, Bool, true, false, List, ◌++◌, Option, Some, None}
 use Rattle.std.proofs.Common.{MatchOption, refl, sym, ◌∙◌, ap, ap₂, subst, true≢false}
 use Rattle.std.specs.Option.{option_map_or}
@@ -19,24 +19,24 @@ use Rattle.dap_input.specs.declared.refused.Refused.TheVariants.{Record, ReadFau
 use Rattle.dap_input.proofs.Outcomes.{refusal_stays}
 use Rattle.dap_input.proofs.Runs.{ValueLaws, AcceptedFacts}
 
--- It is told that the record is cut.
+-- The reported reason is that the record is cut.
 abbrev TellsCut : Option (ℕ × Reason) → Type 0
 TellsCut (Some (n, cut)) = Unit {0}
 TellsCut told = ⊥
 
--- Only a record that is cut tells so.
+-- Only a cut record is reported as cut.
 pub cut_told : (because : Refused) (n : ℕ) → reason_of because ≡ Some (n, cut)
     → because ≡ Record n Cut
 cut_told (Record m Cut) n told =
     ap (λ t. Record (option_map_or (λ (of : ℕ × Reason). of.0) t n) Cut) told
 cut_told because n told = absurd (subst TellsCut (sym told) tt)
 
--- What a record holds is not where it ends.
+-- The reason is the content of a record, not where it ends.
 pub objected_not_cut : (because : Refused) (n m : ℕ) (why : Objection)
     → reason_of because ≡ Some (n, objected why) → because ≡ Record m Cut → ⊥
 objected_not_cut because n m why told same = subst TellsCut (sym (ap reason_of same) ∙ told) tt
 
--- Bytes show neither that a recording ends too early nor want of memory.
+-- Bytes prove neither that a recording ends too early nor an allocation failure.
 abbrev pub IsShownCause : RecordCause → Type 0
 IsShownCause Cut = ⊥
 IsShownCause NoMemory = ⊥
@@ -48,7 +48,7 @@ faulty_told Cut n shown = absurd shown
 faulty_told NoMemory n shown = absurd shown
 faulty_told cause n shown = refl
 
--- What a whole record is refused for is one of the objections.
+-- A complete record is rejected for one of the objections.
 pub objection_told : (Objects : Objection → Type 0) (n : ℕ) (told : Option (ℕ × Reason))
     → MatchOption told ⊥ (λ t. (t.0 ≡ n) × IsObjected Objects t.1)
     → (why : Objection) × (told ≡ Some (n, objected why)) × Objects why
@@ -57,7 +57,7 @@ objection_told Objects n (Some (m, objected why)) (same, objects) =
     (why, ap (λ k. Some (k, objected why)) same, objects)
 objection_told Objects n (Some (m, why)) (same, objects) = absurd objects
 
--- What has no reason, and is no fault of the reader, tells nothing.
+-- A value that has no reason, and is not a failure of the reader, reports nothing.
 pub untold : (because : Refused) (number : ℕ) (fault : Fault) → reason_of because ≡ None
     → because ≢ ReadFault → Tells because number fault → ⊥
 untold because number (refused why) none other told =
@@ -65,7 +65,7 @@ untold because number (refused why) none other told =
 untold because number read_fault none other told = other told
 
 module _ (j : Judging) where
-  -- The first refusal of an input is what tells it.
+  -- The first rejection of an input is the one that reports it.
   pub refused_as : (whole : List ℕ) (because : Refused) (number : ℕ) (why : Reason)
       → reason_of because ≡ Some (number, why) → IsFirstRefusal j whole number why
       → IsRefused j whole because
@@ -74,7 +74,7 @@ module _ (j : Judging) where
 
   module _ (records : IsReadable j.records) (judged : ValueLaws j) (accepted : AcceptedFacts j)
       (bytes : List ℕ) (number : ℕ) (because : Refused) (input : Input) where
-    -- Where more may come, what has come is not refused for its end.
+    -- If more may follow, the received bytes are not rejected for where they end.
     stays : (stop : Option Stop) → has_failed stop ≡ false → stop ≢ Some End → (more : List ℕ)
         → input.bytes ≡ bytes ++ more → ((n : ℕ) → because ≡ Record n Cut → stop ≡ Some End)
         → (fault : Fault) → Tells because number fault
@@ -94,7 +94,7 @@ module _ (j : Judging) where
         → record { bytes = bytes; failed = failed } ≡ input
     same_input failed one two = ap₂ (λ b f. record { bytes = b; failed = f }) (sym one) (sym two)
 
-    -- Where what has come is refused, the input is.
+    -- If the received bytes are rejected, the input is rejected.
     pub refused_in : (stop : Option Stop) → IsOf bytes stop input
         → RefusesAt j (so_far bytes stop) number because
         → ((n : ℕ) → because ≡ Record n Cut → stop ≡ Some End) → RefusesAt j input number because

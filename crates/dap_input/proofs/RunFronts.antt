@@ -1,4 +1,4 @@
--- Two runs over fronts of the same bytes: the one with fewer values is a front of the other.
+-- Two runs over prefixes of the same bytes: the one with fewer values is a prefix of the other.
 use Rattle.std.proofs.Common.{◌≡◌, ◌≢◌, ◌⊎◌, inl, inr, ⊎_elim, ℕ, ◌+◌, ◌<◌, ◌≤◌, List, [], ◌∷◌}
 use Rattle.std.proofs.Common.{◌++◌, length}
 use Rattle.std.proofs.Common.{sym, ◌∙◌, ap, subst, arith, append-nil, length-append}
@@ -8,7 +8,7 @@ use Rattle.dap_items.proofs.Ends.{IsReadable}
 use Rattle.dap_input.specs.Judging.{Judging}
 use Rattle.dap_input.proofs.Runs.{ValueLaws, Run, GoesOn, no_values, run_goes_on}
 
--- No values are no bytes.
+-- No values have no bytes.
 pub no_bytes : (j : Judging) (before : List j.Value) (used : ℕ) (bytes : List ℕ)
     (values : List j.Value) → Run j before used bytes values → length values ≡ 0 → bytes ≡ []
 unfolding Run
@@ -45,7 +45,7 @@ module _ (j : Judging) (records : IsReadable j.records) (judged : ValueLaws j) w
     lengths : length front + length rest ≡ length other + length more
     lengths = sym (length-append front rest) ∙ ap length same ∙ length-append other more
 
-    -- Fewer values are a front of the others.
+    -- The bytes of fewer values are a prefix of those of more values.
     pub values_front : length values ≤ length others
         → (last : List j.Value) × (others ≡ values ++ last)
     values_front few =
@@ -59,7 +59,7 @@ module _ (j : Judging) (records : IsReadable j.records) (judged : ValueLaws j) w
         ))
         either
 
-    -- Behind fewer values, some bytes are left.
+    -- After fewer values, some bytes remain.
     pub some_rest : length values < length others → rest ≢ []
     some_rest few none =
         ⊎_elim
@@ -75,7 +75,7 @@ module _ (j : Judging) (records : IsReadable j.records) (judged : ValueLaws j) w
         (λ on. absurd (omega (arith, few, values_back on)))
         either
 
-    -- As many values are the same, of the same bytes.
+    -- Equal numbers of values are equal values, of equal bytes.
     pub same_values : length values ≡ length others
         → (values ≡ others) × (front ≡ other) × (rest ≡ more)
     same_values count = all (⊎_elim on_so back_so either)

@@ -1,5 +1,5 @@
--- Runs: bytes that are whole records, each judged behind the values before it. What is owed of
--- values, and the laws of runs.
+-- Runs: bytes that are complete records, each validated after the values before it. The conditions
+-- for values, and the laws of runs.
 use Rattle.std.proofs.Common.{◌≡◌, ◌⊎◌, ℕ, ◌+◌, ◌<◌, ◌≤◌, List, [], ◌∷◌, ◌++◌, length}
 use Rattle.std.proofs.Common.{refl, ap, arith, append_assoc, append-nil, length-append, add-zero}
 use Rattle.std.proofs.Common.{add_assoc}
@@ -8,7 +8,7 @@ use Rattle.dap_items.specs.Items.{IsItem}
 use Rattle.dap_items.proofs.Ends.{IsReadable, not_empty, one_item}
 use Rattle.dap_input.specs.Judging.{Judging, Objection}
 
--- A whole record stands in front, within the limit, and is judged to be this value.
+-- The bytes start with a complete record, within the limit, that is validated as this value.
 pub record PassesAt (j : Judging) (used : ℕ) (values : List j.Value) (front : List ℕ)
     (value : j.Value) : Type 0 where
   pub held : j.Held
@@ -17,7 +17,7 @@ pub record PassesAt (j : Judging) (used : ℕ) (values : List j.Value) (front : 
   pub in_time : used + length front ≤ j.input
 
 module _ (j : Judging) where
-  -- Behind so many bytes with the values before, the bytes are records that pass as these values.
+  -- After `used` bytes and the values before, the bytes are records that pass as these values.
   unfoldable pub Run : List j.Value → ℕ → List ℕ → List j.Value → Type 0
   Run before used bytes [] = bytes ≡ []
   Run before used bytes (value ∷ values) =
@@ -25,7 +25,7 @@ module _ (j : Judging) where
       × PassesAt j used before front value
       × Run (before ++ value ∷ []) (used + length front) more values
 
--- What a record holds is at most one value, or has one objection.
+-- The content of a record is at most one value, or has one objection.
 pub record ValueLaws (j : Judging) : Type 0 where
   pub one_value : (values : List j.Value) (held : j.Held) (value other : j.Value)
       → j.IsNext values held value → j.IsNext values held other → value ≡ other
@@ -35,7 +35,7 @@ pub record ValueLaws (j : Judging) : Type 0 where
       (why : Objection)
       → j.IsNext values held value → j.Objects values held why → ⊥
 
--- What is owed of what records hold.
+-- The conditions for the contents of records.
 pub record ValueFacts (j : Judging) : Type 0 where
   pub laws : ValueLaws j
   pub some_judgement : (bytes : List ℕ) (values : List j.Value) → Run j [] 0 bytes values
@@ -43,7 +43,7 @@ pub record ValueFacts (j : Judging) : Type 0 where
       → ((value : j.Value) × j.IsNext values held value)
       ⊎ ((why : Objection) × j.Objects values held why)
 
--- What is owed of accepted inputs: they are the runs.
+-- The condition for accepted inputs: they are the runs.
 pub record AcceptedFacts (j : Judging) : Type 0 where
   pub run_of_accepted : (bytes : List ℕ) (values : List j.Value) → j.IsAccepted bytes values
       → Run j [] 0 bytes values
@@ -73,7 +73,7 @@ module _ (j : Judging) where
         (simp (append_assoc, add_assoc) (simp (is, length-append) at passes)),
   )
 
-  -- A run that begins within the limit ends within it.
+  -- A run that starts within the limit ends within it.
   pub run_ends_within : (before : List j.Value) (used : ℕ) (bytes : List ℕ) (values : List j.Value)
       → Run j before used bytes values → used ≤ j.input → used + length bytes ≤ j.input
   unfolding Run
@@ -83,7 +83,7 @@ module _ (j : Judging) where
       passes.in_time in
       omega (arith, ap length is, length-append front more)
 
-  -- A whole run has no more bytes than are taken.
+  -- A complete run has at most as many bytes as may be read.
   pub run_within : (bytes : List ℕ) (values : List j.Value) → Run j [] 0 bytes values
       → length bytes ≤ j.input
   run_within bytes values run = let end =
@@ -105,7 +105,7 @@ module _ (j : Judging) where
     some_bytes [] held is = absurd (not_empty records held is)
     some_bytes (byte ∷ front) held is = omega arith
 
-    -- No bytes are no values.
+    -- The empty byte string has no values.
     pub no_values : (before : List j.Value) (used : ℕ) (bytes : List ℕ) (values : List j.Value)
         → Run j before used bytes values → length bytes ≡ 0 → values ≡ []
     unfolding Run
@@ -115,7 +115,7 @@ module _ (j : Judging) where
         (omega (arith, ap length is, length-append front more))
 
     module _ (judged : ValueLaws j) where
-      -- Of two runs over the same bytes the longer goes on from the shorter.
+      -- For two runs over the same bytes, the longer continues the shorter.
       pub run_goes_on : (before : List j.Value) (used : ℕ) (front other rest more : List ℕ)
           (values others : List j.Value)
           → Run j before used front values → Run j before used other others
@@ -169,7 +169,7 @@ module _ (j : Judging) where
             run = simp (front_is, length-append) (simp (append_assoc, add_assoc) at on.run);
           }
 
-      -- Two runs that use up the same bytes have the same values.
+      -- Two runs over all of the same bytes have the same values.
       pub one_run : (bytes : List ℕ) (values others : List j.Value) → Run j [] 0 bytes values
           → Run j [] 0 bytes others → values ≡ others
       one_run bytes values others run other =

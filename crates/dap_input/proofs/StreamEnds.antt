@@ -1,5 +1,5 @@
--- What an engine answers that writes the text of each record once it is judged, where it goes no
--- further: whatever it keeps of the records, their text went out.
+-- The result of an engine that writes the text of each validated record, when it stops: whatever it
+-- stores about the records, their text was written.
 use Rattle.std.proofs.Common.{◌≡◌, ◌≢◌, inl, inr, ℕ, ◌+◌, ◌≤◌, true, false, List, [], length}
 use Rattle.std.proofs.Common.{Option, Some, None, Result, Ok, Err, refl, sym, ◌∙◌, ap, subst, arith}
 use Rattle.std.proofs.Common.{append-nil}
@@ -26,7 +26,7 @@ use Rattle.dap_input.specs.declared.refused.Refused.TheVariants.{Record, WriteFa
 use Rattle.dap_input.proofs.Coming.{nothing_came}
 use Rattle.dap_input.proofs.Refusals.{untold}
 
--- What a text that was sent out made of the writer.
+-- The effect of a written text on the writer.
 pub all_written : {W U : Type 0} (sink : Sink W) (old new : W) (answer : Result U DeviceFault)
     (bytes : List ℕ) → HasWrittenAll sink old new answer bytes → is_err answer ≡ false
     → AllWritten sink old new bytes
@@ -72,7 +72,7 @@ module _ {R W : Type 0} (j : Judging) (Gives Promises : List ℕ → List ℕ �
     written = nothing_written sink before;
   }
 
-  -- So much has come, and the text of the records before this one went out.
+  -- These bytes were received, and the text of the records before this one was written.
   module _ (after : R) (writer : W) (stop : Option Stop) (number : ℕ) (text : List ℕ)
       (to : HasComeTo j Gives source start after stop number text)
       (written : AllWritten sink before writer text) where
@@ -95,7 +95,7 @@ module _ {R W : Type 0} (j : Judging) (Gives Promises : List ℕ → List ℕ �
         other (let e = sym done.0 ∙ memory in cc)
     not_memory because other end result (inr failed) memory = let e = sym failed.0 ∙ memory in cc
 
-    -- memory was refused, and this is the number of the next record to read
+    -- an allocation failed, and this is the number of the next record to read
     pub gives_up : (because : Refused) (next : ℕ) → (because ≡ Memory → next ≤ number + 1)
         → (end : W) (result : Result (Unit {0}) Refused)
         → AnswersRefusal sink writer end because result → result ≡ Err Memory
@@ -156,7 +156,7 @@ module _ {R W : Type 0} (j : Judging) (Gives Promises : List ℕ → List ℕ �
       failure = nothing.failure ∙ ap (λ n. n + 1) written.no_failure;
     }
 
-    -- a flush that is done
+    -- a successful flush
     flushed : (end : W) → HasFlushedAll sink.out sink.unflushed sink.failures writer end
         → AllSent sink before end text
     flushed end done = record {
@@ -166,7 +166,7 @@ module _ {R W : Type 0} (j : Judging) (Gives Promises : List ℕ → List ℕ �
       no_failure = done.no_failure ∙ written.no_failure;
     }
 
-    -- All records have come.
+    -- All records were received.
     pub streamed : Accepts source j.input Promises start after text → (end : W)
         (result : Result (Unit {0}) Refused) → Flushes sink writer end (Ok tt) result
         → Answer end result
@@ -176,7 +176,7 @@ module _ {R W : Type 0} (j : Judging) (Gives Promises : List ℕ → List ℕ �
     streamed accepts end result (inr failed) =
         subst (Answer end) (sym failed.0) (failed_to_flush end failed.1)
 
-    -- This record is refused, or cannot be read.
+    -- This record is rejected, or cannot be read.
     abbrev pub Told : Refused → Type 0
     Told because = Says j to.bytes stop number because
         × ((n : ℕ) → because ≡ Record n Cut → stop ≡ Some End)

@@ -1,5 +1,4 @@
--- An engine that writes the text of each record once it is judged: what it keeps, and what it
--- answers.
+-- An engine that writes the text of each validated record: its invariant, and what it returns.
 use Rattle.std.proofs.Common.{◌≡◌, inr, ℕ, ◌+◌, ◌-◌, ◌<◌, ◌≤◌, ◌^◌, List, [], ◌∷◌, ◌++◌, length}
 use Rattle.std.proofs.Common.{Option, Some, None, Result, Ok, Err, sym, ◌∙◌, ap, subst, arith}
 use Rattle.std.proofs.Common.{append_assoc, length-append}
@@ -32,7 +31,7 @@ use Rattle.dap_input.proofs.WholeInputs.{Going, at_start, few_failures, on, smal
 use Rattle.dap_input.proofs.WholeInputs.{small_number}
 use Rattle.dap_input.proofs.WholeInputs as whole
 
--- The records before the next one are judged as these values, and their text went out.
+-- The records before the next one are validated as these values, and their text was written.
 pub record Streaming {I R W : Type 0} (j : Judging) (stands : I → List ℕ → Type 0)
     (text : List j.Value → List ℕ) (source : Source R) (sink : Sink W) (start reader : R)
     (before writer : W) (records : Records I) (values : List j.Value) : Type 0 where
@@ -126,7 +125,7 @@ module _ {I A R W : Type 0} (j : Judging) (g : Items A RecordCause) (held_of : A
           gives = gives behind.front values behind.accepted;
         }
 
-        -- At most one byte past the limit is taken.
+        -- At most one byte beyond the limit is read.
         pub few_taken : source.given after ≤ source.given start + j.input + 1
         few_taken =
             let so_many = was.going.came.counted in
@@ -145,7 +144,7 @@ module _ {I A R W : Type 0} (j : Judging) (g : Items A RecordCause) (held_of : A
         refused = ends.refused j Gives Promises source sink start before after writer read.stop
             records.number (text values) to was.written
 
-      -- No record has come.
+      -- No record was received.
       pub not_read : (because : Refused) → Reads (Err because) → (end : W)
           (result : Result (Unit {0}) Refused)
           → AnswersRefusal sink writer end because result → Answer after end result
@@ -154,7 +153,7 @@ module _ {I A R W : Type 0} (j : Judging) (g : Items A RecordCause) (held_of : A
           (steps.refused_read j g held_of facts stands source was.going.bytes
           records values behind new reader after because read)
 
-      -- No record has come, since memory was refused.
+      -- No record was received, because an allocation failed.
       pub not_read_gives_up : (because : Refused) → Reads (Err because) → (end : W)
           (result : Result (Unit {0}) Refused)
           → AnswersRefusal sink writer end because result → result ≡ Err Memory
@@ -169,7 +168,7 @@ module _ {I A R W : Type 0} (j : Judging) (g : Items A RecordCause) (held_of : A
               (records.pieces.unread ++ read.more) read.more read.stop (Err b)) is read.finds).1 in
               omega (arith, same)
 
-      -- All records have come.
+      -- All records were received.
       pub streamed : Reads (Ok None) → (end : W) (result : Result (Unit {0}) Refused)
           → Flushes sink writer end (Ok tt) result → Answer after end result
       streamed read =
@@ -187,9 +186,9 @@ module _ {I A R W : Type 0} (j : Judging) (g : Items A RecordCause) (held_of : A
             gives = promised all.whole values all.accepted;
           })
 
-      -- A record has come.
+      -- A record was received.
       module _ (held : A) (read : Reads (Ok (Some held))) where
-        -- It is refused for what it holds.
+        -- It is rejected for its content.
         pub not_taken : (because : Refused)
             → RefusesHeld (j.Objects values (held_of held)) records.number because → (end : W)
             (result : Result (Unit {0}) Refused)
@@ -199,7 +198,7 @@ module _ {I A R W : Type 0} (j : Judging) (g : Items A RecordCause) (held_of : A
             (steps.refused_held j g held_of facts stands source was.going.bytes
             records values behind new reader after held read because objects)
 
-        -- Memory was refused for it.
+        -- An allocation failed for it.
         pub not_taken_gives_up : (because : Refused) → (end : W)
             (result : Result (Unit {0}) Refused)
             → AnswersRefusal sink writer end because result → result ≡ Err Memory

@@ -1,5 +1,5 @@
--- An engine that judges its whole input record by record before it writes: what it keeps, and what
--- it answers.
+-- An engine that validates its complete input record by record before it writes: its invariant, and
+-- what it returns.
 use Rattle.std.proofs.Common.{◌≡◌, ◌≢◌, ◌⊎◌, inl, inr, ℕ, ◌+◌, ◌-◌, ◌<◌, ◌≤◌, ◌^◌, true, false}
 use Rattle.std.proofs.Common.{List, [], ◌∷◌, ◌++◌, length, Option, Some, None, Result, Ok}
 use Rattle.std.proofs.Common.{Err, refl, sym, ◌∙◌, ap, subst, arith, length-append}
@@ -29,7 +29,7 @@ use Rattle.dap_input.proofs.InputLoop.{ReadsAs, StandsBehind, none_read}
 use Rattle.dap_input.proofs.InputSteps as steps
 use Rattle.dap_input.proofs.Refusals.{refused_as, refused_in, untold}
 
--- So much has come, and the records before the next one are judged as these values.
+-- These bytes were received, and the records before the next one are validated as these values.
 pub record Going {I R : Type 0} (j : Judging) (stands : I → List ℕ → Type 0) (source : Source R)
     (start reader : R) (records : Records I)
     (values : List j.Value) : Type 0 where
@@ -53,7 +53,7 @@ module _ {I A R : Type 0} (j : Judging) (g : Items A RecordCause) (held_of : A �
     taken_within = let taken = was.behind.taken in let limit = was.behind.limit_is in let within =
         was.behind.between.within in omega (arith, taken, limit, within)
 
-    -- There are fewer records than bytes may be.
+    -- There are fewer records than bytes may be read.
     pub small_number : j.input ≤ 2 ^ 62 → records.number < 2 ^ 63
     small_number most =
         let few = was.behind.few in
@@ -106,7 +106,7 @@ module _ {I A R : Type 0} (j : Judging) (g : Items A RecordCause) (held_of : A �
         cut = told.1;
       }
 
-      -- No record has come.
+      -- No record was received.
       pub refuses_read : (because : Refused) → Reads (Err because) → Refuses because
       refuses_read because read =
           refuses (Err because) read because
@@ -129,7 +129,7 @@ module _ {I A R : Type 0} (j : Judging) (g : Items A RecordCause) (held_of : A �
             accepted = end.1;
           }
 
-      -- A record has come.
+      -- A record was received.
       pub refuses_held : (whole : A) → Reads (Ok (Some whole)) → (because : Refused)
           → RefusesHeld (j.Objects values (held_of whole)) records.number because
           → Refuses because
@@ -158,9 +158,9 @@ module _ {I A R : Type 0} (j : Judging) (g : Items A RecordCause) (held_of : A �
           steps.shorter j g held_of facts stands source was.bytes records values
           was.behind new reader after whole read
 
--- ---- what the engine answers
+-- ---- what the engine returns
 
--- The source has stopped, and what it gave is refused.
+-- The source has stopped, and the received bytes are rejected.
 pub record RefusesRead {R : Type 0} (j : Judging) (source : Source R) (old new : R)
     (because : Refused) : Type 0 where
   pub bytes : List ℕ
@@ -173,7 +173,7 @@ pub record RefusesRead {R : Type 0} (j : Judging) (source : Source R) (old new :
 
 module _ {A R : Type 0} (j : Judging) (g : Items A RecordCause) (held_of : A → j.Held)
     (facts : ReadsAs j g held_of) (source : Source R) where
-  -- What is refused of a front stays refused when the rest is read.
+  -- A rejected prefix remains rejected when the rest is read.
   stays_said : (bytes more : List ℕ) (stop : Stop) (number : ℕ) (because : Refused)
       → ((n : ℕ) → because ≡ Record n Cut → None ≡ Some End) → Says j bytes None number because
       → Says j (bytes ++ more) (Some stop) number because
@@ -187,7 +187,7 @@ module _ {A R : Type 0} (j : Judging) (g : Items A RecordCause) (held_of : A →
       (over : records.is_over ≡ true → new ≡ mid)
       (rest : records.is_over ≡ false → records.pieces.taken ≤ records.pieces.limit
       → ReadsRest source records mid new) where
-    -- Where the source has stopped, no more is read.
+    -- If the source has stopped, no more is read.
     at_stop : (stop : Stop) → one.stop ≡ Some stop
         → RefusesRead j source old new because
     at_stop stop is =
@@ -203,7 +203,7 @@ module _ {A R : Type 0} (j : Judging) (g : Items A RecordCause) (held_of : A →
           cut = λ n told. let e : Some stop ≡ Some End = sym is ∙ one.cut n told in cc;
         }
 
-    -- Else all that is left of the input is.
+    -- Otherwise the rest of the input is read.
     read_on : one.stop ≡ None → RefusesRead j source old new because
     read_on is =
         let taken = one.taken is in
@@ -235,7 +235,7 @@ module _ {A R : Type 0} (j : Judging) (g : Items A RecordCause) (held_of : A →
         by_stop None is = read_on is
         by_stop (Some stop) is = at_stop stop is
 
--- The bytes give this text: that of the values that they are accepted as.
+-- The bytes produce this text: that of the values that they are accepted as.
 abbrev pub Gives : (j : Judging) → (List j.Value → List ℕ) → List ℕ → List ℕ → Type 0
 Gives j text bytes written = (values : List j.Value) × j.IsAccepted bytes values
     × (written ≡ text values)
@@ -308,7 +308,7 @@ module _ {R : Type 0} (j : Judging) (source : Source R)
       cut = cut;
     }
 
-  -- Whatever it was refused for, all of the input was read.
+  -- Whatever the reason of the rejection, all of the input was read.
   pub all_read : (because : Refused) → RefusesRead j source old new because
       → ReadsNoneOrAll source j.input old new
   all_read because read =

@@ -1,6 +1,6 @@
--- What an engine that reads its whole input before it writes answers, and what its devices then
--- hold. Source: own. `Gives` says what an input gives, and `IsRefused` what an input is refused
--- for; one of the two alone can hold.
+-- The result of an engine that reads its complete input before it writes, and the state of its
+-- devices after that. Source: own. `Gives` states the result for an input, and `IsRefused` the
+-- rejection. At most one of them holds.
 use Rattle.std.specs.Prelude.{◌≡◌, ◌⊎◌, ℕ, List, Result, Ok, Err}
 use Rattle.dap_device.specs.declared.device.Source.{Ghosts as Source}
 use Rattle.dap_device.specs.declared.device.Sink.{Ghosts as Sink}
@@ -13,34 +13,34 @@ use Rattle.dap_input.specs.declared.refused.Refused.TheVariants.{Memory}
 use Rattle.dap_device.specs.Reading.{HasCome}
 use Rattle.dap_device.specs.Written.{AllSent, FrontWritten}
 
--- An engine over a reader, by what this tells of its bytes and its failures.
+-- An engine over a reader, by the bytes and failures that the reader reports.
 module _ {R : Type 0} (source : Source R) (input : ℕ) where
-  -- These bytes came from the reader, and no more for this reason.
+  -- These bytes were received from the reader, and it stopped for this reason.
   abbrev pub Came : R → R → List ℕ → Stop → Type 0
   Came old new bytes stop = HasCome source old new input bytes stop
 
-  -- Nothing of the input was read; or it was read up to its end, to a byte past the limit, or to a
-  -- failure of the reader.
+  -- Nothing of the input was read; or it was read up to its end, to a byte beyond the limit, or to
+  -- a failure of the reader.
   abbrev pub ReadsNoneOrAll : R → R → Type 0
   ReadsNoneOrAll old new = (new ≡ old)
       ⊎ ((bytes : List ℕ) × (stop : Stop) × Came old new bytes stop)
 
   module _ {T : Type 0} (Gives : List ℕ → T → Type 0) where
-    -- The reader came to its end, and what it gave gives this.
+    -- The reader reached its end, and the received bytes have this result.
     pub record Accepts (old new : R) (given : T) : Type 0 where
       pub whole : List ℕ
       pub came : Came old new whole End
       pub gives : Gives whole given
 
-    -- The reader failed, and what it gave before is refused for nothing but where it ends.
+    -- The reader failed, and the bytes before are not rejected, except for where they end.
     pub record FailsToRead (IsRefused : List ℕ → Refused → Type 0) (old new : R) : Type 0 where
       pub bytes : List ℕ
       pub came : Came old new bytes Failed
       pub not_refused : ((given : T) × Gives bytes given)
           ⊎ ((n : ℕ) × IsRefused bytes (Record n Cut))
 
-  -- What the reader gave is refused. That it ends too early is told only where the reader came to
-  -- its end.
+  -- The received bytes are rejected. The error that they end too early is returned only if the
+  -- reader reached its end.
   pub record RefusesInput (IsRefused : List ℕ → Refused
       → Type 0) (old new : R) (refused : Refused) : Type 0 where
     pub bytes : List ℕ
@@ -49,22 +49,22 @@ module _ {R : Type 0} (source : Source R) (input : ℕ) where
     pub is_refused : IsRefused bytes refused
     pub cut : (n : ℕ) → refused ≡ Record n Cut → stop ≡ End
 
--- An engine over a reader and a writer, which writes the text that its input gives.
+-- An engine over a reader and a writer, which writes the text that its input produces.
 module _ {R W : Type 0} (source : Source R) (sink : Sink W)
     (input : ℕ) (Gives : List ℕ → List ℕ → Type 0) (IsRefused : List ℕ → Refused → Type 0) where
-  -- All of the text went out and was flushed, and neither device failed.
+  -- All of the text was written and flushed, and neither device failed.
   pub record HasFinished (old new : R) (before after : W) : Type 0 where
     pub text : List ℕ
     pub accepts : Accepts source input Gives old new text
     pub written : AllSent sink before after text
 
-  -- The writer failed, and a front of the text, perhaps all of it, went out.
+  -- The writer failed after a prefix of the text, perhaps all of it, was written.
   pub record HasNotWritten (old new : R) (before after : W) : Type 0 where
     pub text : List ℕ
     pub accepts : Accepts source input Gives old new text
     pub written : FrontWritten sink before after text
 
-  -- On every other answer nothing was written.
+  -- With every other result, nothing was written.
   abbrev pub Answers : {U : Type 0} → R → R → W → W → Result U Refused → Type 0
   Answers old new before after (Ok done) = HasFinished old new before after
   Answers old new before after (Err ReadFault) =

@@ -1,4 +1,4 @@
--- What an engine has read and found that judges an input record by record. Source: own.
+-- The progress of an engine that validates an input record by record. Source: own.
 use Rattle.std.specs.Prelude.{◌≡◌, ℕ, List, length, Option, Some, None, is_some, Result, Ok, Err}
 use Rattle.dap_device.specs.declared.device.Source.{Ghosts as Source}
 use Rattle.dap_device.specs.Pieces.{HasComeSoFar}
@@ -13,22 +13,22 @@ use Rattle.dap_input.specs.declared.records.Records.{Records}
 use Rattle.dap_input.specs.declared.refused.Refused.{Refused}
 use Rattle.dap_input.specs.declared.refused.Refused.TheVariants.{Record, Memory}
 
--- what a refusal at this record says of the bytes that have come; that memory was refused says
--- nothing of them
+-- the facts about the received bytes if a record is rejected at this number; an allocation failure
+-- states nothing about them
 abbrev pub Says : Judging → List ℕ → Option Stop → ℕ → Refused → Type 0
 Says j bytes stop number Memory = Unit {0}
 Says j bytes stop number refused = RefusesAt j (so_far bytes stop) number refused
 
 module _ {R : Type 0} (j : Judging) (source : Source R) where
-  -- The source came to its end, and what it gave is accepted as these values.
+  -- The source reached its end, and the received bytes are accepted as these values.
   pub record AcceptsAll (old new : R) (values : List j.Value) : Type 0 where
     pub whole : List ℕ
     pub came : HasComeSoFar source old new whole (Some End)
     pub within : IsWithin (length whole) j.input (Some End)
     pub accepted : j.IsAccepted whole values
 
-  -- So much has come of the input, and a record of it is refused or cannot be read. That it is cut
-  -- is told only where the source came to its end.
+  -- These bytes of the input were received, and a record of it is rejected or cannot be read. The
+  -- error that it is cut is returned only if the source reached its end.
   pub record RefusesOne {I : Type 0} (old new : R) (records : Records I)
       (refused : Refused) : Type 0 where
     pub bytes : List ℕ
@@ -42,7 +42,7 @@ module _ {R : Type 0} (j : Judging) (source : Source R) where
     pub says : Says j bytes stop number refused
     pub cut : (n : ℕ) → refused ≡ Record n Cut → stop ≡ Some End
 
-  -- The text of the values of all records is made, or one record is refused.
+  -- The text of the values of all records is complete, or one record is rejected.
   abbrev pub JudgesAll : {I T : Type 0} → (List j.Value → List ℕ) → (T → List ℕ) → R → R
       → Records I → Result T Refused → Type 0
   JudgesAll text bytes_of old new records (Ok out) =

@@ -1,26 +1,27 @@
--- An input as it came, whatever its records are: where it is refused, and what stands before a
--- record. Source: own.
+-- An input as it was received, for any kind of record: where it is rejected, and what comes before
+-- a record. Source: own.
 use Rattle.std.specs.Prelude.{◌≡◌, ◌≢◌, ◌⊎◌, ℕ, ◌+◌, Bool, true, false, List, ◌++◌, length}
 use Rattle.dap_input.specs.Judging.{Judging, Reason, cut, IsFirstRefusal}
 
--- An input as it came: its bytes, and whether its reader failed behind them.
+-- An input as it was received: its bytes, and whether its reader failed after them.
 pub record Input : Type 0 where
   pub bytes : List ℕ
   pub failed : Bool
 
--- why an input is refused at a record: for what stands there, or because its reader failed
+-- why an input is rejected at a record: for the bytes or the content there, or because its reader
+-- failed
 pub data Fault : Type 0 where
   refused : Reason → Fault
   read_fault : Fault
 
 module _ (j : Judging) where
-  -- The bytes end before this record or inside it, and nothing is wrong with those before.
+  -- The bytes end before this record or inside it, and those before contain no error.
   abbrev pub EndsAt : List ℕ → ℕ → Type 0
   EndsAt bytes number = IsFirstRefusal j bytes number cut
       ⊎ ((values : List j.Value) × j.IsAccepted bytes values × (number ≡ length values + 1))
 
-  -- The input is refused at this record: the first refusal of its bytes is there; but where the
-  -- reader failed, that they only end there is its fault.
+  -- The input is rejected at this record: the first rejection of its bytes is there. If the reader
+  -- failed and the bytes only end there, the failure is the reason.
   abbrev pub IsRefusedAt : Input → ℕ → Fault → Type 0
   IsRefusedAt input number (refused why) = IsFirstRefusal j input.bytes number why
       × (input.failed ≡ true → why ≢ cut)

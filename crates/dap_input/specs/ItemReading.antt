@@ -1,4 +1,4 @@
--- What a reader of items gives, whatever an item is, and what the items of the readers are.
+-- The result of a reader of items, for any kind of item, and the items of the readers.
 use Rattle.std.specs.Prelude.{◌≡◌, ℕ, List, [], ◌++◌, length, take, Result, Ok, Err, MatchOption}
 use Rattle.dap_items.specs.Items.{Items, IsItem, Shows}
 use Rattle.dap_items.specs.Then.{faults_as}
@@ -13,30 +13,31 @@ use Rattle.dap_recording.specs.declared.record_fault.RecordCause.TheVariants.{Cu
 use Rattle.dap_input.specs.declared.item_reader.FedItem.{FedItem}
 
 module _ {S A : Type 0} (g : Items A RecordCause) (stands : S → List ℕ → Type 0) where
-  -- What was taken of a piece by a reader that stood for these bytes: the whole piece, for which it
-  -- then stands too; or up to the end of an item, and it then stands for no bytes of the next.
+  -- The effect of a call on a reader that represented these bytes. Either it consumed the whole
+  -- chunk and then represents both. Or it consumed the bytes up to the end of an item and then
+  -- represents no bytes of the next one.
   abbrev pub GivesFedItem : List ℕ → List ℕ → FedItem A → S → Type 0
   GivesFedItem bytes piece fed new = MatchOption fed.item
       ((fed.used ≡ length piece) × stands new (bytes ++ piece))
       (λ item. IsItem g (bytes ++ take fed.used piece) item × stands new [])
 
-  -- The same, or a fault that the bytes and the piece show: no piece shows that an input ends too
-  -- early. That memory was refused tells nothing.
+  -- The same, or an error that the bytes and the chunk prove. No chunk proves that an input ends
+  -- too early. An allocation failure states nothing about the bytes.
   abbrev pub GivesItem : List ℕ → List ℕ → Result (FedItem A) RecordCause → S → Type 0
   GivesItem bytes piece (Ok fed) new = GivesFedItem bytes piece fed new
   GivesItem bytes piece (Err Memory) new = Unit {0}
   GivesItem bytes piece (Err Cut) new = ⊥
   GivesItem bytes piece (Err cause) new = (place : ℕ) × Shows g (bytes ++ piece) cause place
 
--- frames as items, with their faults told as those of records
+-- frames as items, with their errors as those of records
 abbrev pub frame_items : FrameLimits → Items (List ℕ) RecordCause
 frame_items limits = faults_as Frame (frames limits)
 
--- The framer, made with these limits, stands for these bytes of a frame.
+-- The framer, made with these limits, represents these bytes of a frame.
 abbrev pub StandsForFrame : FrameLimits → Reading → List ℕ → Type 0
 StandsForFrame limits framer bytes = (limits_of framer ≡ limits) × Stands framer bytes
 
--- records as items, each as what a reader answers
+-- records as items, each as the value that a reader returns
 abbrev pub EndsRecord : FrameLimits → List ℕ → Result WholeRecord RecordCause → Type 0
 EndsRecord limits bytes (Ok whole) = IsRecord limits bytes whole.side whole.content
 EndsRecord limits bytes (Err cause) = (records limits).Ends bytes (Err cause)
@@ -44,7 +45,7 @@ EndsRecord limits bytes (Err cause) = (records limits).Ends bytes (Err cause)
 abbrev pub record_items : FrameLimits → Items WholeRecord RecordCause
 record_items limits = record { Ends = EndsRecord limits; IsOpen = IsOpenRecord limits }
 
--- The reader, made with these limits, stands for these bytes of a record of some number.
+-- The reader, made with these limits, represents these bytes of a record of some number.
 abbrev pub StandsForRecord : FrameLimits → RecordReading → List ℕ → Type 0
 StandsForRecord limits reader bytes = (record_limits reader ≡ limits)
     × ((number : ℕ) × StandsFor reader number bytes)

@@ -1,50 +1,50 @@
--- Inputs judged record by record: the first refusal of what is not accepted, whatever a record is
--- and whatever is asked of it. Source: own.
+-- Inputs validated record by record: the first rejection of an input that is not accepted, for any
+-- kind of record and any validation. Source: own.
 use Rattle.std.specs.Prelude.{◌≡◌, ◌≢◌, ℕ, ◌+◌, ◌<◌, ◌≤◌, List, [], ◌++◌, length}
 use Rattle.dap_items.specs.Items.{Items, IsItem, Shows}
 use Rattle.dap_message.specs.Message.{Refusal}
 use Rattle.dap_recording.specs.declared.record_fault.RecordCause.{RecordCause}
 use Rattle.dap_session.specs.declared.rule.Rule.{Rule}
 
--- Why a whole record is refused: it holds no message, or one that breaks a rule; with it some class
--- has too many ids, or the text to be written passes a limit.
+-- Why a complete record is rejected: it does not contain a message, or contains one that violates a
+-- rule; or with it a kind of id has too many values, or the output exceeds a limit.
 pub data Objection : Type 0 where
   no_message : Refusal → Objection
   broken : Rule → Objection
   too_many_ids : Objection
   grew : Objection
 
--- Why a record is refused: for its bytes, for where the byte past the limit or the end of the input
--- stands, or for what it holds.
+-- Why a record is rejected: for its bytes, for the position of the byte beyond the limit or of the
+-- end of the input, or for its content.
 pub data Reason : Type 0 where
   faulty : RecordCause → Reason
   input_too_long : Reason
   cut : Reason
   objected : Objection → Reason
 
--- The words in which an engine judges its input.
+-- The definitions that describe a validation.
 pub record Judging : Type 1 where
-  -- what a whole record holds, and the value that it is judged to be
+  -- the content of a complete record, and the value that it is validated as
   pub Held : Type 0
   pub Value : Type 0
-  -- how many bytes are taken at most
+  -- the maximum number of bytes that are read
   pub input : ℕ
-  -- the records that an input holds
+  -- the records of an input
   pub records : Items Held RecordCause
-  -- behind these values, what a record holds is this value, or is refused
+  -- after these values, the content of a record is this value, or is rejected
   pub IsNext : List Value → Held → Value → Type 0
   pub Objects : List Value → Held → Objection → Type 0
-  -- the whole input is accepted as these values
+  -- the complete input is accepted as these values
   pub IsAccepted : List ℕ → List Value → Type 0
 
 module _ (j : Judging) where
-  -- A fault of the bytes, at its byte, which is no later than the last byte that is taken.
+  -- An error of the bytes, at the byte that proves it, which is at most the last byte that is read.
   pub record ShowsInTime (used : ℕ) (rest : List ℕ) (cause : RecordCause) : Type 0 where
     pub place : ℕ
     pub shows : Shows j.records rest cause place
     pub in_time : used + place ≤ j.input
 
-  -- The byte past the limit stands in the record, before any fault of its bytes.
+  -- The byte beyond the limit is in the record, before any error of its bytes.
   pub record PassesLimit (used : ℕ) (rest : List ℕ) : Type 0 where
     pub long : j.input < used + length rest
     pub before_faults : (cause : RecordCause) (place : ℕ) → Shows j.records rest cause place
@@ -58,7 +58,7 @@ module _ (j : Judging) where
     pub is_open : j.records.IsOpen rest
     pub in_time : used + length rest ≤ j.input
 
-  -- A whole record stands there, and is refused for what it holds.
+  -- A complete record is there, and is rejected for its content.
   pub record IsObjectedTo (values : List j.Value) (used : ℕ) (rest : List ℕ)
       (why : Objection) : Type 0 where
     pub front : List ℕ
@@ -69,15 +69,15 @@ module _ (j : Judging) where
     pub in_time : used + length front ≤ j.input
     pub objects : j.Objects values held why
 
-  -- Behind so many bytes with these values, the record that begins the rest is refused.
+  -- After `used` bytes with these values, the record at the start of the rest is rejected.
   abbrev pub Refuses : List j.Value → ℕ → List ℕ → Reason → Type 0
   Refuses values used rest (faulty cause) = ShowsInTime used rest cause
   Refuses values used rest input_too_long = PassesLimit used rest
   Refuses values used rest cut = IsCut used rest
   Refuses values used rest (objected why) = IsObjectedTo values used rest why
 
-  -- The input is not accepted, the longest front of it that is has `number` - 1 records, and the
-  -- next record is refused.
+  -- The input is not accepted, its longest accepted prefix has `number` - 1 records, and the next
+  -- record is rejected.
   pub record IsFirstRefusal (whole : List ℕ) (number : ℕ) (why : Reason) : Type 0 where
     pub values : List j.Value
     pub front : List ℕ

@@ -1,4 +1,4 @@
--- The limits that engines take.
+-- The limits that engines require.
 use Rattle.std.specs.Prelude.{◌≤◌, ◌^◌}
 use Rattle.dap_frame.specs.Limits.{IsSound}
 use Rattle.dap_input.specs.declared.limits.Limits.{Limits}

@@ -1,4 +1,4 @@
--- How far an input has been read that is judged record by record, as its bytes come. Source: own.
+-- How far an input has been read that is validated record by record while it is read. Source: own.
 use Rattle.std.specs.Prelude.{◌≡◌, ◌⊎◌, ℕ, ◌+◌, ◌≤◌, Bool, true, false, List, [], ◌++◌, length}
 use Rattle.std.specs.Prelude.{Option, Some, None}
 use Rattle.dap_device.specs.declared.reading.Stop.{Stop}
@@ -8,8 +8,8 @@ use Rattle.dap_recording.specs.declared.record_fault.RecordCause.{RecordCause}
 use Rattle.dap_input.specs.Inputs.{AcceptedBefore, EndsAt, Input}
 use Rattle.dap_input.specs.Judging.{Judging}
 
--- No more was read than this record asked for: without the last 65,536 bytes, at most, what came
--- ends before it or inside it, and nothing is wrong with it.
+-- No more was read than this record required: without at most the last 65,536 bytes, the received
+-- bytes end before it or inside it, and contain no error.
 pub record IsReadTo (j : Judging) (bytes : List ℕ) (number : ℕ) : Type 0 where
   pub before : List ℕ
   pub last : List ℕ
@@ -22,19 +22,19 @@ abbrev pub has_failed : Option Stop → Bool
 has_failed (Some Failed) = true
 has_failed stop = false
 
--- The input of which so much has come.
+-- The input of which these bytes have been received.
 abbrev pub so_far : List ℕ → Option Stop → Input
 so_far bytes stop = record { bytes = bytes; failed = has_failed stop }
 
--- An input of which these bytes have come: all of it where the reader has ended or failed, and else
--- a front of it, whatever comes behind.
+-- An input of which these bytes have been received: all of it if the reader has ended or failed;
+-- otherwise a prefix, whatever follows.
 abbrev pub IsOf : List ℕ → Option Stop → Input → Type 0
 IsOf bytes (Some End) input = (input.bytes ≡ bytes) × (input.failed ≡ false)
 IsOf bytes (Some Failed) input = (input.bytes ≡ bytes) × (input.failed ≡ true)
 IsOf bytes stop input = (more : List ℕ) × (input.bytes ≡ bytes ++ more)
 
--- At most 65,536 bytes were read past this record, if it is whole, and past the byte that shows a
--- fault of it. The records before it are accepted.
+-- At most 65,536 bytes were read beyond this record if it is complete, and beyond the byte that
+-- proves an error of it. The records before it are accepted.
 pub record IsBounded (j : Judging) (bytes : List ℕ) (number : ℕ) : Type 0 where
   pub past_record : (before : AcceptedBefore j (so_far bytes None) number) (whole more : List ℕ)
       (held : j.Held) → before.rest ≡ whole ++ more → IsItem j.records whole held

@@ -1,4 +1,4 @@
--- What reading the next record of an input gives, whatever a record is.
+-- The result of reading the next record of an input, for any kind of record.
 use Rattle.std.specs.Prelude.{◌≡◌, ◌≢◌, ◌⊎◌, ℕ, ◌+◌, ◌<◌, ◌≤◌, false, List, [], ◌∷◌, ◌++◌, length}
 use Rattle.std.specs.Prelude.{Option, Some, None, is_some, Result, Ok, Err}
 use Rattle.dap_device.specs.declared.device.Source.{Ghosts as Source}
@@ -14,36 +14,36 @@ use Rattle.dap_input.specs.declared.refused.Refused.{Refused}
 use Rattle.dap_input.specs.declared.refused.Refused.TheVariants.{InputTooLong, Record, ReadFault}
 use Rattle.dap_input.specs.declared.refused.Refused.TheVariants.{Memory}
 
--- The reader stands between two records, no more has been taken than may be, and the source has
--- not stopped.
+-- The reader is between two records, no more has been read than allowed, and the source has not
+-- stopped.
 pub record StandsBetween {I : Type 0} (stands : I → List ℕ → Type 0) (records : Records I) : Type 0
   where
     pub reads : stands records.reader []
     pub within : records.pieces.taken ≤ records.pieces.limit
     pub goes_on : records.is_over ≡ false
 
--- Nothing of the input has been read, and at most so many bytes may be.
+-- Nothing of the input has been read, and at most `limit` bytes may be read.
 pub record IsAtStart {I : Type 0} (stands : I → List ℕ → Type 0) (limit : ℕ)
     (records : Records I) : Type 0 where
   pub between : StandsBetween stands records
   pub pieces : records.pieces ≡ record { unread = []; taken = 0; limit = limit }
   pub number : records.number ≡ 1
 
--- so many bytes are taken where it stops so: at most the limit, or one past it
+-- the number of bytes read if the source stops so: at most the limit, or one more
 abbrev pub IsWithin : ℕ → ℕ → Option Stop → Type 0
 IsWithin taken limit (Some Full) = taken ≡ limit + 1
 IsWithin taken limit stop = taken ≤ limit
 
 module _ {A : Type 0} (g : Items A RecordCause) where
-  -- Of what came behind the bytes held, all but the last piece makes no whole record and shows no
-  -- fault.
+  -- The bytes received after the buffered ones, except for the last chunk, neither complete the
+  -- record nor prove an error.
   abbrev pub IsNeeded : List ℕ → List ℕ → Type 0
   IsNeeded held more =
       (more ≡ [])
       ⊎ ((before : List ℕ) × (last : List ℕ) × (more ≡ before ++ last) × (0 < length last)
       × (length last ≤ 65536) × g.IsOpen (held ++ before))
 
-  -- A byte past the limit has come, and the record is not whole before it.
+  -- A byte beyond the limit was received, and the record is not complete before it.
   pub record IsTooLong (held more : List ℕ) : Type 0 where
     pub earlier : List ℕ
     pub byte : ℕ
@@ -51,7 +51,7 @@ module _ {A : Type 0} (g : Items A RecordCause) where
     pub is_open : g.IsOpen (held ++ earlier)
 
 module _ {I A : Type 0} (g : Items A RecordCause) (stands : I → List ℕ → Type 0) where
-  -- A whole record has come, and what is unread stands behind it.
+  -- A complete record was received, and the unread bytes come after it.
   pub record HasWhole (old new : Records I) (bytes : List ℕ) (whole : A) : Type 0 where
     pub front : List ℕ
     pub split : bytes ≡ front ++ new.pieces.unread
@@ -59,7 +59,7 @@ module _ {I A : Type 0} (g : Items A RecordCause) (stands : I → List ℕ → T
     pub between : StandsBetween stands new
     pub number_is : new.number ≡ old.number + 1
 
-  -- What the bytes, of which the last came now, make of the next record.
+  -- The result for the next record, if these bytes were received, of which `more` came last.
   abbrev pub Finds : Records I → Records I → List ℕ → List ℕ → Option Stop
       → Result (Option A) Refused → Type 0
   Finds old new bytes more stop (Ok (Some whole)) = (stop ≡ None) × HasWhole old new bytes whole
@@ -77,8 +77,8 @@ module _ {I A : Type 0} (g : Items A RecordCause) (stands : I → List ℕ → T
   Finds old new bytes more stop (Err refused) = ⊥
 
   module _ {R : Type 0} (source : Source R) where
-    -- The next record was looked for behind those before: so much has come, no more than was
-    -- needed, and this is found.
+    -- The next record was read, after those before: these bytes were received, no more than
+    -- required, with this result.
     pub record ReadsNext (old new : Records I) (before after : R)
         (answer : Result (Option A) Refused) : Type 0 where
       pub more : List ℕ
@@ -91,7 +91,8 @@ module _ {I A : Type 0} (g : Items A RecordCause) (stands : I → List ℕ → T
       pub over : new.is_over ≡ is_some stop
       pub finds : Finds old new (old.pieces.unread ++ more) more stop answer
 
--- What it means that no more comes, where the reader stands for these bytes of the next record.
+-- The result if no more bytes are received and the reader represents these bytes of the next
+-- record.
 abbrev pub Stops : {I A : Type 0} → (I → List ℕ → Type 0) → Records I → Stop
     → Result (Option A) Refused → Type 0
 Stops stands records Full answer = answer ≡ Err (InputTooLong records.number)
@@ -101,7 +102,7 @@ Stops stands records End answer =
     → ((held ≡ []) × (answer ≡ Ok None))
     ⊎ ((held ≢ []) × (answer ≡ Err (Record records.number Cut)))
 
--- All that is left of the input has come, up to a byte past the limit.
+-- The rest of the input was received, up to a byte beyond the limit.
 pub record ReadsRest {I R : Type 0} (source : Source R) (old : Records I)
     (before after : R) : Type 0 where
   pub more : List ℕ

@@ -1,4 +1,4 @@
--- What a refusal says: of which record it is, and why that is refused. Source: own.
+-- The meaning of a rejection: the number of the record and the reason. Source: own.
 use Rattle.std.specs.Prelude.{◌≡◌, ◌≢◌, ◌⊎◌, ℕ, List, ◌++◌, Option, Some, None, MatchOption}
 use Rattle.dap_message.specs.Message.{no_reading, fraction, faulty as profile_fault}
 use Rattle.dap_recording.specs.declared.record_fault.RecordCause.TheVariants.{Cut}
@@ -13,9 +13,9 @@ use Rattle.dap_input.specs.declared.refused.Refused.TheVariants.{Fraction, Messa
 use Rattle.dap_input.specs.declared.refused.Refused.TheVariants.{TooManyIds, Grew, ReadFault}
 use Rattle.dap_input.specs.declared.refused.Refused.TheVariants.{Memory}
 
--- The record of a refusal, and the reason of the same name. What is no reason to refuse a record of
--- the input has none: a fault of a device, want of memory, a response that is missing, and what is
--- wrong with a trace.
+-- The record of a rejection, and the reason of the same name. A value that is not a reason to
+-- reject a record of the input has none: a failure of a device, an allocation failure, a missing
+-- response, and an error of a trace.
 abbrev pub reason_of : Refused → Option (ℕ × Reason)
 reason_of (InputTooLong n) = Some (n, input_too_long)
 reason_of (Record n Cut) = Some (n, cut)
@@ -29,36 +29,36 @@ reason_of (TooManyIds n) = Some (n, objected too_many_ids)
 reason_of (Grew n) = Some (n, objected grew)
 reason_of because = None
 
--- The refusal is that of this record, for this fault.
+-- The rejection is that of this record, for this reason or failure.
 abbrev pub Tells : Refused → ℕ → Fault → Type 0
 Tells because number (refused why) = reason_of because ≡ Some (number, why)
 Tells because number read_fault = because ≡ ReadFault
 
--- What a whole record holds is refused for this.
+-- The content of a complete record is rejected for this.
 abbrev pub IsObjected : (Objection → Type 0) → Reason → Type 0
 IsObjected Objects (objected why) = Objects why
 IsObjected Objects why = ⊥
 
--- Record n is refused for what it holds, to which these are the objections. Memory that was refused
--- tells nothing.
+-- Record n is rejected for its content, which has these objections. An allocation failure states
+-- nothing.
 abbrev pub RefusesHeld : (Objection → Type 0) → ℕ → Refused → Type 0
 RefusesHeld Objects n Memory = Unit {0}
 RefusesHeld Objects n because =
     MatchOption (reason_of because) ⊥ (λ told. (told.0 ≡ n) × IsObjected Objects told.1)
 
 module _ (j : Judging) where
-  -- This is the first refusal of the input.
+  -- This is the first rejection of the input.
   abbrev pub IsRefused : List ℕ → Refused → Type 0
   IsRefused whole because =
       MatchOption (reason_of because) ⊥ (λ told. IsFirstRefusal j whole told.0 told.1)
 
-  -- The input is refused at this record, and the refusal tells it.
+  -- The input is rejected at this record, and the rejection reports it.
   pub record RefusesAt (input : Input) (number : ℕ) (because : Refused) : Type 0 where
     pub fault : Fault
     pub tells : Tells because number fault
     pub is_refused : IsRefusedAt j input number fault
 
-  -- An input is accepted as one list of values, or has one refusal, and not both.
+  -- An input is either accepted as one list of values or has exactly one rejection.
   pub record HasOneOutcome : Type 0 where
     pub some : (whole : List ℕ)
         → ((values : List j.Value) × j.IsAccepted whole values)
@@ -70,7 +70,7 @@ module _ (j : Judging) where
     pub not_both : (whole : List ℕ) (values : List j.Value) (because : Refused)
         → j.IsAccepted whole values → IsRefused whole because → ⊥
 
-  -- A refusal stays when more bytes come, unless the record was only cut.
+  -- A rejection remains if more bytes follow, unless the record was only cut.
   abbrev pub RefusalStays : Type 0
   RefusalStays = (whole more : List ℕ) (because : Refused) → ((n : ℕ) → because ≢ Record n Cut)
       → IsRefused whole because → IsRefused (whole ++ more) because

@@ -1,6 +1,6 @@
--- What an engine answers that writes the text of an input record by record, while it reads it, and
--- how far it has then read and written. Source: own. `Gives` says what text an input gives, and
--- `Promises` all that is promised of the text of a whole one.
+-- The result of an engine that writes the text of an input record by record while it reads it, and
+-- how far it has then read and written. Source: own. `Gives` states the text of an input, and
+-- `Promises` everything that is promised about the text of a complete one.
 use Rattle.std.specs.Prelude.{◌≡◌, ◌⊎◌, ℕ, ◌+◌, ◌≤◌, List, [], ◌++◌, length, take, Option, Some}
 use Rattle.std.specs.Prelude.{Result, Ok, Err}
 use Rattle.std.specs.Io.KnownBytes.{Appends}
@@ -20,10 +20,10 @@ use Rattle.dap_input.specs.Engine.{Accepts}
 use Rattle.dap_input.specs.ReadTo.{IsReadTo, so_far}
 use Rattle.dap_input.specs.Refusals.{RefusesAt}
 
--- An engine over a reader, by what this tells of its bytes, and by its counts.
+-- An engine over a reader, by the bytes and counts that the reader reports.
 module _ {R : Type 0} (j : Judging) (Gives : List ℕ → List ℕ → Type 0) (source : Source R) where
-  -- So much has come, and no more than this record asked for. The records before it are accepted,
-  -- and this is what they give.
+  -- These bytes were received, no more than this record required. The records before it are
+  -- accepted and have this text.
   pub record HasComeTo (old new : R) (stop : Option Stop) (number : ℕ) (text : List ℕ) : Type 0
     where
       pub bytes : List ℕ
@@ -32,8 +32,8 @@ module _ {R : Type 0} (j : Judging) (Gives : List ℕ → List ℕ → Type 0) (
       pub before : AcceptedBefore j (so_far bytes stop) number
       pub gives : Gives before.front text
 
-  -- This record is refused, or the reader fails at it. The records before it give this text. That
-  -- it is cut is told only where the reader came to its end.
+  -- This record is rejected, or the reader failed at it. The records before it have this text. The
+  -- error that it is cut is returned only if the reader reached its end.
   pub record RefusesNext (old new : R) (refused : Refused) (text : List ℕ) : Type 0 where
     pub number : ℕ
     pub stop : Option Stop
@@ -41,23 +41,23 @@ module _ {R : Type 0} (j : Judging) (Gives : List ℕ → List ℕ → Type 0) (
     pub refuses : RefusesAt j (so_far to.bytes stop) number refused
     pub cut : (n : ℕ) → refused ≡ Record n Cut → stop ≡ Some End
 
--- An engine over a reader and a writer, which writes the text of the records that it has judged.
+-- An engine over a reader and a writer, which writes the text of the validated records.
 module _ {R W : Type 0} (j : Judging) (Gives Promises : List ℕ → List ℕ → Type 0)
     (source : Source R) (sink : Sink W) where
-  -- The input is accepted, all of its text went out and was flushed, and neither device failed.
+  -- The input is accepted, all of its text was written and flushed, and neither device failed.
   pub record HasStreamed (old new : R) (before after : W) : Type 0 where
     pub text : List ℕ
     pub accepts : Accepts source j.input Promises old new text
     pub written : AllSent sink before after text
 
-  -- A record is refused, or the reader fails at it, and the text of the records before it went out
-  -- and was flushed.
+  -- A record is rejected, or the reader failed at it, and the text of the records before it was
+  -- written and flushed.
   pub record HasRefused (old new : R) (before after : W) (refused : Refused) : Type 0 where
     pub text : List ℕ
     pub refuses : RefusesNext j Gives source old new refused text
     pub written : AllSent sink before after text
 
-  -- The text of some leading records went out, with no flush behind it.
+  -- The text of some leading records was written, without a flush after it.
   pub record HasGivenUp (old new : R) (before after : W) : Type 0 where
     pub number : ℕ
     pub stop : Option Stop
@@ -65,21 +65,21 @@ module _ {R W : Type 0} (j : Judging) (Gives Promises : List ℕ → List ℕ �
     pub to : HasComeTo j Gives source old new stop number text
     pub written : AllWritten sink before after text
 
-  -- The engine gave up before it read the record of this number: the text of every record before
-  -- that one went out, except perhaps of the last, for which memory was refused.
+  -- The engine stopped before it read the record of this number. The text of every record before it
+  -- was written, except perhaps that of the last one, for which an allocation failed.
   pub record HasGivenUpAt (next : ℕ) (old new : R) (before after : W) : Type 0 where
     pub given_up : HasGivenUp old new before after
     pub none_lost : next ≤ given_up.number + 1
 
-  -- what is to be written of the record that the engine has come to: nothing, or with it the text
-  -- of one record more
+  -- the text to write for the record that the engine has reached: nothing, or the text of one more
+  -- record
   abbrev pub IsNextText : List ℕ → Option Stop → ℕ → List ℕ → List ℕ → Type 0
   IsNextText bytes stop number text next = (next ≡ [])
       ⊎ ((before : AcceptedBefore j (so_far bytes stop) (number + 1))
       × Gives before.front (text ++ next))
 
-  -- The writer failed: the text of the records before this one went out, and of this one's a front,
-  -- perhaps all of it, with no flush behind it.
+  -- The writer failed: the text of the records before this one was written, and a prefix of this
+  -- record's text, perhaps all of it, without a flush after it.
   pub record HasFailedToWrite (old new : R) (before after : W) : Type 0 where
     pub number : ℕ
     pub stop : Option Stop
@@ -99,14 +99,15 @@ module _ {R W : Type 0} (j : Judging) (Gives Promises : List ℕ → List ℕ �
   Streams old new before after (Err Memory) = HasGivenUp old new before after
   Streams old new before after (Err refused) = HasRefused old new before after refused
 
--- The answer is given once the writer is flushed, or the writer failed.
+-- The result is returned after the writer was flushed, or the writer failed.
 abbrev pub Flushes : {W U : Type 0} → Sink W → W → W → Result U Refused → Result U Refused → Type 0
 Flushes sink before after answer given =
     ((given ≡ answer) × HasFlushedAll sink.out sink.unflushed sink.failures before after)
     ⊎ ((given ≡ Err WriteFault)
     × HasTakenNothing sink.out sink.unflushed sink.failures before after)
 
--- A refusal is answered: where memory was refused, at once, and else once the writer is flushed.
+-- How a rejection is returned: at once if an allocation failed, otherwise after the writer was
+-- flushed.
 abbrev pub AnswersRefusal : {W U : Type 0} → Sink W → W → W → Refused → Result U Refused → Type 0
 AnswersRefusal sink before after Memory given = (given ≡ Err Memory) × (after ≡ before)
 AnswersRefusal sink before after because given = Flushes sink before after (Err because) given

@@ -1,4 +1,4 @@
-//! What reads the items of an input, as its bytes come.
+//! Reads the items of an input while its bytes are received.
 ghost use Rattle.std.specs.Prelude.{◌≡◌, ◌<◌, ◌≤◌, ◌↔◌, ◌++◌, ℕ, List, [], length, IfErr, IfOk};
 ghost use Rattle.std.specs.Prelude.{IsErrOf, IsOk, IsTrue};
 ghost use Rattle.dap_items.specs.Items.{HasItem, Items};
@@ -8,48 +8,53 @@ ghost use Rattle.dap_recording.specs.declared.record_fault.RecordCause.{RecordCa
 use dap_frame::{Content, FrameFault, Framer};
 use dap_recording::{Record, RecordCause, RecordReader};
 
-/// What a call of [`feed`](ItemReader::feed) took of its piece.
+/// The part of its chunk that a call of [`feed`](ItemReader::feed) consumed.
 #[derive(Debug, Drop)]
 pub struct FedItem<T> {
-    /// How many bytes of the piece were taken, from its front. The next call gets the rest.
+    /// The number of bytes consumed from the start of the chunk. Pass the rest to the next call.
     pub used: usize,
-    /// The item that ended at the last byte taken. `None`: the whole piece was taken, and no item
-    /// ended.
+    /// The item that ended at the last byte consumed. `None`: the whole chunk was consumed, and no
+    /// item ended.
     pub item: Option<T>,
 }
 
-/// Reads the items of an input from the pieces of its bytes, which may be cut anywhere.
+/// Reads the items of an input from the chunks of its bytes, which may be cut anywhere.
 ///
-/// A reader stands for the bytes that came behind the last whole item. Each piece is passed to
-/// [`feed`](ItemReader::feed), and then again what is left of it behind `used`, until nothing is
-/// left.
+/// A reader represents the bytes received since the last complete item. Pass each chunk to
+/// [`feed`](ItemReader::feed), then pass the rest of it after `used` again, until the rest is
+/// empty.
 pub trait ItemReader: Drop {
-    /// What is read of an item.
+    /// The value of an item.
     type Item: Drop;
 
     /// The grammar of the items under limits.
     ghost items: { FrameLimits → Items Self.Item RecordCause };
 
-    /// The reader, made with these limits, stands for these bytes of an item that has not ended.
+    /// The reader, made with these limits, represents these bytes of an incomplete item.
     ghost stands: { FrameLimits → Self → List ℕ → Type 0 };
 
-    /// These bytes of an item take memory under limits: a byte of a content has come.
+    /// Under these limits, these bytes of an item need memory: a byte of a content has arrived.
     ghost takes_memory: { FrameLimits → List ℕ → Type 0 };
 
     ghost use Rattle.dap_input.specs.ItemReading.{GivesItem};
 
-    /// Reads to the end of one item or of the piece, whichever is first.
+    /// Reads to the end of one item or of the chunk, whichever is first.
     ///
-    /// Answers every fault but `Cut`. After `Memory` the reader is unchanged and has used nothing,
-    /// so the call may be made again with the same piece. Only bytes of a content take memory: an
-    /// empty piece takes none, and neither does a fault that is shown before any content.
+    /// Allocates only for bytes of a content. An empty chunk and an error before any content need
+    /// no memory.
+    ///
+    /// # Errors
+    ///
+    /// - `Memory`: an allocation failed. The reader is unchanged and has consumed nothing. The call
+    ///   may be repeated with the same chunk.
+    /// - Any error except `Cut`: the bytes so far prove it.
     fn feed(&mut self, piece: &[u8]) -> Result<FedItem<Self::Item>, RecordCause>
         ensures gives { (limits : FrameLimits) (bytes : List ℕ) → stands limits self.old bytes
             → GivesItem (items limits) (stands limits) bytes piece.now result self.new }
         ensures used { IfOk result (λ fed. fed.used ≤ length piece.now) }
         ensures progress { IfOk result (λ fed. 0 < length piece.now → 0 < fed.used) }
 
-        // What stands after a refused growth, and what it was wanted for.
+        // The state after an allocation failure, and what was to be allocated.
         ensures memory { IsErrOf result RecordCause.Memory → self.new ≡ self.old }
         ensures memory_for_content { IsErrOf result RecordCause.Memory → (limits : FrameLimits)
             (bytes : List ℕ) → stands limits self.old bytes
@@ -57,18 +62,22 @@ pub trait ItemReader: Drop {
         ensures memory_for_bytes { IsErrOf result RecordCause.Memory → (limits : FrameLimits)
             (bytes : List ℕ) → stands limits self.old bytes → 0 < length piece.now };
 
-    /// Whether the piece begins with a whole item. For which bytes the reader stands is of no
-    /// matter. Takes no memory.
+    /// Returns whether the chunk starts with a complete item. The result does not depend on the
+    /// bytes that the reader represents. Does not allocate.
     fn has_item(&self, piece: &[u8]) -> bool
         ensures { (limits : FrameLimits) (bytes : List ℕ) → stands limits self.now bytes
             → IsTrue result → HasItem (items limits) piece.now };
 
-    /// Keeps the memory of an item that is done with, for the items to come. Nothing else is
-    /// changed, and no memory is taken.
+    /// Keeps the buffer of an item that is no longer used, for later items. Changes nothing else.
+    /// Does not allocate.
     fn recycle(&mut self, item: Self::Item)
         ensures { self.new ≡ self.old };
 
-    /// Whether the input may end here: `Cut` inside an item. Changes nothing and takes no memory.
+    /// Checks whether the input may end here. Changes nothing. Does not allocate.
+    ///
+    /// # Errors
+    ///
+    /// - `Cut`: the input ends inside an item.
     fn finish(&self) -> Result<(), RecordCause>
         ensures ok { (limits : FrameLimits) (bytes : List ℕ) → stands limits self.now bytes
             → (IsOk result ↔ (bytes ≡ [])) }

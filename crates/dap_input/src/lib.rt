@@ -1,5 +1,5 @@
-//! Inputs that are judged record by record: the records as they come, limits, refusals, and what
-//! holds of first refusals whatever a record is.
+//! Inputs that are validated record by record: reading records, limits, rejections, and the facts
+//! about first rejections that hold for any kind of record.
 #![tactic(auto)]
 
 mod item_reader;

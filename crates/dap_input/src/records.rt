@@ -1,4 +1,4 @@
-//! The records of an input one by one, as its bytes come.
+//! Reads the records of an input one by one.
 ghost use Rattle.std.specs.Prelude.{◌≡◌, ◌+◌, ◌-◌, ◌<◌, ◌≤◌, ◌^◌, [], IfOk, IsTrue, true};
 ghost use Rattle.std.specs.Prelude.{false};
 ghost use Rattle.dap_items.specs.Items.{HasItem};
@@ -10,15 +10,15 @@ use dap_device::{Pieces, Source, Stop};
 use dap_recording::RecordCause;
 use std::alloc::{AllocError, Global};
 
-/// Reads the records of an input, no further than the next one asks for: at most a piece past its
-/// end. What a record is, its reader says.
+/// Reads the records of an input, only as far as the next record requires: at most one chunk beyond
+/// its end. The reader `I` defines what a record is.
 #[derive(Drop)]
 pub struct Records<I> {
     pieces: Pieces,
     reader: I,
     /// The number of the next record.
     number: u64,
-    /// Whether the source has ended, failed, or given a byte past the limit.
+    /// Whether the source has ended, has failed, or has delivered a byte beyond the limit.
     is_over: bool,
 }
 
@@ -26,8 +26,8 @@ impl<I: ItemReader> Records<I> {
     ghost use Rattle.dap_input.specs.RecordSteps.{IsAtStart, ReadsNext, ReadsRest};
     ghost use Rattle.dap_input.specs.RecordSteps.{StandsBetween, Stops};
 
-    /// The records of an input of which nothing has been read, for a reader that has read nothing.
-    /// At most `limit` bytes are taken.
+    /// Returns the records of an input of which nothing has been read, for a reader that has read
+    /// nothing. At most `limit` bytes are read.
     pub fn new(alloc: Global, reader: I, limit: u64) -> Result<Records<I>, AllocError>
         requires { limit ≤ 2 ^ 62 }
         ensures { (limits : FrameLimits) → I.stands limits reader []
@@ -41,14 +41,14 @@ impl<I: ItemReader> Records<I> {
         })
     }
 
-    /// The number of the next record, counted from 1.
+    /// Returns the number of the next record, counted from 1.
     pub fn number(&self) -> u64
         ensures { result ≡ self.now.number }
     {
         self.number
     }
 
-    /// Reads the next record. None is left where the input has ended behind the last one.
+    /// Reads the next record. Returns `None` if the input has ended after the last one.
     pub fn next<R: Source>(&mut self, reader: &mut R) -> Result<Option<I::Item>, Refused>
         requires number { self.old.number < 2 ^ 63 }
         requires given { R.given reader.old + (self.old.pieces.limit - self.old.pieces.taken)
@@ -78,8 +78,8 @@ impl<I: ItemReader> Records<I> {
         }
     }
 
-    /// Whether the whole next record is among the bytes that have come, so that
-    /// [`next`](Records::next) asks for none. Takes no memory.
+    /// Returns whether the next record is complete in the buffered bytes, so that
+    /// [`next`](Records::next) reads nothing from the source. Does not allocate.
     pub fn has_next(&self) -> bool
         ensures { (limits : FrameLimits) → StandsBetween (I.stands limits) self.now
             → IsTrue result → HasItem (I.items limits) self.now.pieces.unread }
@@ -87,15 +87,15 @@ impl<I: ItemReader> Records<I> {
         self.reader.has_item(self.pieces.unread())
     }
 
-    /// Keeps the memory of a record that is done with, for the records to come. Nothing else is
-    /// changed, and no memory is taken.
+    /// Keeps the buffer of a record that is no longer used, for later records. Changes nothing
+    /// else. Does not allocate.
     pub fn recycle(&mut self, item: I::Item)
         ensures { self.new ≡ self.old }
     {
         self.reader.recycle(item);
     }
 
-    /// What it means that no more comes.
+    /// Returns the result of `next` when no more bytes are received.
     fn stopped(&self, stop: Stop) -> Result<Option<I::Item>, Refused>
         ensures { (limits : FrameLimits) → Stops (I.stands limits) self.now stop result }
     {
@@ -109,8 +109,8 @@ impl<I: ItemReader> Records<I> {
         }
     }
 
-    /// Reads what is left of the input, up to a byte past the limit, and drops it. Where the source
-    /// has ended, failed or given that byte, it is asked for nothing more.
+    /// Reads the rest of the input, up to a byte beyond the limit, and drops it. If the source has
+    /// ended, has failed or has delivered that byte, reads nothing.
     pub fn drain<R: Source>(&mut self, reader: &mut R)
         requires given { self.old.is_over ≡ false
             → R.given reader.old + (self.old.pieces.limit - self.old.pieces.taken) < 2 ^ 63 }

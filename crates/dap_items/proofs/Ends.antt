@@ -1,4 +1,5 @@
--- Bytes begin with one item, or show one fault, or are open; and a fault stays where it is.
+-- Byte strings start with at most one item, prove at most one error, or are incomplete. An error
+-- keeps its position.
 use Rattle.std.proofs.Common.{◌<◌, [], ◌∷◌, ◌≡◌, ℕ, suc, ◌+◌, ◌-◌, ◌≤◌, ◌⊎◌, inl, inr, List, ◌++◌}
 use Rattle.std.proofs.Common.{length, take, drop, get_or, Result, Ok, Err, refl, sym, ap, ◌∙◌}
 use Rattle.std.proofs.Common.{subst, arith}
@@ -9,7 +10,7 @@ use Rattle.std.proofs.Math.Seq.{drop-cons}
 use Rattle.dap_items.specs.Items.{Items, IsItem, IsGrammar, NoEmptyItem, HasItem, Shows}
 use Rattle.dap_items.proofs.Fronts.{shorter_front}
 
--- what is true of all bytes
+-- the statement for every byte string
 abbrev pub Outcome : {Value Fault : Type 0} → Items Value Fault → List ℕ → Type 0
 Outcome {Value = Value} {Fault = Fault} g bytes = HasItem g bytes
     ⊎ (((fault : Fault) × (i : ℕ) × Shows g bytes fault i) ⊎ g.IsOpen bytes)
@@ -44,7 +45,7 @@ module _ {Value Fault : Type 0} {g : Items Value Fault} where
         place = shows.place;
       }
 
-  -- an item at the front of bytes is one at the front of more bytes
+  -- an item at the start of some bytes is also one at the start of more bytes
   pub item_of_more : (bytes more : List ℕ) → HasItem g bytes → HasItem g (bytes ++ more)
   item_of_more bytes more has = record {
     item = has.item;
@@ -54,7 +55,7 @@ module _ {Value Fault : Type 0} {g : Items Value Fault} where
     is_item = has.is_item;
   }
 
--- The byte behind open bytes that shows a fault, and what stands before it, which is open.
+-- The byte after incomplete bytes that proves an error, and the incomplete bytes before it.
 pub record IsShownByByte {Value Fault : Type 0} (g : Items Value Fault) (bytes more : List ℕ)
     (fault : Fault) (i : ℕ) : Type 0 where
   pub front : List ℕ
@@ -110,7 +111,7 @@ module _ {Value Fault : Type 0} {g : Items Value Fault} (is : IsGrammar g) where
         | inr is_open ↦ inr (inr is_open)
       ]
 
-  -- an open front of bytes that begin with an item is shorter than it
+  -- an incomplete prefix of bytes that start with an item is shorter than the item
   pub open_shorter : (bytes rest item more : List ℕ) (value : Value) → g.IsOpen bytes
       → bytes ++ rest ≡ item ++ more → IsItem g item value → length bytes < length item
   open_shorter bytes rest item more value is_open same is_item =
@@ -121,7 +122,7 @@ module _ {Value Fault : Type 0} {g : Items Value Fault} (is : IsGrammar g) where
             (subst g.IsOpen (shorter_front bytes item rest more same long) is_open))
       ]
 
-  -- with a byte more, what is open is an item, or shows a fault, or is open
+  -- with one more byte, incomplete bytes are an item, prove an error, or are still incomplete
   pub one_more : (bytes : List ℕ) (byte : ℕ) → g.IsOpen bytes
       → let more : List ℕ = bytes ++ byte ∷ [] in
       ((value : Value) × IsItem g more value)
@@ -148,7 +149,7 @@ module _ {Value Fault : Type 0} {g : Items Value Fault} (is : IsGrammar g) where
             ap length some,
           ))
 
-  -- what is open has no item at its front, and neither has what shows a fault
+  -- neither incomplete bytes nor bytes that prove an error start with an item
   pub open_has_no_item : (rest : List ℕ) → g.IsOpen rest → HasItem g rest → ⊥
   open_has_no_item rest is_open has =
       item_not_open has.item has.more has.value has.is_item (subst g.IsOpen has.bytes_are is_open)
@@ -159,7 +160,7 @@ module _ {Value Fault : Type 0} {g : Items Value Fault} (is : IsGrammar g) where
       item_not_faulty has.item has.more has.value fault i has.is_item
       (subst (λ xs. Shows g xs fault i) has.bytes_are shows)
 
-  -- a fault is shown by a byte behind those that were open, and so by one of the bytes
+  -- an error is proved by a byte after the bytes that were incomplete, which is one of the bytes
   pub shown_later : (bytes more : List ℕ) (fault : Fault) (i : ℕ) → g.IsOpen bytes
       → Shows g (bytes ++ more) fault i → length bytes < i
   shown_later bytes more fault i is_open shows =
@@ -169,7 +170,7 @@ module _ {Value Fault : Type 0} {g : Items Value Fault} (is : IsGrammar g) where
             (open_not_faulty bytes fault i is_open (fault_early bytes more fault i shows early))
       ]
 
-  -- and the bytes before it were open
+  -- the bytes before it were incomplete
   pub open_before : (bytes more : List ℕ) (fault : Fault) (i : ℕ) → length bytes < i
       → Shows g (bytes ++ more) fault i → g.IsOpen bytes
   open_before bytes more fault i later shows =
@@ -244,8 +245,8 @@ module _ {Value Fault : Type 0} {g : Items Value Fault} (is : IsGrammar g) where
         length-append bytes (byte ∷ more),
       )
 
--- What is owed of items that are read: the words are a grammar, and no bytes are open, so that each
--- item and each fault has a byte.
+-- The conditions for reading items: they have a grammar, and the empty byte string is incomplete.
+-- Each item and each error then has at least one byte.
 pub record IsReadable {Value Fault : Type 0} (g : Items Value Fault) : Type 0 where
   pub grammar : IsGrammar g
   pub open_none : g.IsOpen []

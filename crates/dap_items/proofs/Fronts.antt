@@ -1,15 +1,15 @@
--- Two fronts of the same bytes.
+-- Two prefixes of the same bytes.
 use Rattle.std.proofs.Common.{◌≡◌, ℕ, ◌≤◌, List, ◌++◌, length, take, drop, refl, sym, ap, ◌∙◌}
 use Rattle.std.proofs.lemmas.List.{take-append-le, take-append-drop, take_at}
 
--- those that are as long are the same
+-- prefixes of equal length are equal
 pub same_front : (front other rest more : List ℕ) → front ++ rest ≡ other ++ more
     → length front ≡ length other → front ≡ other
 same_front front other rest more same len =
     sym (take_at front rest (length other) len) ∙ ap (take (length other)) same
     ∙ take_at other more (length other) refl
 
--- the shorter is a front of the longer
+-- the shorter prefix is a prefix of the longer
 pub shorter_front : (long short rest more : List ℕ) → long ++ rest ≡ short ++ more
     → length short ≤ length long
     → long ≡ short ++ drop (length short) long

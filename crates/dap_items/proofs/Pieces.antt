@@ -1,4 +1,4 @@
--- Whatever the pieces, a reader of items gives the values of the stream that the pieces are.
+-- Whatever the chunks are, a reader of items returns the values of the stream that they form.
 use Rattle.std.proofs.Common.{◌≡◌, ℕ, List, [], ◌∷◌, ◌++◌, take, drop, refl, sym, ap, ◌∙◌}
 use Rattle.std.specs.List.{concat}
 use Rattle.std.proofs.lemmas.List.{append_assoc, append-nil, take-append-drop}
@@ -7,8 +7,8 @@ use Rattle.dap_items.specs.Feeding.{Calls, Feeds, begun, next_piece, fed_on, ref
 use Rattle.dap_items.proofs.Ends.{open_has_no_item}
 use Rattle.dap_items.proofs.Streams.{items_append, faulty_stream}
 
--- What is owed of a reader, where `Stands state values rest` says that behind items with these
--- values it stands for this rest.
+-- The conditions for a reader. `Stands state values rest` states that the state represents `rest`,
+-- the bytes received after items with these values.
 pub record IsReader {State Fed Value Fault : Type 0} (g : Items Value Fault)
     (calls : Calls State Fed Value) (Stands : State → List Value → List ℕ → Type 0) : Type 0 where
   pub is_open : (state : State) (values : List Value) (rest : List ℕ) → Stands state values rest
@@ -21,8 +21,8 @@ pub record IsReader {State Fed Value Fault : Type 0} (g : Items Value Fault)
   pub refuses : (old new : State) (values : List Value) (rest piece : List ℕ)
       → Stands old values rest → calls.Refused old piece new → Stands new values rest
 
--- Of the whole, all but the pieces that are left is items with these values, and a rest for which
--- the state stands.
+-- Everything except the remaining chunks is items with these values and a rest that the state
+-- represents.
 pub record ReadSoFar {State Value Fault : Type 0} (g : Items Value Fault) (Stands : State
     → List Value → List ℕ → Type 0)
     (whole : List ℕ) (values : List Value) (left : List (List ℕ)) (state : State) : Type 0 where
@@ -81,7 +81,7 @@ module _ {State Fed Value Fault : Type 0} {g : Items Value Fault} (is : IsGramma
         stands = reader.refuses state new values was.rest piece was.stands again;
       }
 
-  -- once the pieces are used up
+  -- after all chunks are used
   pub any_pieces : (first last : State) (held : List ℕ) (pieces : List (List ℕ))
       (values : List Value)
       → Stands first [] held → Feeds calls first pieces values [] last
@@ -98,7 +98,7 @@ module _ {State Fed Value Fault : Type 0} {g : Items Value Fault} (is : IsGramma
         was.stands,
       )
 
-  -- where the rest and the next piece show a fault
+  -- if the rest and the next chunk prove an error
   pub fault_in_any_pieces : (whole piece : List ℕ) (values : List Value) (left : List (List ℕ))
       (state : State) (fault : Fault) (i : ℕ)
       → (was : ReadSoFar g Stands whole values (piece ∷ left) state)

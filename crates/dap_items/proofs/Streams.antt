@@ -1,4 +1,4 @@
--- Bytes are one stream of items, and one item more makes a longer one.
+-- Bytes are exactly one stream of items, and one more item makes a longer stream.
 use Rattle.std.proofs.Common.{◌≡◌, ◌⊎◌, ℕ, zero, suc, ◌<◌, ◌≤◌, inl, inr, List, [], ◌∷◌, ◌++◌}
 use Rattle.std.proofs.Common.{length, refl, sym, ap, ◌∙◌, subst, arith}
 use Rattle.std.proofs.lemmas.List.{append_assoc, append-nil, append_cancel_left, length-append}
@@ -8,7 +8,7 @@ use Rattle.dap_items.proofs.Ends.{one_item, item_not_open, fault_stays, some_out
 use Rattle.dap_items.proofs.Ends.{open_has_no_item, faulty_has_no_item}
 
 module _ {Value Fault : Type 0} (g : Items Value Fault) where
-  -- lists of items join
+  -- the concatenation of two lists of items
   pub items_append : (x y : List ℕ) (vs ws : List Value) → AreItems g x vs → AreItems g y ws
       → AreItems g (x ++ y) (vs ++ ws)
   items_append x y [] ws none more = subst (λ xs. AreItems g (xs ++ y) ws) (sym none) more
@@ -25,7 +25,7 @@ module _ {Value Fault : Type 0} (g : Items Value Fault) where
       → AreItems g item (value ∷ [])
   one_item_alone item value is = (item, [], is, sym (append-nil item), refl)
 
-  -- an item and a stream behind it
+  -- an item followed by a stream
   item_and_stream : (bytes : List ℕ) (values : List Value) (rest : List ℕ) → (has : HasItem g bytes)
       → IsStream g has.more values rest
       → IsStream g bytes (has.value ∷ values) rest
@@ -37,14 +37,14 @@ module _ {Value Fault : Type 0} (g : Items Value Fault) where
     no_item = stream.no_item;
   }
 
-  -- with no item at the front all is the rest
+  -- if the bytes do not start with an item, all of them are the rest
   no_item_stream : (bytes : List ℕ) → (HasItem g bytes → ⊥)
       → (values : List Value) × (rest : List ℕ) × IsStream g bytes values rest
   no_item_stream bytes none =
       ([], bytes, record { front = []; items = refl; whole = refl; no_item = none })
 
--- Items at the front of bytes go on from other items there, whose rest is `r`: behind `between` the
--- rest is `s`.
+-- The items at the start of some bytes continue other items there, which leave the rest `r`: after
+-- the items `between`, the rest is `s`.
 pub record GoesOn {Value Fault : Type 0} (g : Items Value Fault) (r s : List ℕ)
     (vs ws : List Value) : Type 0 where
   pub later : List Value
@@ -54,7 +54,7 @@ pub record GoesOn {Value Fault : Type 0} (g : Items Value Fault) (r s : List ℕ
   pub rest_is : r ≡ between ++ s
 
 module _ {Value Fault : Type 0} {g : Items Value Fault} (is : IsGrammar g) where
-  -- of two lists of items at the front of the same bytes one goes on behind the other
+  -- for two lists of items at the start of the same bytes, one list continues the other
   pub two_lists : (x y r s : List ℕ) (vs ws : List Value) → AreItems g x vs → AreItems g y ws
       → x ++ r ≡ y ++ s → GoesOn g r s vs ws ⊎ GoesOn g s r ws vs
   two_lists x y r s [] ws p q e =
@@ -100,7 +100,7 @@ module _ {Value Fault : Type 0} {g : Items Value Fault} (is : IsGrammar g) where
             })
       ]
 
-  -- a rest with no item at its front does not go on
+  -- a rest that does not start with an item is not continued
   no_later : (r s between : List ℕ) (vs ws later : List Value) → ws ≡ vs ++ later
       → AreItems g between later → r ≡ between ++ s → (HasItem g r → ⊥) → (vs ≡ ws) × (r ≡ s)
   no_later r s between vs ws [] values none rest no_item =
@@ -126,15 +126,15 @@ module _ {Value Fault : Type 0} {g : Items Value Fault} (is : IsGrammar g) where
             on.rest_is q.no_item in (sym same.0, sym same.1))
       ]
 
-  -- what begins with some items is not open
+  -- bytes that start with items are not incomplete
   pub begun_not_open : (x y : List ℕ) (v : Value) (vs : List Value) → AreItems g x (v ∷ vs)
       → g.IsOpen (x ++ y) → ⊥
   begun_not_open x y v vs (item, more, is_item, e, items) is_open =
       item_not_open is item (more ++ y) v is_item
       (subst g.IsOpen (ap (λ xs. xs ++ y) e ∙ append_assoc item more y) is_open)
 
-  -- items, and a rest that shows a fault with the bytes behind it, are a stream, whatever else
-  -- comes
+  -- items, and a rest that proves an error together with the bytes after it, are a stream, whatever
+  -- bytes follow
   pub faulty_stream : (whole front rest piece left : List ℕ) (values : List Value) (fault : Fault)
       (i : ℕ) → AreItems g front values
       → whole ≡ front ++ (rest ++ (piece ++ left)) → Shows g (rest ++ piece) fault i
@@ -193,7 +193,7 @@ module _ {Value Fault : Type 0} {g : Items Value Fault} (is : IsGrammar g) where
         → (values : List Value) × (rest : List ℕ) × IsStream g bytes values rest
     some_stream bytes = stream_of (length bytes) bytes (omega arith)
 
-    -- bytes are items with one list of values
+    -- bytes are items with at most one list of values
     pub one_list : (bytes : List ℕ) (vs ws : List Value) → AreItems g bytes vs → AreItems g bytes ws
         → vs ≡ ws
     one_list bytes vs ws p q =
@@ -209,7 +209,7 @@ module _ {Value Fault : Type 0} {g : Items Value Fault} (is : IsGrammar g) where
               no_item = nothing_has_no_item;
             }
 
-    -- there are no more items than bytes
+    -- the number of items is at most the number of bytes
     pub few_items : (bytes : List ℕ) (values : List Value) → AreItems g bytes values
         → length values ≤ length bytes
     few_items bytes [] none = omega arith
@@ -222,7 +222,7 @@ module _ {Value Fault : Type 0} {g : Items Value Fault} (is : IsGrammar g) where
           length-append item more,
         )
 
-    -- with more bytes come more items
+    -- more bytes contain at least as many items
     pub stream_more : (x y : List ℕ) (vs ws : List Value) (r s : List ℕ) → IsStream g x vs r
         → IsStream g (x ++ y) ws s
         → (us : List Value) × (ws ≡ vs ++ us)

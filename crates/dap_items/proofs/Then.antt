@@ -1,4 +1,4 @@
--- What is made of grammars is a grammar.
+-- Combinations of grammars are grammars.
 use Rattle.std.proofs.Common.{◌≡◌, ℕ, ◌<◌, ◌⊎◌, inl, inr, List, [], ◌∷◌, ◌++◌, length, take, drop}
 use Rattle.std.proofs.Common.{Result, Ok, Err, refl, sym, ap, ◌∙◌, subst, arith}
 use Rattle.std.proofs.lemmas.List.{append_assoc, append-nil, append_cancel_left, length-append}
@@ -15,11 +15,11 @@ module _ {A B E F : Type 0} {g : Items A E} {h : A → Items B F} (of_first : E
   abbrev both : Items B F
   both = and_then g h of_first
 
-  -- an item and no fault begin the same bytes
+  -- the same bytes do not start with both an item and an error
   apart : (f o y z : List ℕ) (a : A) (e : E) → f ++ y ≡ o ++ z → IsItem g f a → g.Ends o (Err e) → ⊥
   apart f o y z a e same p q = let one = is.one_end f o y z (Ok a) (Err e) same p q in cc
 
-  -- the items of the first are one, and so the second begin at one place
+  -- the first item is unique, and so the second parts start at one position
   split : (f o m n : List ℕ) (a b : A) → f ++ m ≡ o ++ n → IsItem g f a → IsItem g o b
       → (f ≡ o) × (a ≡ b) × (m ≡ n)
   split f o m n a b same p q =
@@ -88,7 +88,7 @@ module _ {A B E F : Type 0} {g : Items A E} {h : A → Items B F} (of_first : E
     ];
   }
 
--- an end, with its fault told so
+-- an end, with its error mapped
 abbrev told : {A E F : Type 0} → (E → F) → Result A E → Result A F
 told of_fault (Ok value) = Ok value
 told of_fault (Err fault) = Err (of_fault fault)
@@ -104,7 +104,7 @@ module _ {A E F : Type 0} (of_fault : E → F) (g : Items A E) where
   own_end bytes (Ok value) p = (Ok value, p, refl)
   own_end bytes (Err fault) (own, is, p) = (Err own, p, ap (λ f. Err f) is)
 
-  -- Items that are read are read with their faults told otherwise.
+  -- Items that can be read can also be read with their errors mapped.
   pub faults_as_readable : IsReadable g → IsReadable (faults_as of_fault g)
   faults_as_readable is = record {
     grammar = record {
@@ -141,8 +141,8 @@ module _ {A E F : Type 0} (of_fault : E → F) (g : Items A E) where
       }
 
 module _ {A F : Type 0} (IsFront : List ℕ → Type 0) (Says : List ℕ → ℕ → Result A F → Type 0) where
-  -- What is owed of fronts and of the byte that ends one: a byte more makes a longer front, or says
-  -- just one thing.
+  -- The conditions for prefixes and the byte that ends one: each further byte gives a longer prefix
+  -- or exactly one result.
   pub record GoesOn : Type 0 where
     pub none : IsFront []
     pub front : (front more : List ℕ) → IsFront (front ++ more) → IsFront front

@@ -1,19 +1,19 @@
--- Calls of a reader over the pieces of a stream, one after another.
+-- Calls of a reader over the chunks of a stream, one after another.
 use Rattle.std.specs.Prelude.{ℕ, List, [], ◌∷◌, ◌++◌, drop}
 
--- What the calls of a reader say of it before and after them.
+-- Facts that calls of a reader establish about its state before and after.
 pub record Calls (State Fed Value : Type 0) : Type 1 where
-  -- how many bytes of its piece a call took, and the values that it gave
+  -- the number of bytes that a call consumed, and the values that it returned
   pub used : Fed → ℕ
   pub given : Fed → List Value
-  -- a call on this piece went so
+  -- a call on this chunk succeeded with this result
   pub Took : State → List ℕ → Fed → State → Type 0
-  -- a call took nothing, and may be made again
+  -- a call consumed nothing and may be repeated
   pub Refused : State → List ℕ → State → Type 0
 
--- Calls, from the first state on and over these pieces in order, have given these values so far;
--- these pieces are left, and the state is now this one. Each call gets what is left of the present
--- piece, and a piece that is used up leads to the next.
+-- Calls from the first state on, over these chunks in order, have returned these values. `left` are
+-- the remaining chunks, and the last argument is the current state. Each call receives the rest of
+-- the current chunk. When the rest is empty, the next chunk follows.
 pub data Feeds {State Fed Value : Type 0} (calls : Calls State Fed Value) (first : State)
     (pieces : List (List ℕ))
     : List Value → List (List ℕ) → State → Type 0 where

@@ -1,11 +1,13 @@
--- Items that bytes begin with, whatever an item is: what may begin bytes, and streams of items.
+-- Grammars for incremental parsing. A grammar states which byte strings are complete (with a value
+-- or with an error) and which are incomplete. Frames, records and trace pieces are instances.
 use Rattle.std.specs.Prelude.{◌≡◌, ℕ, ◌⊎◌, List, [], ◌∷◌, ◌++◌, length, Result, Ok, Err}
 
--- The words of a grammar.
+-- A grammar. An *item* is a byte string that the grammar accepts, such as one frame.
 pub record Items (Value Fault : Type 0) : Type 1 where
-  -- with the last of the bytes an item with this value is whole, or this fault is shown
+  -- `Ends bytes (Ok v)`: the bytes are one item with value v. `Ends bytes (Err f)`: their last byte
+  -- proves error f.
   pub Ends : List ℕ → Result Value Fault → Type 0
-  -- the bytes may still become an item
+  -- The bytes are incomplete: more bytes may turn them into an item.
   pub IsOpen : List ℕ → Type 0
 
 module _ {Value Fault : Type 0} (g : Items Value Fault) where
@@ -13,7 +15,7 @@ module _ {Value Fault : Type 0} (g : Items Value Fault) where
   abbrev pub IsItem : List ℕ → Value → Type 0
   IsItem bytes value = g.Ends bytes (Ok value)
 
-  -- Some front of the bytes ends so.
+  -- Some prefix of the bytes is an item or proves an error.
   pub record HasEnd (bytes : List ℕ) : Type 0 where
     pub front : List ℕ
     pub more : List ℕ
@@ -21,7 +23,9 @@ module _ {Value Fault : Type 0} (g : Items Value Fault) where
     pub bytes_are : bytes ≡ front ++ more
     pub ends : g.Ends front result
 
-  -- What makes the words a grammar: what has ended goes on in no way, and all other bytes are open.
+  -- The grammar is prefix-free and total. At most one prefix ends, with one result (`one_end`). An
+  -- extension of such a prefix is never incomplete (`end_not_open`). Bytes without such a prefix
+  -- are incomplete (`some_end`).
   pub record IsGrammar : Type 0 where
     pub one_end : (front other rest more : List ℕ) (a b : Result Value Fault)
         → front ++ rest ≡ other ++ more → g.Ends front a → g.Ends other b
@@ -30,11 +34,11 @@ module _ {Value Fault : Type 0} (g : Items Value Fault) where
         → g.IsOpen (front ++ more) → ⊥
     pub some_end : (bytes : List ℕ) → HasEnd bytes ⊎ g.IsOpen bytes
 
-  -- No item is empty.
+  -- The empty byte string is not an item.
   abbrev pub NoEmptyItem : Type 0
   NoEmptyItem = (value : Value) → IsItem [] value → ⊥
 
-  -- Some front of the bytes is an item.
+  -- The bytes start with an item.
   pub record HasItem (bytes : List ℕ) : Type 0 where
     pub item : List ℕ
     pub more : List ℕ
@@ -42,7 +46,7 @@ module _ {Value Fault : Type 0} (g : Items Value Fault) where
     pub bytes_are : bytes ≡ item ++ more
     pub is_item : IsItem item value
 
-  -- The bytes show a fault at their byte i, counted from 1.
+  -- Byte i of the bytes, counted from 1, proves this error.
   pub record Shows (bytes : List ℕ) (fault : Fault) (i : ℕ) : Type 0 where
     pub front : List ℕ
     pub more : List ℕ
@@ -50,15 +54,14 @@ module _ {Value Fault : Type 0} (g : Items Value Fault) where
     pub ends : g.Ends front (Err fault)
     pub place : i ≡ length front
 
-  -- The bytes are items with these values, in order.
+  -- The bytes are the concatenation of items with these values.
   abbrev pub AreItems : List ℕ → List Value → Type 0
   AreItems bytes [] = bytes ≡ []
   AreItems bytes (value ∷ values) =
       (item : List ℕ) × (more : List ℕ) × IsItem item value × (bytes ≡ item ++ more)
       × AreItems more values
 
-  -- The bytes are items with these values, in order, and then the rest, no front of which is an
-  -- item.
+  -- The bytes are items with these values, followed by `rest`, which does not start with an item.
   pub record IsStream (bytes : List ℕ) (values : List Value) (rest : List ℕ) : Type 0 where
     pub front : List ℕ
     pub items : AreItems front values

@@ -1,3 +1,3 @@
-//! Items that bytes begin with, whatever an item is, and streams of them. `specs/Items.antt` says
-//! what a grammar of items is, and `proofs/` has what follows for each.
+//! Grammars whose items are read from the start of a byte string, and streams of items.
+//! `specs/Items.antt` defines a grammar of items. `proofs/` has the consequences for every grammar.
 #![tactic(auto)]

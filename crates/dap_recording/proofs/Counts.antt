@@ -1,4 +1,4 @@
--- Lines of counts are the items of a grammar: digits, until a byte that is not the next digit of a
+-- Count lines are the items of a grammar: digits, up to a byte that is not the next digit of a
 -- count.
 use Rattle.std.proofs.Common.{◌≡◌, ℕ, ◌⊎◌, inl, inr, true, List, [], ◌∷◌, ◌++◌, length, get_or}
 use Rattle.std.proofs.Common.{Result, Ok, Err, refl, sym, ap, ◌∙◌, subst, arith}
@@ -20,14 +20,14 @@ use Rattle.dap_recording.specs.Trace.{IsCount, IsCountFront, EndsCount, counts}
 pub none_count : IsCount [] → ⊥
 none_count is = let some = is.some in omega arith
 
--- the digits of a count's parts
+-- the digits of the parts of a count
 digits_of : (front more : List ℕ) → IsCount (front ++ more)
     → (list_all is_ascii_digit front ≡ true) × (list_all is_ascii_digit more ≡ true)
 digits_of front more is =
     and_parts (list_all is_ascii_digit front) (list_all is_ascii_digit more)
     (sym (list_all-append is_ascii_digit front more) ∙ is.digits)
 
--- no LF stands among digits
+-- there is no LF among digits
 pub no_lf : (front more : List ℕ) → IsCount (front ++ 10 ∷ more) → ⊥
 no_lf front more is = false≢true (digits_of front (10 ∷ more) is).1
 
@@ -63,7 +63,7 @@ count_or_not text =
       ]
     ]
 
--- a byte that is no next digit is the LF, or is bad
+-- a byte that is not the next digit is the LF, or is an error
 says : (text : List ℕ) (byte : ℕ) → IsCountFront text → (IsCount (text ++ byte ∷ []) → ⊥)
     → (a : Result ℕ TraceCause) × EndsCount text byte a
 says text byte (inl none) bad =

@@ -1,4 +1,4 @@
--- What a call of a framer gave, by whether a frame ended or a fault was told.
+-- The result of a call of a framer, depending on whether a frame ended or an error was returned.
 use Rattle.std.proofs.Common.{◌≡◌, ◌≢◌, ℕ, ◌⊎◌, inl, inr, List, [], ◌++◌, length, take, Option}
 use Rattle.std.proofs.Common.{Some, None, MatchOption, refl, subst}
 use Rattle.dap_frame.specs.declared.limits.FrameLimits.{FrameLimits}

@@ -1,4 +1,4 @@
--- Fronts of lists of bytes.
+-- Prefixes of byte lists.
 use Rattle.std.proofs.Common.{◌≡◌, ℕ, ◌+◌, ◌<◌, ◌≤◌, List, [], ◌∷◌, ◌++◌, length, take, drop}
 use Rattle.std.proofs.Common.{get_or, refl, sym, ap, ◌∙◌, arith}
 use Rattle.std.proofs.lemmas.List.{append_assoc, take_at, take-append-le, take-append-drop}
@@ -15,7 +15,8 @@ pub first_is : (piece : List ℕ) → 0 < length piece → piece ≡ get_or piec
 first_is [] some = absurd (omega arith)
 first_is (x ∷ xs) some = refl
 
--- bytes that, with more behind them, begin with a front and a byte, and are as long, begin so
+-- if bytes followed by more start with a prefix and a byte, and have the length of both, they are
+-- the prefix and the byte
 pub begins_so : (x y front more : List ℕ) (byte : ℕ) → x ++ y ≡ front ++ byte ∷ more
     → length front + 1 ≤ length x
     → x ≡ front ++ byte ∷ drop (length front + 1) x
@@ -27,7 +28,7 @@ begins_so x y front more byte e long =
     sym (take-append-drop n x) ∙ ap (λ xs. xs ++ drop n x) start
     ∙ append_assoc front (byte ∷ []) (drop n x)
 
--- where a front of a piece ends a line, the rest of the piece stands behind the line
+-- if a prefix of a chunk ends a line, the rest of the chunk follows the line
 pub split_at : (bytes piece line : List ℕ) (from : ℕ) → bytes ++ take from piece ≡ line
     → bytes ++ piece ≡ line ++ drop from piece
 split_at bytes piece line from e =
@@ -35,7 +36,7 @@ split_at bytes piece line from e =
     ∙ sym (append_assoc bytes (take from piece) (drop from piece))
     ∙ ap (λ xs. xs ++ drop from piece) e
 
--- and so does what is taken of the rest
+-- the same for the consumed bytes of the rest
 pub taken_more : (bytes piece line : List ℕ) (from count : ℕ) → bytes ++ take from piece ≡ line
     → bytes ++ take (from + count) piece ≡ line ++ take count (drop from piece)
 taken_more bytes piece line from count e =

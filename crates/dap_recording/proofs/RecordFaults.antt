@@ -1,4 +1,4 @@
--- No fault of a frame is one of its end or of memory.
+-- A frame never has the errors `Cut` or `Memory`.
 use Rattle.std.proofs.Common.{◌≡◌, ◌≢◌, ℕ, inl, inr, List, subst}
 use Rattle.dap_frame.specs.declared.limits.FrameLimits.{FrameLimits}
 use Rattle.dap_frame.specs.declared.fault.FrameFault.{FrameFault}

@@ -1,4 +1,4 @@
--- What a reader of records stands for once it has read on.
+-- The bytes that a reader of records represents after it has read more.
 use Rattle.std.proofs.Common.{arith, ◌≡◌, ◌≢◌, ℕ, suc, ◌+◌, ◌<◌, ⊎_elim, List, [], ◌∷◌, ◌++◌}
 use Rattle.std.proofs.Common.{length, take, drop, get_or, Ok, Err, refl, sym, ap, ◌∙◌, subst}
 use Rattle.std.proofs.lemmas.List.{append_assoc, append-nil, take_more, take-append-drop}
@@ -38,7 +38,7 @@ frame_no_memory : (cause : RecordCause) (fault : FrameFault) → cause ≡ Frame
     → ⊥
 frame_no_memory cause fault e f = cc
 
--- what the reader stands for, where its state is known
+-- the bytes that the reader represents, if its state is known
 pub at_state : (reader : RecordReading) (number : ℕ) (bytes : List ℕ) (state : RecordState)
     → reader.state ≡ state
     → StandsFor reader number bytes → IsKeptOfRecord reader.framer state bytes
@@ -110,7 +110,7 @@ first_taken : (piece : List ℕ) → 0 < length piece → take 1 piece ≡ get_o
 first_taken [] some = absurd (omega arith)
 first_taken (x ∷ xs) some = refl
 
--- a piece that begins with a marker, a frame and LF
+-- a chunk that starts with a marker, a frame and LF
 pub record_in : (limits : FrameLimits) (piece content : List ℕ) (side : Side) (used : ℕ)
     → get_or piece 0 0 ≡ marker side → IsFrame limits (take used (drop 1 piece)) content
     → used + 1 < length piece → get_or piece (used + 1) 0 ≡ 10 → HasRecord limits piece
@@ -140,7 +140,7 @@ module _ (limits : FrameLimits) (number : ℕ) (bytes piece rest : List ℕ) (si
     → (told.cause ≡ Memory) × (new ≡ old)) (stands : fault ≡ frame_fault.Memory
     → StandsFor old number bytes)
     (other : fault ≢ frame_fault.Memory → (told.cause ≡ Frame fault) × HasFailedAt new told) where
-  -- what shows a fault of the frame shows it of the record
+  -- a proof of an error of the frame is one of an error of the record
   shown_in_frame : (i : ℕ) → Shows limits (rest ++ drop from piece) fault i
       → ShowsFault limits (bytes ++ piece) (Frame fault) (i + 1)
   shown_in_frame i shows = record {

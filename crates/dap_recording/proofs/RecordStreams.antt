@@ -19,7 +19,7 @@ use Rattle.dap_recording.specs.Feeding.{IsRecordCall, FeedsRecords, record_calls
 use Rattle.dap_recording.proofs.Records.{record_grammar}
 use Rattle.dap_recording.proofs.RecordSteps.{stands_open}
 
--- The reader has these limits and stands for the rest behind records of these messages.
+-- The reader has these limits and represents the rest after records of these messages.
 abbrev StandsBehind : FrameLimits → RecordReading → List (Side × List ℕ) → List ℕ → Type 0
 StandsBehind limits reader ms rest = StandsFor reader (number_behind ms) rest
     × (record_limits reader ≡ limits)

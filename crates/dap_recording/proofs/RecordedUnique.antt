@@ -1,4 +1,4 @@
--- The bytes of a trace are recorded in one way: front by front the same frames have ended.
+-- The bytes of a trace are recorded in only one way: in each prefix the same frames have ended.
 use Rattle.std.proofs.Common.{◌≡◌, ℕ, ◌⊎◌, inl, inr, false, List, [], ◌∷◌, ◌++◌, length, map, refl}
 use Rattle.std.proofs.Common.{sym, ap, ◌∙◌, subst, arith}
 use Rattle.std.proofs.lemmas.List.{append_assoc, append-nil, append_cancel_left, length-append}
@@ -15,13 +15,13 @@ empty_list : (cs : List (List ℕ)) → length cs ≡ 0 → cs ≡ []
 empty_list [] e = refl
 empty_list (c ∷ cs) e = absurd (omega arith)
 
--- what neither side sent is nothing
+-- if neither side sent anything, the list is empty
 none_of_both : (xs : List (Side × List ℕ)) → ((side : Side) → of_side side xs ≡ []) → xs ≡ []
 none_of_both [] none = refl
 none_of_both ((Client, c) ∷ xs) none = absurd (let e = none Client in let f : ⊥ = cc in f)
 none_of_both ((Adapter, c) ∷ xs) none = absurd (let e = none Adapter in let f : ⊥ = cc in f)
 
--- what one side alone sent is told by what it sent
+-- a list in which only one side sent is determined by what that side sent
 all_of_side : (s : Side) (xs : List (Side × List ℕ))
     → ((side : Side) → is_side side s ≡ false → of_side side xs ≡ [])
     → xs ≡ map (λ c. (s, c)) (of_side s xs)
@@ -44,7 +44,7 @@ all_of_side Adapter ((Adapter, c) ∷ xs) none =
 all_of_side Adapter ((Client, c) ∷ xs) none =
     absurd (let e = none Client refl in let f : ⊥ = cc in f)
 
--- of two fronts of one list one goes on from the other
+-- for two prefixes of one list, one continues the other
 two_fronts : (xs ys front back : List (Side × List ℕ)) → xs ++ ys ≡ front ++ back
     → ((more : List (Side × List ℕ)) × (xs ≡ front ++ more))
     ⊎ ((more : List (Side × List ℕ)) × (front ≡ xs ++ more))
@@ -58,7 +58,7 @@ two_fronts (x ∷ xs) ys (f ∷ front) back e =
       | inr more ↦ inr (more.0, ap (λ y. y ∷ front) (sym same) ∙ ap (λ zs. x ∷ zs) more.1)
     ]
 
--- where of each side nothing more has ended, the rest of the messages is none
+-- if no more messages of either side have ended, no messages remain
 no_more : (before more : List (Side × List ℕ))
     → ((side : Side)
     → (es : List (List ℕ)) × (of_side side before ≡ of_side side (before ++ more) ++ es))
@@ -77,7 +77,7 @@ no_more before more same = none_of_both more (λ side.
 module _ (limits : FrameLimits) (bytes : List (Side × ℕ)) (ms ns : List (Side × List ℕ)) (r q : Side
     → List ℕ)
     (p : AreRecorded limits bytes ms r) (p' : AreRecorded limits bytes ns q) where
-  -- in this front the same messages have ended
+  -- in this prefix the same messages have ended
   record Agree (front : List (Side × ℕ)) : Type 0 where
     before : List (Side × List ℕ)
     after : List (Side × List ℕ)
@@ -87,7 +87,7 @@ module _ (limits : FrameLimits) (bytes : List (Side × ℕ)) (ms ns : List (Side
     is' : ns ≡ before ++ after'
     ended : HaveEnded limits front before rests
 
-  -- with a byte more, more messages have ended
+  -- with one more byte, at least the same messages have ended
   grows : (front more : List (Side × ℕ)) (whole before after before1 after1 : List (Side × List ℕ))
       (rests rests1 : Side → List ℕ)
       → whole ≡ before ++ after → whole ≡ before1 ++ after1
@@ -166,7 +166,7 @@ module _ (limits : FrameLimits) (bytes : List (Side × ℕ)) (ms ns : List (Side
       e ∙ sym (append_assoc front ((s, b) ∷ []) back) in
       agree (front ++ (s, b) ∷ []) back on (step front back s b on was)
 
-  -- what has ended in all the bytes is all
+  -- the messages that have ended in all the bytes are all messages
   all_ended : (whole before after : List (Side × List ℕ)) (rests all : Side → List ℕ)
       → whole ≡ before ++ after
       → HaveEnded limits bytes before rests → HaveEnded limits bytes whole all → whole ≡ before

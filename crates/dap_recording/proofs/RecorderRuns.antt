@@ -74,7 +74,7 @@ bytes_of_other side s taken bytes e =
     ∙ ap (λ ys. of_side side taken ++ ys) (other_side side s bytes e)
     ∙ append-nil (of_side side taken)
 
--- one side's stream is another one, and the other side's is as it was
+-- the stream of one side changes, and that of the other side is unchanged
 ended_with : (limits : FrameLimits) (s : Side) (taken : List (Side × ℕ)) (bytes rest : List ℕ)
     (ms ns : List (Side × List ℕ)) (rests : Side → List ℕ)
     → Stream limits (of_side s taken ++ bytes) (of_side s ns) rest
@@ -143,7 +143,8 @@ frame_ends limits s taken bytes content ms rests was is =
     ∙ append-nil (of_side side ms))
     was
 
--- a front of two lists is a front of the first, or the first and a front of the second
+-- a prefix of two concatenated lists is a prefix of the first, or the first and a prefix of the
+-- second
 fronts : (xs ys front back : List (Side × ℕ)) → xs ++ ys ≡ front ++ back
     → ((rest : List (Side × ℕ)) × (xs ≡ front ++ rest))
     ⊎ ((p : List (Side × ℕ)) × (q : List (Side × ℕ)) × (front ≡ xs ++ p) × (ys ≡ p ++ q))
@@ -163,7 +164,7 @@ fronts (x ∷ xs) ys (f ∷ front) back e =
       )
     ]
 
--- a front of one side's bytes is that side's
+-- a prefix of one side's bytes consists of that side's bytes
 sent_front : (s : Side) (bytes : List ℕ) (p q : List (Side × ℕ)) → sent_by s bytes ≡ p ++ q
     → (front : List ℕ) × (back : List ℕ) × (p ≡ sent_by s front) × (bytes ≡ front ++ back)
 sent_front s bytes [] q e = ([], bytes, refl, refl)
@@ -182,7 +183,7 @@ sent_front s (b ∷ bytes) (x ∷ p) q e =
 module _ (limits : FrameLimits) (s : Side) (taken : List (Side × ℕ)) (bytes : List ℕ)
     (ms : List (Side × List ℕ)) (rests : Side → List ℕ)
     (was : AreRecorded limits taken ms rests) where
-  -- while the frame goes on nothing is recorded
+  -- while the frame continues, nothing is recorded
   pub recorded_on : ((front back : List ℕ) → bytes ≡ front ++ back
       → HasFrame limits (rests s ++ front) → ⊥)
       → AreRecorded limits (taken ++ sent_by s bytes) ms (with_rest s (rests s ++ bytes) rests)
@@ -203,8 +204,8 @@ module _ (limits : FrameLimits) (s : Side) (taken : List (Side × ℕ)) (bytes :
   }
 
   module _ (content : List ℕ) (is : IsFrame limits (rests s ++ bytes) content) where
-    -- behind a front of the frame's bytes nothing more is recorded, and behind all of them the
-    -- frame
+    -- after a proper prefix of the frame's bytes nothing more is recorded; after all of them the
+    -- frame is recorded
     at_front : (front back : List ℕ) → bytes ≡ front ++ back
         → (before : List (Side × List ℕ)) × (after : List (Side × List ℕ))
         × (others : Side → List ℕ)
@@ -285,7 +286,7 @@ rest_with Adapter rest rests = refl
 no_frame_fault : (side : Side) (cause : FrameFault) → told.Memory ≡ told.Frame side cause → ⊥
 no_frame_fault side cause e = cc
 
--- what a piece's bytes are, in two parts
+-- the bytes of a piece, in two parts
 piece_parts : (side : Side) (piece : List ℕ) (used : ℕ) (taken left : List (Side × ℕ))
     → taken ++ (sent_by side piece ++ left)
     ≡ (taken ++ sent_by side (take used piece)) ++ (sent_by side (drop used piece) ++ left)
@@ -304,7 +305,7 @@ module _ (first recorder new : RecorderReading) (pieces left : List (Side × Lis
     (piece : List ℕ) (used : ℕ)
     (was : RecordedSoFar first recorder pieces ((side, piece) ∷ left)) (same : recorder_limits new
     ≡ recorder_limits recorder) where
-  -- the frame went on
+  -- the frame continued
   went_on : GoesOn side was.rests piece recorder new used
       → RecordedSoFar first new pieces ((side, drop used piece) ∷ left)
   went_on on =
@@ -359,7 +360,7 @@ module _ (first recorder new : RecorderReading) (pieces left : List (Side × Lis
         limits = same ∙ was.limits;
       }
 
-  -- nothing was taken
+  -- nothing was consumed
   unchanged : new ≡ recorder → RecordedSoFar first new pieces ((side, piece) ∷ left)
   unchanged e = subst (λ r. RecordedSoFar first r pieces ((side, piece) ∷ left)) (sym e) was
 

@@ -1,4 +1,4 @@
--- What a recorder stands for once it has taken a piece.
+-- The rests that a recorder represents after it has consumed a piece.
 use Rattle.std.proofs.Common.{◌≡◌, ◌≢◌, ℕ, ◌+◌, ◌≤◌, inl, inr, true, false, List, [], ◌++◌, length}
 use Rattle.std.proofs.Common.{take, Option, Some, None, Result, Ok, Err, refl, sym, ap, ◌∙◌, subst}
 use Rattle.std.proofs.Common.{arith}
@@ -46,7 +46,7 @@ pub is_ok : (E : Type 0) (r : Result (Unit {0}) E) → is_err r ≡ false → Is
 is_ok E (Ok x) e = refl
 is_ok E (Err x) e = absurd (let f : ⊥ = cc in f)
 
--- a content is no longer than what came
+-- a content is no longer than the received bytes
 pub frame_short : (limits : FrameLimits) (rest piece content : List ℕ) (used : ℕ)
     → used ≤ length piece
     → IsFrame limits (rest ++ take used piece) content → length content ≤ length rest + length piece
@@ -83,7 +83,7 @@ takes_fault limits its rest piece before after old new fault e gives same memory
   );
 }
 
--- the recorder with another framer of this side and another text
+-- the recorder with another framer for this side and another text
 abbrev pub with_framer : Side → Reading → List ℕ → RecorderReading → RecorderReading
 with_framer Client framer text recorder =
     record {
@@ -105,7 +105,7 @@ with_framer Adapter framer text recorder =
 some_fault : (fault : RecorderFault) → ◌≡◌ {A = Option RecorderFault} (Some fault) None → ⊥
 some_fault fault e = cc
 
--- the recorder where it has met a fault
+-- the recorder after an error
 abbrev pub failed_with : RecorderFault → RecorderReading → RecorderReading
 failed_with fault recorder =
     record {
@@ -161,7 +161,7 @@ with_same Client text framer old p q =
 with_same Adapter text framer old p q =
     ap (λ f. with_framer Adapter f text old) p ∙ ap (λ t. with_framer Adapter old.adapter t old) q
 
--- where no fault was met each framer stands for a rest
+-- if no error occurred, each framer represents a rest
 some_rest : (side : Side) (recorder : RecorderReading) → IsConsistent recorder
     → recorder.fault ≡ None
     → (rest : List ℕ) × Stands (framer_of recorder side) rest
@@ -208,7 +208,8 @@ failed_consistent_with Adapter text framer fault old is limits =
       going = λ none. absurd (some_fault fault none);
     }
 
--- What a call for this side left: of its framer and the text, and the other framer as it was.
+-- The effect of a call for this side: its framer and the text may change; the other framer is
+-- unchanged.
 pub record Took (side : Side) (piece : List ℕ) (old new : RecorderReading)
     (recorded : Result ℕ FrameFault) : Type 0 where
   pub framer : Reading
@@ -241,7 +242,7 @@ took_by s side piece text old new framer result recorded is new_is same used lim
 
 module _ (side : Side) (piece : List ℕ) (old new : RecorderReading) (recorded : Result ℕ FrameFault)
     (took : Took side piece old new recorded) where
-  -- bytes were used: the piece is within the frame, or ends it
+  -- bytes were consumed: the piece is inside the frame, or ends it
   pub gives_used : (used : ℕ) → recorded ≡ Ok used → (rests : Side → List ℕ)
       → StandsForRests old rests
       → GivesPiece side rests piece old new (Ok used)
@@ -286,7 +287,7 @@ module _ (side : Side) (piece : List ℕ) (old new : RecorderReading) (recorded 
         text = ap text_of took.new_is ∙ text_with side took.text took.framer old ∙ takes.text;
       }
 
-  -- memory was wanted
+  -- an allocation failed
   pub wants : (cause : FrameFault) → recorded ≡ Err cause → cause ≡ Memory
       → (rests : Side → List ℕ) → StandsForRests old rests
       → WantsMemory old.limits (rests side) piece

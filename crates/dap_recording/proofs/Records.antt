@@ -45,7 +45,7 @@ module _ (limits : FrameLimits) where
   pub readable : IsReadable (records limits)
   readable = record { grammar = record_grammar; open_none = open_none }
 
-  -- a marker, a frame and a byte behind it
+  -- a marker, a frame and a byte after it
   pub ends_line : (side : Side) (frame content : List ℕ) (byte : ℕ)
       (result : Result (Side × List ℕ) RecordCause)
       → IsFrame limits frame content → EndsLine (side, content) byte result
@@ -54,7 +54,7 @@ module _ (limits : FrameLimits) where
       in_second (marker side ∷ []) (frame ++ byte ∷ []) side refl (a_marker BadMarker side)
       (in_second frame (byte ∷ []) content refl is ([], byte, refl, refl, says))
 
-  -- a fault of a record is one of its marker, of its frame, or of its end
+  -- an error of a record is one of its marker, of its frame, or of its end
   pub fault_of : (bytes : List ℕ) (cause : RecordCause) → (records limits).Ends bytes (Err cause)
       → (cause ≡ BadMarker)
       ⊎ ((cause ≡ NoLineEnd)

@@ -1,4 +1,4 @@
--- What is written is a record.
+-- The output is a record.
 use Rattle.std.proofs.Common.{◌≤◌, List, [], ◌∷◌, length, ℕ, Ok, refl}
 use Rattle.std.specs.List.{AllByRecursion}
 use Rattle.dap_frame.specs.declared.limits.FrameLimits.{FrameLimits}

@@ -1,4 +1,4 @@
--- Pieces are the items of a grammar: a marker, the line of a count, and so many raw bytes.
+-- Pieces are the items of a grammar: a marker, a count line, and as many raw bytes as it states.
 use Rattle.std.proofs.Common.{◌≡◌, ◌⊎◌, ℕ, ◌<◌, inl, inr, List, [], ◌∷◌, ◌++◌, length, Err, refl}
 use Rattle.std.proofs.Common.{sym, ap, ◌∙◌}
 use Rattle.std.proofs.lemmas.List.{append_assoc}
@@ -63,7 +63,7 @@ parts_of bytes side raw
           ∙ ap (λ p. (marker p.0 ∷ text) ++ 10 ∷ p.1) (sym same);
     }
 
--- what is open behind a marker
+-- incomplete bytes after a marker
 pub open_in_count : (bytes text : List ℕ) (side : Side) → bytes ≡ marker side ∷ text
     → IsCountFront text → IsOpenPiece bytes
 open_in_count bytes text side e begun =
@@ -76,7 +76,7 @@ open_in_raw bytes text raw side e is short =
     (second_open (text ++ 10 ∷ []) raw (number_of text) (sym (append_assoc text (10 ∷ []) raw))
     (a_count text is) short)
 
--- a fault of a piece is one of its marker or of its count
+-- an error of a piece is one of its marker or of its count
 pub fault_of : (bytes : List ℕ) (cause : TraceCause) → pieces_of.Ends bytes (Err cause)
     → (cause ≡ BadMarker) ⊎ (cause ≡ BadCount)
 fault_of bytes cause (in_first other (front, byte, e, none, says) u) =

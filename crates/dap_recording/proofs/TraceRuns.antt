@@ -1,4 +1,4 @@
--- Calls of a reader of traces over any inputs give the runs of the pieces in them.
+-- Calls of a reader of traces over any inputs return the runs of the pieces in the inputs.
 use Rattle.std.proofs.Common.{◌≡◌, ◌≢◌, ℕ, ◌<◌, ◌≤◌, ◌⊎◌, inl, inr, List, [], ◌∷◌, ◌++◌, length}
 use Rattle.std.proofs.Common.{take, drop, Option, Some, None, MatchOption, Err, refl, sym, ap, ◌∙◌}
 use Rattle.std.proofs.Common.{subst, arith}
@@ -50,7 +50,7 @@ all_push : (P : Run → Type 0) (runs : List Run) (run : Run) → AllByRecursion
 all_push P [] run all is = (is, tt)
 all_push P (r ∷ runs) run all is = (all.0, all_push P runs run all.1 is)
 
--- runs that are not empty and joined are no bytes are none
+-- if the concatenation of non-empty runs is empty, there are no runs
 no_runs : (number : ℕ) (side : Side) (runs : List Run) → AreRunsOf number side [] runs → runs ≡ []
 no_runs number side [] are = refl
 no_runs number side (run ∷ runs) are =
@@ -60,7 +60,7 @@ no_runs number side (run ∷ runs) are =
     front [] ys e = refl
     front (x ∷ xs) ys e = absurd (let f : ⊥ = cc in f)
 
--- one run more at the end
+-- one more run at the end
 run_push : (number : ℕ) (side : Side) (raw bytes : List ℕ) (runs : List Run)
     → AreRunsOf number side raw runs → bytes ≢ []
     → AreRunsOf number side (raw ++ bytes) (runs
@@ -115,7 +115,7 @@ same_side number s t raw rest input more runs are (inr its) begins =
 module _ (reader new : TraceReading) (inputs left : List (List ℕ)) (input : List ℕ)
     (runs : List Run) (used : ℕ)
     (was : ReadSoFar reader inputs (input ∷ left) runs) (within : used ≤ length input) where
-  -- no run came
+  -- no run was returned
   no_run : used ≡ length input
       → StandsForPiece new (number_behind was.pieces) (was.rest ++ input) was.raw
       → ReadSoFar new inputs (drop used input ∷ left) (runs ++ [])

@@ -1,4 +1,4 @@
--- What a reader of traces stands for once it has read on.
+-- The bytes that a reader of traces represents after it has read more.
 use Rattle.std.proofs.Common.{◌≡◌, ◌≢◌, ℕ, suc, ◌+◌, ◌-◌, ◌*◌, ◌^◌, ◌<◌, ◌≤◌, ◌⊎◌, inl, inr, ⊎_elim}
 use Rattle.std.proofs.Common.{Bool, true, false, ◌&&◌, List, [], ◌∷◌, ◌++◌, length, take, drop}
 use Rattle.std.proofs.Common.{get_or, refl, sym, ap, ◌∙◌, subst, arith, add-one}
@@ -61,7 +61,7 @@ module _ (count next : Count) (text : List ℕ) (byte : ℕ) (was : IsCountOf co
         other = λ e. inr (first_other text byte (was.other plain) (λ n. apart e (none n)));
       }
 
--- at first
+-- at the start
 pub no_digits : (count : Count) → count.digits ≡ 0 → count.number ≡ 0 → count.is_zero ≡ false
     → IsCountOf count []
 no_digits count digits number plain = record {
@@ -74,7 +74,7 @@ no_digits count digits number plain = record {
   other = λ e. inl refl;
 }
 
--- the count goes on over one byte more of the rest
+-- the count continues over one more byte of the rest
 pub on : (next : Count) (text rest : List ℕ) (at : ℕ) → at < length rest
     → IsCountOf next ((text ++ take at rest) ++ get_or rest at 0 ∷ [])
     → IsCountOf next (text ++ take (at + 1) rest)

@@ -1,4 +1,5 @@
--- What the reader of traces keeps of a count, and what it makes of a byte and of bytes.
+-- The stored state of a count in the reader of traces, and the effect of a byte and of several
+-- bytes.
 use Rattle.std.specs.Prelude.{◌≡◌, ◌≢◌, ℕ, ◌^◌, ◌<◌, ◌≤◌, ◌⊎◌, true, false, List, [], ◌∷◌, ◌++◌}
 use Rattle.std.specs.Prelude.{length, take, slice_index}
 use Rattle.std.specs.List.{list_all}
@@ -11,7 +12,7 @@ use Rattle.dap_recording.specs.declared.count.CountEnd.{CountEnd}
 use Rattle.dap_recording.specs.declared.count.CountEnd.TheVariants as end
 use Rattle.dap_recording.specs.Trace.{IsCount, IsBadAt}
 
--- What is kept is that of these digits, which are a count or none.
+-- The state represents these digits, which are a count or the empty list.
 pub record IsCountOf (count : Count) (text : List ℕ) : Type 0 where
   pub digits : count.digits ≡ length text
   pub number : count.number ≡ number_of text
@@ -21,13 +22,13 @@ pub record IsCountOf (count : Count) (text : List ℕ) : Type 0 where
   pub zero : count.is_zero ≡ true → text ≡ 48 ∷ []
   pub other : count.is_zero ≡ false → (text ≡ []) ⊎ (slice_index text 0 ≢ 48)
 
--- what a byte behind these digits makes of them
+-- the effect of one byte after these digits
 abbrev pub Steps : List ℕ → ℕ → CountStep → Type 0
 Steps text byte (step.More next) = IsCountOf next (text ++ byte ∷ [])
 Steps text byte step.Ended = (byte ≡ 10) × IsCount text
 Steps text byte step.Bad = IsBadAt text byte
 
--- what bytes behind these digits make of them
+-- the effect of bytes after these digits
 abbrev pub Ends : List ℕ → List ℕ → CountEnd → Type 0
 Ends text rest (end.More next) = IsCountOf next (text ++ rest)
 Ends text rest (end.Ended used number) =
@@ -36,7 +37,7 @@ Ends text rest (end.Ended used number) =
 Ends text rest end.Bad = (k : ℕ) × (k < length rest)
     × IsBadAt (text ++ take k rest) (slice_index rest k)
 
--- the LF of a count that ended is one of the bytes
+-- the LF of a complete count is one of the bytes
 abbrev pub IsEndWithin : List ℕ → CountEnd → Type 0
 IsEndWithin rest (end.More next) = Unit {0}
 IsEndWithin rest (end.Ended used number) = (0 < used) × (used ≤ length rest)

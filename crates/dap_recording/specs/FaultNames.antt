@@ -1,4 +1,4 @@
--- The names of what a recording and a trace are refused for, as they are written. Source: own.
+-- The names of the errors of recordings and traces, as they are written. Source: own.
 use Rattle.std.specs.Prelude.{ℕ, List, codes}
 use Rattle.dap_frame.specs.FaultName.{fault_name}
 use Rattle.dap_recording.specs.declared.record_fault.RecordCause.{RecordCause}

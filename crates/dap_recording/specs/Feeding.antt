@@ -1,6 +1,6 @@
--- Calls of the readers and the recorder over a whole input, one after another. Each call gets what
--- is left of the present piece, a piece that is used up leads to the next, and a call that answered
--- Memory may be made again.
+-- Calls of the readers and the recorder over a complete input, one after another. Each call
+-- receives the rest of the current chunk. When the rest is empty, the next chunk follows. A call
+-- that returned `Memory` may be repeated.
 use Rattle.std.specs.Prelude.{◌≡◌, ℕ, List, [], ◌∷◌, drop, Option, Some, None, Result, Ok, Err}
 use Rattle.dap_items.specs.Feeding.{Calls, Feeds}
 use Rattle.dap_tree.specs.declared.side.Side.{Side}
@@ -18,7 +18,8 @@ use Rattle.dap_recording.specs.RecorderReading.{RecorderReading, StandsForRests,
 use Rattle.dap_recording.specs.RecorderReading.{recorder_limits}
 use Rattle.dap_recording.specs.TraceReading.{TraceReading, StandsForPiece, GivesTrace}
 
--- What the contract of one call of `RecordReader::feed` says of the reader before it and after it.
+-- The contract of one call of `RecordReader::feed` states these facts about the reader before and
+-- after it.
 pub record IsRecordCall (old : RecordReading) (piece : List ℕ)
     (result : Result FedRecord RecordFault) (new : RecordReading) : Type 0 where
   pub gives : (number : ℕ) (bytes : List ℕ) → StandsFor old number bytes
@@ -30,7 +31,7 @@ abbrev pub message_in : Option Record → List (Side × List ℕ)
 message_in None = []
 message_in (Some whole) = (whole.side, whole.content) ∷ []
 
--- what `RecordReader::feed` gives
+-- the calls of `RecordReader::feed`, by their contract
 abbrev pub record_calls : Calls RecordReading FedRecord (Side × List ℕ)
 record_calls = record {
   used = λ fed. fed.used;
@@ -40,13 +41,14 @@ record_calls = record {
       × (fault.cause ≡ cause.Memory);
 }
 
--- Calls of `RecordReader::feed`, from the first reader on and over these pieces, have given these
--- messages so far.
+-- Calls of `RecordReader::feed`, from the first reader on and over these chunks, have returned
+-- these messages.
 abbrev pub FeedsRecords : RecordReading → List (List ℕ) → List (Side × List ℕ) → List (List ℕ)
     → RecordReading → Type 0
 FeedsRecords = Feeds record_calls
 
--- What the contract of one call of `TraceReader::feed` says of the reader before it and after it.
+-- The contract of one call of `TraceReader::feed` states these facts about the reader before and
+-- after it.
 pub record IsTraceCall (old : TraceReading) (input : List ℕ) (result : Result FedTrace TraceFault)
     (new : TraceReading) : Type 0 where
   pub gives : (piece : ℕ) (bytes raw : List ℕ) → StandsForPiece old piece bytes raw
@@ -58,12 +60,12 @@ pub record Run : Type 0 where
   pub side : Side
   pub bytes : List ℕ
 
--- the run that was given, if one was
+-- the returned run, if any
 abbrev pub run_in : Option TracePart → List Run
 run_in None = []
 run_in (Some part) = record { piece = part.piece; side = part.side; bytes = part.bytes.now } ∷ []
 
--- what `TraceReader::feed` gives; it asks for no memory
+-- the calls of `TraceReader::feed`, by their contract; they do not allocate
 abbrev pub trace_calls : Calls TraceReading FedTrace Run
 trace_calls = record {
   used = λ fed. fed.used;
@@ -72,21 +74,22 @@ trace_calls = record {
   Refused = λ old input new. ⊥;
 }
 
--- Calls of `TraceReader::feed`, from the first reader on and over these inputs, have given these
--- runs so far.
+-- Calls of `TraceReader::feed`, from the first reader on and over these inputs, have returned these
+-- runs.
 abbrev pub FeedsTrace : TraceReading → List (List ℕ) → List Run → List (List ℕ) → TraceReading
     → Type 0
 FeedsTrace = Feeds trace_calls
 
--- What the contract of one call of `Recorder::piece` says of the recorder before it and after it.
+-- The contract of one call of `Recorder::piece` states these facts about the recorder before and
+-- after it.
 pub record IsPieceCall (old : RecorderReading) (side : Side) (piece : List ℕ)
     (result : Result ℕ RecorderFault) (new : RecorderReading) : Type 0 where
   pub gives : (rests : Side → List ℕ) → StandsForRests old rests
       → GivesPiece side rests piece old new result
   pub limits : recorder_limits new ≡ recorder_limits old
 
--- Calls of `Recorder::piece`, from the first recorder on and over these pieces in order, have left
--- these pieces, and the recorder is now this one.
+-- Calls of `Recorder::piece`, from the first recorder on and over these pieces in order: `left` are
+-- the remaining pieces, and the last argument is the current recorder.
 pub data Records (first : RecorderReading) (pieces : List (Side × List ℕ)) : List (Side × List ℕ)
     → RecorderReading → Type 0 where
   begun : Records first pieces pieces first

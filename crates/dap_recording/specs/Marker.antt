@@ -1,20 +1,20 @@
--- The bytes that stand for the two sides. A byte is its number: 62 is `>`, 60 is `<`.
+-- The bytes that represent the two sides. A byte is its number: 62 is `>`, 60 is `<`.
 use Rattle.std.specs.Prelude.{◌≡◌, ◌≢◌, ℕ, Result, Ok, Err}
 use Rattle.dap_items.specs.Items.{Items}
 use Rattle.dap_items.specs.Then.{a_byte}
 use Rattle.dap_tree.specs.declared.side.Side.{Side}
 use Rattle.dap_tree.specs.declared.side.Side.TheVariants.{Client, Adapter}
 
--- the byte that begins what a side sent: `>` from the client, `<` from the adapter (own)
+-- the first byte of a side's records and pieces: `>` for the client, `<` for the adapter (own)
 abbrev pub marker : Side → ℕ
 marker Client = 62
 marker Adapter = 60
 
--- The byte is the marker of no side.
+-- The byte is not a marker.
 abbrev pub IsNoMarker : ℕ → Type 0
 IsNoMarker byte = (byte ≢ 62) × (byte ≢ 60)
 
--- what a byte says of a side: it is its marker, or shows this fault
+-- a byte is the marker of a side, or it proves this error
 abbrev pub SaysSide : {F : Type 0} → F → ℕ → Result Side F → Type 0
 SaysSide bad byte (Ok side) = byte ≡ marker side
 SaysSide bad byte (Err fault) = IsNoMarker byte × (fault ≡ bad)

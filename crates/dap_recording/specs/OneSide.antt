@@ -1,5 +1,5 @@
--- What a piece of one side gives to a recording. `rest` is what came of the side's present frame
--- before the piece.
+-- The effect of a piece of one side on a recording. `rest` are the bytes of the side's current
+-- frame before the piece.
 use Rattle.std.specs.Prelude.{◌≡◌, ◌≢◌, ℕ, ◌<◌, ◌⊎◌, List, [], ◌++◌, length, take, Result, Ok}
 use Rattle.std.specs.Prelude.{Err}
 use Rattle.dap_frame.specs.declared.limits.FrameLimits.{FrameLimits}
@@ -10,19 +10,19 @@ use Rattle.dap_frame.specs.Reading.{Reading, Stands}
 use Rattle.dap_tree.specs.declared.side.Side.{Side}
 use Rattle.dap_recording.specs.Recording.{record_text}
 
--- The piece takes memory: it is not empty, and with it a byte of the frame's content has come, or a
--- frame has ended, whose record has to be appended.
+-- The piece may need memory: it is not empty; and with it a byte of the frame's content has
+-- arrived, or a frame has ended, whose record is appended.
 abbrev pub WantsMemory : FrameLimits → List ℕ → List ℕ → Type 0
 WantsMemory limits rest piece = (0 < length piece)
     × (HasContentByte limits (rest ++ piece) ⊎ HasFrame limits (rest ++ piece))
 
--- The whole piece was taken, and the frame goes on.
+-- The whole piece was consumed, and the frame continues.
 pub record TakesAll (rest piece before after : List ℕ) (new : Reading) (used : ℕ) : Type 0 where
   pub all : used ≡ length piece
   pub text : after ≡ before
   pub stands : Stands new (rest ++ piece)
 
--- So much of the piece was taken, a frame ended there, and its record was appended.
+-- `used` bytes of the piece were consumed. A frame ended there, and its record was appended.
 pub record TakesFrame (limits : FrameLimits) (side : Side) (rest piece before after : List ℕ)
     (new : Reading) (used : ℕ) : Type 0 where
   pub content : List ℕ
@@ -30,8 +30,8 @@ pub record TakesFrame (limits : FrameLimits) (side : Side) (rest piece before af
   pub text : after ≡ before ++ record_text side content
   pub stands : Stands new []
 
--- The fault that was told: that of memory, which the piece takes, and nothing is changed; or one
--- that the rest and the piece show.
+-- The returned error is `Memory`, the piece may need memory, and nothing is changed; or the rest
+-- and the piece prove the error.
 pub record TakesFault (limits : FrameLimits) (rest piece before after : List ℕ) (old new : Reading)
     (fault : FrameFault) : Type 0 where
   pub text : after ≡ before
@@ -39,7 +39,7 @@ pub record TakesFault (limits : FrameLimits) (rest piece before after : List ℕ
   pub wanted : fault ≡ Memory → WantsMemory limits rest piece
   pub shown : fault ≢ Memory → (i : ℕ) × Shows limits (rest ++ piece) fault i
 
--- what a call gives where the framer stood for the rest
+-- the result of a call if the framer represented the rest
 abbrev pub Takes : FrameLimits → Side → List ℕ → List ℕ → List ℕ → List ℕ → Reading → Reading
     → Result ℕ FrameFault → Type 0
 Takes limits side rest piece before after old new (Ok used) =

@@ -9,14 +9,14 @@ use Rattle.dap_recording.specs.Recording.{recording_text}
 use Rattle.dap_recording.specs.RecorderReading.{RecorderReading, StandsForRests, text_of}
 use Rattle.dap_recording.specs.RecorderReading.{recorder_limits}
 
--- whether the two are one side
+-- whether the two sides are equal
 abbrev pub is_side : Side → Side → Bool
 is_side Client Client = true
 is_side Client Adapter = false
 is_side Adapter Client = false
 is_side Adapter Adapter = true
 
--- what the side sent, without that of the other
+-- the data that the side sent, without that of the other side
 abbrev pub of_side : {A : Type 0} → Side → List (Side × A) → List A
 of_side side sent = map (λ x. x.1) (filter (λ x. is_side side x.0) sent)
 
@@ -24,16 +24,15 @@ of_side side sent = map (λ x. x.1) (filter (λ x. is_side side x.0) sent)
 abbrev pub bytes_of : List (Side × List ℕ) → List (Side × ℕ)
 bytes_of pieces = flat_map (λ piece. map (λ byte. (piece.0, byte)) piece.1) pieces
 
--- In these bytes, of each side the frames that have ended are those of these messages, and this
--- rest has not ended (own).
+-- For each side, the frames of these messages have ended in these bytes, and this rest is
+-- incomplete (own).
 abbrev pub HaveEnded : FrameLimits → List (Side × ℕ) → List (Side × List ℕ) → (Side → List ℕ)
     → Type 0
 HaveEnded limits bytes messages rests =
     (side : Side) → Stream limits (of_side side bytes) (of_side side messages) (rests side)
 
--- The messages are those of the bytes, in the order of the bytes that end their frames (own):
--- whatever front of the bytes has come, the frames that have ended in it are a front of the
--- messages.
+-- The messages are those of the bytes, in the order of the bytes that end their frames (own): for
+-- each prefix of the bytes, the frames that have ended in it are a prefix of the messages.
 pub record AreRecorded (limits : FrameLimits) (bytes : List (Side × ℕ))
     (messages : List (Side × List ℕ)) (rests : Side → List ℕ) : Type 0 where
   pub all : HaveEnded limits bytes messages rests
@@ -41,8 +40,8 @@ pub record AreRecorded (limits : FrameLimits) (bytes : List (Side × ℕ))
       → (before : List (Side × List ℕ)) × (after : List (Side × List ℕ)) × (others : Side → List ℕ)
       × (messages ≡ before ++ after) × HaveEnded limits front before others
 
--- Of the trace's pieces, all but those left have been taken: the recorder stands for the rests of
--- what was taken, and its text has the records of what was taken, in order.
+-- All pieces of the trace except the remaining ones have been consumed. The recorder represents the
+-- rests of the consumed bytes, and its text has their records, in order.
 pub record RecordedSoFar (first last : RecorderReading) (pieces left : List (Side × List ℕ)) : Type
     0 where
   pub taken : List (Side × ℕ)

@@ -1,11 +1,11 @@
--- What callers see of a recorder's fields, and what always holds of the fields.
+-- The view of a recorder's fields that callers have, and the invariant of the fields.
 use Rattle.std.specs.Prelude.{◌≡◌, List, ℕ, None}
 use Rattle.dap_frame.specs.Limits.{IsSound}
 use Rattle.dap_frame.specs.Reading.{Stands, limits_of}
 use Rattle.dap_recording.specs.declared.recorder.Recorder.TheInside.{Inside}
 use Rattle.dap_recording.specs.RecorderReading.{RecorderReading}
 
--- what callers see: all of it
+-- the view of callers: all fields
 abbrev pub reading : Inside → RecorderReading
 reading a =
     record {
@@ -16,8 +16,8 @@ reading a =
       fault = a.fault;
     }
 
--- The fields fit each other: both framers have the recorder's limits, and stand for some rests
--- where no fault was met.
+-- The fields are consistent: both framers have the recorder's limits, and represent some rests if
+-- no error occurred.
 pub record IsConsistent (recorder : RecorderReading) : Type 0 where
   pub sound : IsSound recorder.limits
   pub client_limits : limits_of recorder.client ≡ recorder.limits

@@ -1,5 +1,5 @@
--- What a recorder is to its callers: the rest of each side's stream that it stands for, its text,
--- and what a call gives.
+-- The rest of each side's stream that a recorder represents to its callers, its text, and the
+-- result of a call.
 use Rattle.std.specs.Prelude.{◌≡◌, ℕ, ◌≤◌, ◌⊎◌, List, [], ◌++◌, length, take, Result, Ok, Err}
 use Rattle.std.specs.Prelude.{Option, Some, None}
 use Rattle.dap_frame.specs.declared.limits.FrameLimits.{FrameLimits}
@@ -12,8 +12,8 @@ use Rattle.dap_recording.specs.declared.recorder_fault.RecorderFault.{RecorderFa
 use Rattle.dap_recording.specs.declared.recorder_fault.RecorderFault.TheVariants.{Frame, Memory}
 use Rattle.dap_recording.specs.Recording.{record_text}
 
--- What is kept: the limits, a framer for each side, the recording so far, and the fault that was
--- met. Callers need only `recorder_limits`, `text_of`, `HasFailedWith` and `StandsForRests` of it.
+-- The stored state: the limits, a framer for each side, the recording so far, and the error that
+-- occurred. Callers need only `recorder_limits`, `text_of`, `HasFailedWith` and `StandsForRests`.
 pub record RecorderReading : Type 0 where
   pub limits : FrameLimits
   pub client : Reading
@@ -29,36 +29,38 @@ recorder_limits recorder = recorder.limits
 abbrev pub text_of : RecorderReading → List ℕ
 text_of recorder = recorder.text
 
--- what is kept of a side's present frame
+-- the state of a side's current frame
 abbrev pub framer_of : RecorderReading → Side → Reading
 framer_of recorder Client = recorder.client
 framer_of recorder Adapter = recorder.adapter
 
--- The recorder has met this fault.
+-- This error occurred before.
 abbrev pub HasFailedWith : RecorderReading → RecorderFault → Type 0
 HasFailedWith recorder fault = recorder.fault ≡ Some fault
 
--- The recorder stands for these rests of the two sides' streams, which are open by its limits.
+-- The recorder represents these rests of the two sides' streams, which are incomplete under its
+-- limits.
 pub record StandsForRests (recorder : RecorderReading) (rests : Side → List ℕ) : Type 0 where
   pub going : recorder.fault ≡ None
   pub limits : (side : Side) → limits_of (framer_of recorder side) ≡ recorder_limits recorder
   pub each : (side : Side) → Stands (framer_of recorder side) (rests side)
 
--- the rests with another one of this side
+-- the rests, with another one for this side
 abbrev pub with_rest : Side → List ℕ → (Side → List ℕ) → Side → List ℕ
 with_rest Client rest rests Client = rest
 with_rest Client rest rests Adapter = rests Adapter
 with_rest Adapter rest rests Client = rests Client
 with_rest Adapter rest rests Adapter = rest
 
--- The whole piece was taken, and the side's frame goes on.
+-- The whole piece was consumed, and the side's frame continues.
 pub record GoesOn (side : Side) (rests : Side
     → List ℕ) (piece : List ℕ) (old new : RecorderReading) (used : ℕ) : Type 0 where
   pub all : used ≡ length piece
   pub text : text_of new ≡ text_of old
   pub stands : StandsForRests new (with_rest side (rests side ++ piece) rests)
 
--- So much of the piece was taken, a frame of the side ended there, and its record was appended.
+-- `used` bytes of the piece were consumed. A frame of the side ended there, and its record was
+-- appended.
 pub record HasRecorded (side : Side) (rests : Side
     → List ℕ) (piece : List ℕ) (old new : RecorderReading) (used : ℕ) : Type 0 where
   pub within : used ≤ length piece
@@ -67,7 +69,7 @@ pub record HasRecorded (side : Side) (rests : Side
   pub text : text_of new ≡ text_of old ++ record_text side content
   pub stands : StandsForRests new (with_rest side [] rests)
 
--- A fault of the side's frame, which its rest and the piece show; the text is kept.
+-- An error of the side's frame, which its rest and the piece prove. The text is unchanged.
 pub record HasNotRecorded (side : Side) (rests : Side
     → List ℕ) (piece : List ℕ) (old new : RecorderReading) (fault : RecorderFault) : Type 0 where
   pub cause : FrameFault
@@ -76,7 +78,8 @@ pub record HasNotRecorded (side : Side) (rests : Side
   pub failed : HasFailedWith new fault
   pub text : text_of new ≡ text_of old
 
--- What a call gives where the recorder stood for the rests, and what the recorder is then.
+-- The result of a call if the recorder represented the rests, and the rests that it represents
+-- then.
 abbrev pub GivesPiece : Side → (Side → List ℕ) → List ℕ → RecorderReading → RecorderReading
     → Result ℕ RecorderFault → Type 0
 GivesPiece side rests piece old new (Ok used) =

@@ -1,5 +1,5 @@
--- Recordings, and what the bytes of one hold. The format is this project's own; its frames are
--- those of the DAP base protocol. A message is its side and its content.
+-- Recordings, and what their bytes contain. The format is this project's own. Its frames are those
+-- of the DAP base protocol. A message is its side and its content.
 use Rattle.std.specs.Prelude.{◌≡◌, ◌≢◌, ℕ, List, [], ◌∷◌, ◌++◌, Result, Ok, Err}
 use Rattle.std.specs.List.{flat_map}
 use Rattle.dap_items.specs.Items.{Items, IsItem, AreItems, HasItem, IsStream, Shows}
@@ -20,13 +20,13 @@ record_text side content = (marker side ∷ frame_text content) ++ 10 ∷ []
 abbrev pub recording_text : List (Side × List ℕ) → List ℕ
 recording_text messages = flat_map (λ message. record_text message.0 message.1) messages
 
--- what the byte behind a frame says (own): it is LF, and the record is of this message, or it shows
--- a fault
+-- the byte after a frame (own): it is LF and completes the record of this message, or it proves an
+-- error
 abbrev pub EndsLine : Side × List ℕ → ℕ → Result (Side × List ℕ) RecordCause → Type 0
 EndsLine message byte (Ok whole) = (byte ≡ 10) × (whole ≡ message)
 EndsLine message byte (Err cause) = (byte ≢ 10) × (cause ≡ NoLineEnd)
 
--- a frame of this side and the byte behind it
+-- a frame of this side and the byte after it
 abbrev pub lines : FrameLimits → Side → Items (Side × List ℕ) RecordCause
 lines limits side = and_then (frames limits) (λ content. a_byte (EndsLine (side, content))) Frame
 
@@ -38,12 +38,12 @@ records limits = and_then (markers BadMarker) (lines limits) (λ cause. cause)
 abbrev pub IsRecord : FrameLimits → List ℕ → Side → List ℕ → Type 0
 IsRecord limits bytes side content = IsItem (records limits) bytes (side, content)
 
--- The bytes behind whole records may still become a record (own): none has come, or a front of its
--- frame, or all but its LF.
+-- The bytes after complete records are incomplete (own): there are none, a proper prefix of the
+-- frame, or everything except the LF.
 abbrev pub IsOpenRecord : FrameLimits → List ℕ → Type 0
 IsOpenRecord limits = (records limits).IsOpen
 
--- the words of items, of records
+-- the general definitions for items, applied to records
 abbrev pub IsRecording : FrameLimits → List ℕ → List (Side × List ℕ) → Type 0
 IsRecording limits = AreItems (records limits)
 

@@ -1,4 +1,4 @@
--- Runs of raw bytes, and the pieces that they are joined.
+-- Runs of raw bytes, and the pieces whose concatenations they are.
 use Rattle.std.specs.Prelude.{◌≡◌, ◌≢◌, ℕ, ◌⊎◌, List, [], ◌∷◌, ◌++◌}
 use Rattle.std.specs.List.{concat, flat_map, AllByRecursion}
 use Rattle.dap_tree.specs.declared.side.Side.{Side}
@@ -8,19 +8,20 @@ use Rattle.dap_recording.specs.Trace.{IsTrace}
 use Rattle.dap_recording.specs.TraceReading.{TraceReading, StandsForPiece}
 use Rattle.dap_recording.specs.Feeding.{Run}
 
--- The runs are of this number and side, none is empty, and joined they are these bytes.
+-- The runs have this number and side, no run is empty, and their concatenation is these bytes.
 pub record AreRunsOf (number : ℕ) (side : Side) (raw : List ℕ) (runs : List Run) : Type 0 where
   pub each : AllByRecursion (λ run. (run.piece ≡ number) × (run.side ≡ side)
       × (run.bytes ≢ [])) runs
   pub joined : flat_map (λ run. run.bytes) runs ≡ raw
 
--- The runs of a whole piece (own): those of its raw bytes, or one empty run where it has none.
+-- The runs of a complete piece (own): those of its raw bytes, or one empty run if it has no raw
+-- bytes.
 abbrev pub AreRunsOfPiece : ℕ → Side → List ℕ → List Run → Type 0
 AreRunsOfPiece number side raw runs =
     ((raw ≢ []) × AreRunsOf number side raw runs)
     ⊎ ((raw ≡ []) × (runs ≡ record { piece = number; side = side; bytes = [] } ∷ []))
 
--- The runs are those of these pieces, one behind another, with the numbers behind those before.
+-- The runs are those of these pieces, in order. The pieces are numbered after those before.
 abbrev pub AreRunsOfPieces : List (Side × List ℕ) → List Run → List (Side × List ℕ) → Type 0
 AreRunsOfPieces before runs [] = runs ≡ []
 AreRunsOfPieces before runs (piece ∷ pieces) =
@@ -28,9 +29,9 @@ AreRunsOfPieces before runs (piece ∷ pieces) =
     × AreRunsOfPiece (number_behind before) piece.0 piece.1 mine
     × AreRunsOfPieces (before ++ piece ∷ []) others pieces
 
--- Of the inputs, all but those left have been taken: they are whole pieces and bytes of the next
--- one, for which the reader stands, and the runs are those of the pieces and then those of the next
--- one.
+-- All inputs except the remaining ones have been consumed. They are complete pieces and bytes of
+-- the next one, which the reader represents. The runs are those of the pieces, followed by those of
+-- the next one.
 pub record ReadSoFar (reader : TraceReading) (inputs left : List (List ℕ)) (runs : List Run) : Type
     0 where
   pub front : List ℕ

@@ -1,37 +1,37 @@
-//! The count of a trace's piece, read digit by digit.
+//! Reads the count of a trace piece, digit by digit.
 
 ghost use Rattle.std.specs.Prelude.{◌≡◌, ◌≢◌, ℕ, List, true, false};
 ghost use Rattle.dap_recording.specs.Count.{IsCountOf, Steps, Ends, IsEndWithin};
 
-/// The digits of a count that have come.
+/// The digits of a count so far.
 #[derive(Clone, Copy)]
 pub struct Count {
-    /// How many they are: 10 at most.
+    /// The number of digits, at most 10.
     pub digits: usize,
-    /// The number that they say.
+    /// The number that they represent.
     pub number: u64,
-    /// Whether the first of them is 0, so that no digit may follow.
+    /// Whether the first digit is 0. No digit may follow it.
     pub is_zero: bool,
 }
 
-/// What a byte makes of a count.
+/// The effect of one byte on a count.
 pub enum CountStep {
     More(Count),
     Ended,
     Bad,
 }
 
-/// What bytes make of a count.
+/// The effect of several bytes on a count.
 pub enum CountEnd {
-    /// They are digits, and the count goes on.
+    /// All are digits, and the count is not complete.
     More(Count),
-    /// Its LF is the last of the `used` first bytes.
+    /// The LF of the count is the last of the first `used` bytes.
     Ended { used: usize, number: u64 },
-    /// One of them is neither its next digit nor its LF.
+    /// A byte is neither the next digit of the count nor its LF.
     Bad,
 }
 
-/// Whether a digit is a 0 at the front of its count.
+/// Returns whether a digit is a leading 0.
 fn is_first_zero(digits: usize, digit: u8) -> bool
     ensures zero { result ≡ true → (digits ≡ 0) × (digit ≡ 48) }
     ensures other { result ≡ false → digits ≡ 0 → digit ≢ 48 }
@@ -39,7 +39,7 @@ fn is_first_zero(digits: usize, digit: u8) -> bool
     digits == 0 && digit == b'0'
 }
 
-/// One byte more of a count line.
+/// Returns the effect of one more byte of a count line.
 fn take_byte(count: Count, byte: u8) -> CountStep
     ensures { (text : List ℕ) → IsCountOf count text → Steps text byte result }
 {
@@ -68,7 +68,7 @@ fn take_byte(count: Count, byte: u8) -> CountStep
     })
 }
 
-/// Reads a count on to its LF.
+/// Reads the rest of a count, up to its LF.
 pub fn count_end(start: Count, rest: &[u8]) -> CountEnd
     ensures ends { (text : List ℕ) → IsCountOf start text → Ends text rest.now result }
     ensures within { IsEndWithin rest.now result }

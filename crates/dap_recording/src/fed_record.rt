@@ -1,12 +1,12 @@
-//! What a reader of records takes of a piece.
+//! The result of feeding a reader of records.
 use crate::record::Record;
 
-/// What a call of `RecordReader::feed` took of its piece.
+/// The part of its chunk that a call of `RecordReader::feed` consumed.
 #[derive(Debug, Drop)]
 pub struct FedRecord {
-    /// How many bytes of the piece were taken, from its front. The next call gets the rest.
+    /// The number of bytes consumed from the start of the chunk. Pass the rest to the next call.
     pub used: usize,
-    /// The record that ended at the last byte taken. `None`: the whole piece was taken, and no
-    /// record ended.
+    /// The record that ended at the last byte consumed. `None`: the whole chunk was consumed, and
+    /// no record ended.
     pub whole: Option<Record>,
 }

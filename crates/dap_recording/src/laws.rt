@@ -1,5 +1,6 @@
-//! Theorems on recordings and traces, which hold of all bytes, and on the readers and the recorder,
-//! which hold of all pieces. Each function does nothing: a call of it gives its clauses to a proof.
+//! Theorems on recordings and traces, which hold for all bytes, and on the readers and the
+//! recorder, which hold for all chunks. The functions do nothing: a call of one makes its clauses
+//! available to a proof.
 
 ghost use Rattle.dap_recording.specs.Laws.{OneRecord, NoEmptyRecord, OneCause, ShownWithin};
 ghost use Rattle.dap_recording.specs.Laws.{ShownOfFormat, ShownMore, ShownFront, ShownLater};
@@ -15,50 +16,51 @@ ghost use Rattle.dap_recording.specs.Laws.{SomeTraceOutcome, StandsOpenPiece, On
 ghost use Rattle.dap_recording.specs.Laws.{AnyTracePieces, AnyTraceInputs, FaultInAnyTraceInputs};
 ghost use Rattle.dap_recording.specs.Laws.{SomePieceStream, OnePieceStream};
 
-/// Bytes begin with at most one record, and no record is empty.
+/// Bytes start with at most one record, and the empty byte string is not a record.
 pub fn one_record()
     ensures one { OneRecord }
     ensures no_empty { NoEmptyRecord }
 {}
 
-/// Bytes show at most one fault, at one of them, and it is none of memory or of the end of a
-/// recording.
+/// Bytes prove at most one error, at one of the bytes, and it is neither `Cut` nor `Memory`.
 pub fn one_cause()
     ensures one { OneCause }
     ensures within { ShownWithin }
     ensures of_format { ShownOfFormat }
 {}
 
-/// A fault stays when more bytes come, does not lean on bytes behind the one that shows it, and is
-/// not shown by bytes that were open before.
+/// An error remains if more bytes follow. It does not depend on bytes after the one that proves it,
+/// and is not proved by bytes that were incomplete before.
 pub fn fault_stays()
     ensures more { ShownMore }
     ensures front { ShownFront }
     ensures later { ShownLater }
 {}
 
-/// A record, a fault and open bytes exclude one another.
+/// A record, an error and incomplete bytes exclude one another.
 pub fn one_outcome()
     ensures record_not_faulty { RecordNotFaulty }
     ensures record_not_open { RecordNotOpen }
     ensures open_not_faulty { OpenNotFaulty }
 {}
 
-/// Every byte string begins with a record, shows a fault, or is open. The empty one is open.
+/// Every byte string starts with a record, proves an error, or is incomplete. The empty byte string
+/// is incomplete.
 pub fn some_outcome()
     ensures some { SomeOutcome }
     ensures open_none { OpenNone }
 {}
 
-/// What `write_record` appends is a record of the message, and what it appends for messages one
-/// after another is a recording of them.
+/// The output of `write_record` is a record of the message. The output for several messages is a
+/// recording of them.
 pub fn written_is_record()
     ensures one { WrittenIsRecord }
     ensures all { WrittenIsRecording }
 {}
 
-/// Bytes are a recording of at most one list of messages, the empty text of none; and all bytes are
-/// records of just one list of messages and just one rest no front of which is a record.
+/// Bytes are a recording of at most one list of messages; the empty byte string is one of no
+/// messages. All bytes are records of exactly one list of messages, and exactly one rest that does
+/// not start with a record.
 pub fn one_recording()
     ensures empty { EmptyRecording }
     ensures one { OneRecording }
@@ -66,22 +68,23 @@ pub fn one_recording()
     ensures one_stream { OneRecordStream }
 {}
 
-/// Whatever the pieces, calls of `RecordReader::feed` give the records of the joined pieces, up to
-/// their end or to their fault. What a reader stands for is open.
+/// For any chunks, calls of `RecordReader::feed` return the records of the joined chunks, up to
+/// their end or to their error. The bytes that a reader represents are incomplete.
 pub fn any_record_pieces()
     ensures stands_open { StandsOpen }
     ensures records { AnyRecordPieces }
     ensures fault { FaultInAnyRecordPieces }
 {}
 
-/// Bytes begin with at most one piece of a trace, and no piece is empty.
+/// Bytes start with at most one piece of a trace, and the empty byte string is not a piece.
 pub fn one_piece()
     ensures one { OnePiece }
     ensures no_empty { NoEmptyPiece }
 {}
 
-/// Bytes show at most one fault of a trace, at one of them. It stays when more bytes come, does not
-/// lean on bytes behind the one that shows it, and is not shown by bytes that were open before.
+/// Bytes prove at most one error of a trace, at one of the bytes. It remains if more bytes follow.
+/// It does not depend on bytes after the one that proves it, and is not proved by bytes that were
+/// incomplete before.
 pub fn one_trace_cause()
     ensures one { OneTraceCause }
     ensures within { TraceShownWithin }
@@ -90,7 +93,8 @@ pub fn one_trace_cause()
     ensures later { TraceShownLater }
 {}
 
-/// All bytes begin with a piece, or show a fault of a trace, or are open, and just one of these.
+/// Every byte string does exactly one of these: it starts with a piece, proves an error of a trace,
+/// or is incomplete.
 pub fn one_trace_outcome()
     ensures some { SomeTraceOutcome }
     ensures piece_not_faulty { PieceNotFaulty }
@@ -99,21 +103,21 @@ pub fn one_trace_outcome()
     ensures stands_open { StandsOpenPiece }
 {}
 
-/// Whatever the pieces of a trace, calls of `Recorder::piece` record the frames of both sides in
-/// the order of the bytes that end them, and that is one order.
+/// For any pieces of a trace, calls of `Recorder::piece` record the frames of both sides in the
+/// order of the bytes that end them. There is only one such order.
 pub fn any_trace_pieces()
     ensures one { OneRecorded }
     ensures recorded { AnyTracePieces }
 {}
 
-/// Whatever the inputs, the runs that calls of `TraceReader::feed` give, joined piece by piece, are
-/// the pieces of the joined inputs, up to their end or to their fault.
+/// For any inputs, calls of `TraceReader::feed` return the runs of the joined inputs, up to their
+/// end or to their error. The runs of each piece, joined, are its raw bytes.
 pub fn any_trace_inputs()
     ensures runs { AnyTraceInputs }
     ensures fault { FaultInAnyTraceInputs }
 {}
 
-/// Bytes are just one list of pieces, and just one rest no front of which is a piece.
+/// Bytes are exactly one list of pieces, and exactly one rest that does not start with a piece.
 pub fn one_piece_stream()
     ensures some { SomePieceStream }
     ensures one { OnePieceStream }

@@ -1,14 +1,14 @@
-//! Recordings of Debug Adapter Protocol sessions, and traces of which they are made. Both formats
-//! are this project's own.
+//! Recordings of Debug Adapter Protocol sessions, and the traces that they are made from. Both
+//! formats are this project's own.
 //!
 //! A recording is a list of records: a marker, `>` for the client and `<` for the adapter, a frame
-//! of the base protocol, and LF. A [`RecordReader`] reads records from the pieces of a recording,
-//! and [`write_record`] writes one. `specs/Recording.antt` says what a recording is, and when bytes
-//! show a fault.
+//! of the base protocol, and LF. A [`RecordReader`] reads records from the chunks of a recording,
+//! and [`write_record`] writes one. `specs/Recording.antt` defines recordings and their errors.
 //!
-//! A trace is what went over the wire, cut anywhere: a list of pieces, each the marker of its side,
-//! the number of its bytes, LF, and the bytes. A [`TraceReader`] reads it (`specs/Trace.antt`), and
-//! a [`Recorder`] makes a recording of the frames in its pieces (`specs/RecordedTraces.antt`).
+//! A trace is the data on the wire, cut anywhere: a list of pieces, each with the marker of its
+//! side, the number of its bytes, LF, and the bytes. A [`TraceReader`] reads it
+//! (`specs/Trace.antt`), and a [`Recorder`] makes a recording of the frames in its pieces
+//! (`specs/RecordedTraces.antt`).
 //!
 //! [`laws`] has the theorems on these definitions.
 #![tactic(auto)]

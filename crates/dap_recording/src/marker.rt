@@ -1,10 +1,10 @@
-//! The bytes `>` and `<` that stand for the two sides.
+//! The bytes `>` and `<` that represent the two sides.
 ghost use Rattle.std.specs.Prelude.{◌≡◌, MatchOption};
 ghost use Rattle.dap_recording.specs.Marker.{marker, IsNoMarker};
 
 use dap_tree::Side;
 
-/// The byte that begins the records and the pieces of a side.
+/// Returns the byte that the records and pieces of a side start with.
 pub fn marker_of(side: Side) -> u8
     ensures { result ≡ marker side }
 {
@@ -14,7 +14,7 @@ pub fn marker_of(side: Side) -> u8
     }
 }
 
-/// The side whose records and pieces this byte begins.
+/// Returns the side whose records and pieces start with this byte.
 pub fn side_of(byte: u8) -> Option<Side>
     ensures { MatchOption result (IsNoMarker byte) (λ side. byte ≡ marker side) }
 {

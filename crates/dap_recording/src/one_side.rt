@@ -1,4 +1,4 @@
-//! The frames of one side of a trace.
+//! Reads the frames of one side of a trace.
 
 ghost use Rattle.std.specs.Prelude.{◌≡◌, ℕ, ◌<◌, ◌≤◌, ◌+◌, ◌++◌, List, length, take, IfOk, OnErr};
 ghost use Rattle.std.specs.Prelude.{OnOk, vec_capacity, vec_len};
@@ -12,8 +12,8 @@ use dap_frame::{FrameFault, FrameLimits, Framer};
 use dap_tree::Side;
 use std::alloc::AllocError;
 
-/// Makes room for the record of the frame that ends in the piece, if one does. If none does, it
-/// does not allocate.
+/// Reserves the capacity for the record of the frame that ends in the piece, if any. If no frame
+/// ends, it does not allocate.
 fn make_room(text: &mut Vec<u8>, framer: &Framer, piece: &[u8]) -> Result<(), AllocError>
     requires { IsSound (limits_of framer.now) }
     ensures items { text.new.items ≡ text.old.items }
@@ -35,7 +35,7 @@ fn make_room(text: &mut Vec<u8>, framer: &Framer, piece: &[u8]) -> Result<(), Al
 }
 
 /// Reads to the end of one frame or of the piece, and appends the record of a frame that ended.
-/// Makes room for the record first, so that nothing is read where there is none.
+/// Reserves the capacity for the record first. If that fails, nothing is read.
 pub fn record_frame(
     text: &mut Vec<u8>,
     framer: &mut Framer,

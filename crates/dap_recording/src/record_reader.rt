@@ -1,4 +1,4 @@
-//! Records read from the pieces of a recording.
+//! Reads records from the chunks of a recording.
 ghost use Rattle.std.specs.Prelude.{◌≡◌, ◌≢◌, ℕ, ◌<◌, ◌≤◌, ◌↔◌, List, [], ◌∷◌, ◌++◌, length, take};
 ghost use Rattle.std.specs.Prelude.{Err, IfErr, IfOk, IsOk, IsTrue};
 ghost use Rattle.dap_frame.specs.Limits.{IsSound};
@@ -20,15 +20,15 @@ use std::alloc::Global;
 use std::marker::Model;
 use std::mem;
 
-/// Reads records from the pieces of a recording, which may be cut anywhere.
+/// Reads records from the chunks of a recording, which may be cut anywhere.
 ///
-/// A reader stands for the number of the record that has not ended, and for the bytes of it that
-/// came. Of them it keeps the side and what a [`Framer`] keeps.
+/// A reader represents the number of the current, incomplete record, and the bytes of it so far. It
+/// stores the side and the state of a [`Framer`].
 ///
-/// To read a recording, make one reader with limits that are sound. Pass each piece to
-/// [`feed`](RecordReader::feed), and then again what is left of it behind `used`, until nothing is
-/// left: each answer with a record is the next one. At the end of the recording ask
-/// [`finish`](RecordReader::finish) whether it ended between two records.
+/// To read a recording, make one reader with sound limits. Pass each chunk to
+/// [`feed`](RecordReader::feed), then pass the rest of it after `used` again, until the rest is
+/// empty. Each result with a record is the next record. At the end of the recording,
+/// [`finish`](RecordReader::finish) returns whether it ended between two records.
 #[derive(Drop)]
 pub struct RecordReader {
     framer: Framer,
@@ -45,7 +45,7 @@ impl Model for RecordReader {
 }
 
 impl RecordReader {
-    /// A reader at the start of a recording. Takes no memory.
+    /// Returns a reader at the start of a recording. Does not allocate.
     pub fn new(alloc: Global, limits: FrameLimits) -> RecordReader
         requires { IsSound limits }
         ensures stands { StandsFor result 1 [] }
@@ -58,20 +58,26 @@ impl RecordReader {
         }
     }
 
-    /// Reads to the end of one record or of the piece, whichever is first.
+    /// Reads to the end of one record or of the chunk, whichever is first.
     ///
-    /// Answers every fault but `Cut`, with the number of the record that shows it. After `Memory`
-    /// the reader is unchanged and has used nothing, so the call may be made again with the same
-    /// piece. After another fault `feed` and [`finish`](RecordReader::finish) answer that fault
-    /// from then on. Only bytes of a content take memory, which the answered record then owns: an
-    /// empty piece takes none, and neither does a fault of a marker or of a header part.
+    /// Allocates only for bytes of a content, and the returned record then owns them. An empty
+    /// chunk and an error of a marker or of a header part need no memory.
+    ///
+    /// # Errors
+    ///
+    /// An error has the number of the record in which it occurs.
+    ///
+    /// - `Memory`: an allocation failed. The reader is unchanged and has consumed nothing. The call
+    ///   may be repeated with the same chunk.
+    /// - Any error except `Cut`: the bytes so far prove it. After that, `feed` and
+    ///   [`finish`](RecordReader::finish) always return this error.
     pub fn feed(&mut self, piece: &[u8]) -> Result<FedRecord, RecordFault>
         ensures gives { (number : ℕ) (bytes : List ℕ) → StandsFor self.old number bytes
             → GivesRecord (record_limits self.old) number bytes piece.now result self.new }
         ensures used { IfOk result (λ fed. fed.used ≤ length piece.now) }
         ensures progress { IfOk result (λ fed. 0 < length piece.now → 0 < fed.used) }
 
-        // What stands after a fault.
+        // The state after an error.
         ensures memory { IfErr result (λ fault.
             fault.cause ≡ RecordCause.Memory → self.new ≡ self.old) }
         ensures failed { (fault : _) → HasFailedAt self.old fault
@@ -96,8 +102,8 @@ impl RecordReader {
         }
     }
 
-    /// Whether the piece begins with a whole record. What the reader stands for is of no matter.
-    /// Takes no memory.
+    /// Returns whether the chunk starts with a complete record. The result does not depend on what
+    /// the reader represents. Does not allocate.
     pub fn has_record(&self, piece: &[u8]) -> bool
         ensures { IsTrue result → HasRecord (record_limits self.now) piece.now }
     {
@@ -113,15 +119,15 @@ impl RecordReader {
         }
     }
 
-    /// Keeps the memory of a record that is done with, for the records to come. Nothing else is
-    /// changed, and no memory is taken.
+    /// Keeps the buffer of a record that is no longer used, for later records. Changes nothing
+    /// else. Does not allocate.
     pub fn recycle(&mut self, whole: Record)
         ensures { self.new ≡ self.old }
     {
         self.framer.recycle(whole.content);
     }
 
-    /// Reads on from the marker of a record.
+    /// Reads a record from its marker on.
     fn read_marker(&mut self, piece: &[u8]) -> Result<FedRecord, RecordFault>
         requires { self.old.state ≡ RecordState.Marker }
         ensures gives { (number : ℕ) (bytes : List ℕ) → StandsFor self.old number bytes
@@ -150,7 +156,7 @@ impl RecordReader {
         }
     }
 
-    /// Reads on from the frame of a record. `from` bytes of the piece stand before what is read.
+    /// Reads the frame of a record, after the first `from` bytes of the chunk.
     fn read_frame(
         &mut self,
         side: Side,
@@ -185,7 +191,7 @@ impl RecordReader {
         }
     }
 
-    /// What a fault of the framer means for the reader.
+    /// Returns the reader's error for an error of the framer.
     fn frame_fault(&mut self, fault: FrameFault) -> RecordFault
         ensures number { result.number ≡ self.old.number }
         ensures memory { fault ≡ FrameFault.Memory
@@ -209,7 +215,7 @@ impl RecordReader {
         }
     }
 
-    /// Reads the LF of a record. `from` bytes of the piece stand before it.
+    /// Reads the LF of a record, after the first `from` bytes of the chunk.
     fn read_line_end(
         &mut self,
         whole: Record,
@@ -248,8 +254,12 @@ impl RecordReader {
         })
     }
 
-    /// Whether the recording may end here: `Cut` inside a record, or the fault that was met.
-    /// Changes nothing and takes no memory.
+    /// Checks whether the recording may end here. Changes nothing. Does not allocate.
+    ///
+    /// # Errors
+    ///
+    /// - `Cut`: the recording ends inside a record.
+    /// - The error that occurred before, if any.
     pub fn finish(&self) -> Result<(), RecordFault>
         ensures ok { (number : ℕ) (bytes : List ℕ) → StandsFor self.now number bytes
             → (IsOk result ↔ (bytes ≡ [])) }

@@ -1,17 +1,17 @@
-//! What a reader of records is at.
+//! The state of a reader of records.
 use crate::record::Record;
 use crate::record_fault::RecordCause;
 use dap_tree::Side;
 
-/// What a reader of records is at.
+/// The state of a reader of records.
 #[derive(Drop)]
 pub enum RecordState {
     /// Between two records.
     Marker,
-    /// In the frame of this side's record, behind the marker.
+    /// In the frame of this side's record, after the marker.
     Frame(Side),
-    /// Behind the frame of this record, before its LF.
+    /// After the frame of this record, before its LF.
     LineEnd(Record),
-    /// At the fault that it met.
+    /// After this error.
     Failed(RecordCause),
 }

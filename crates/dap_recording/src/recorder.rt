@@ -1,4 +1,4 @@
-//! A recording made of the pieces of a trace.
+//! Makes a recording from the pieces of a trace.
 ghost use Rattle.std.specs.Prelude.{◌≡◌, ◌≢◌, ℕ, ◌<◌, ◌≤◌, ◌↔◌, List, [], length, Err, IfOk, IsOk};
 ghost use Rattle.std.specs.Prelude.{IsErrOf, OnErr};
 ghost use Rattle.dap_frame.specs.Limits.{IsSound};
@@ -15,14 +15,14 @@ use std::marker::Model;
 
 /// Makes a recording of the frames in the pieces that two sides sent each other.
 ///
-/// A frame belongs to the byte that ends it: its record is appended when that byte comes, whatever
-/// pieces of the other side came since the frame began. A recorder stands for the bytes of each
-/// side that came behind its last whole frame.
+/// The record of a frame is appended when its last byte arrives, whatever pieces of the other side
+/// arrived since the frame started. A recorder represents, for each side, the bytes received since
+/// its last complete frame.
 ///
-/// To record a trace, make one recorder with limits that are sound. Pass each piece to
-/// [`piece`](Recorder::piece), and then again what is left of it behind the answer, until nothing
-/// is left. [`text`](Recorder::text) is the recording so far. At the end of the trace ask
-/// [`finish`](Recorder::finish) whether each side ended between two frames.
+/// To record a trace, make one recorder with sound limits. Pass each piece to
+/// [`piece`](Recorder::piece), then pass the rest of it after the consumed bytes again, until the
+/// rest is empty. [`text`](Recorder::text) is the recording so far. At the end of the trace,
+/// [`finish`](Recorder::finish) returns whether each side ended between two frames.
 #[derive(Drop)]
 pub struct Recorder {
     limits: FrameLimits,
@@ -45,7 +45,7 @@ impl Model for Recorder {
 }
 
 impl Recorder {
-    /// A recorder at the start of a trace. Takes no memory.
+    /// Returns a recorder at the start of a trace. Does not allocate.
     pub fn new(alloc: Global, limits: FrameLimits) -> Recorder
         requires { IsSound limits }
         ensures stands { StandsForRests result (λ side. []) }
@@ -61,7 +61,7 @@ impl Recorder {
         }
     }
 
-    /// The records of the frames that have ended. Takes no memory.
+    /// Returns the records of the complete frames. Does not allocate.
     pub fn text(&self) -> &[u8]
         ensures { result.now ≡ text_of self.now }
     {
@@ -69,22 +69,26 @@ impl Recorder {
     }
 
     /// Reads to the end of one frame of this side or of the piece, whichever is first, and appends
-    /// the record of a frame that ended. Answers how many bytes of the piece were taken, from its
-    /// front.
+    /// the record of a frame that ended. Returns the number of bytes consumed from the start of the
+    /// piece.
     ///
-    /// Answers every fault but a `Cut`. After `Memory` the recorder is unchanged and has used
-    /// nothing, so the call may be made again with the same piece. After another fault every call
-    /// of `piece`, for either side, and of [`finish`](Recorder::finish) answers that fault, and the
-    /// text keeps the records finished before. Only bytes of a content and the record of a frame
-    /// that ended take memory: an empty piece takes none, and neither does a header part that shows
-    /// a fault.
+    /// Allocates only for bytes of a content and the record of a frame that ended. An empty piece
+    /// and a header part with an error need no memory.
+    ///
+    /// # Errors
+    ///
+    /// - `Memory`: an allocation failed. The recorder is unchanged and has consumed nothing. The
+    ///   call may be repeated with the same piece.
+    /// - Any error except a `Cut`: the bytes of this side so far prove it. After that, `piece` (for
+    ///   either side) and [`finish`](Recorder::finish) always return this error. The text keeps the
+    ///   records appended before.
     pub fn piece(&mut self, side: Side, piece: &[u8]) -> Result<usize, RecorderFault>
         ensures gives { (rests : Side → List ℕ) → StandsForRests self.old rests
             → GivesPiece side rests piece.now self.old self.new result }
         ensures used { IfOk result (λ used. used ≤ length piece.now) }
         ensures progress { IfOk result (λ used. 0 < length piece.now → 0 < used) }
 
-        // What stands after a fault.
+        // The state after an error.
         ensures memory { IsErrOf result RecorderFault.Memory → self.new ≡ self.old }
         ensures memory_for_record { IsErrOf result RecorderFault.Memory → (rests : Side → List ℕ)
             → StandsForRests self.old rests
@@ -117,8 +121,12 @@ impl Recorder {
         }
     }
 
-    /// Whether the trace may end here: the fault that was met, or a `Cut` inside a frame, first of
-    /// the client and then of the adapter. Changes nothing and takes no memory.
+    /// Checks whether the trace may end here. Changes nothing. Does not allocate.
+    ///
+    /// # Errors
+    ///
+    /// - The error that occurred before, if any.
+    /// - `Cut`: a side ends inside a frame. The client is checked first, then the adapter.
     pub fn finish(&self) -> Result<(), RecorderFault>
         ensures ok { (rests : Side → List ℕ) → StandsForRests self.now rests
             → (IsOk result ↔ ((rests Side.Client ≡ []) × (rests Side.Adapter ≡ []))) }

@@ -1,4 +1,4 @@
-//! Why a piece of a trace is not read.
+//! Errors of the pieces of a trace.
 ghost use Rattle.std.specs.Prelude.{◌≡◌, ◌≤◌, length};
 ghost use Rattle.dap_recording.specs.FaultNames.{trace_cause_name};
 
@@ -8,17 +8,27 @@ use std::fmt;
 /// Why a piece of a trace is not read.
 #[derive(Clone, Copy, Debug, PartialEq, Eq)]
 pub enum TraceCause {
-    /// The piece's first byte is neither `>` nor `<`.
+    /// The first byte of the piece is neither `>` nor `<`.
+    ///
+    /// - Cause: the file is not a trace, or the count of the piece before is wrong.
+    /// - Fix: check the recorder: it has to count bytes.
     BadMarker,
-    /// The bytes behind the marker are no count line: 1 to 10 decimal digits without leading
-    /// zeros, and LF. It is told at the first byte with which no count line can begin.
+    /// No count of 1 to 10 decimal digits without leading zeros, and LF, follows the marker. It is
+    /// reported at the first byte that proves it.
+    ///
+    /// - Cause: the file is a recording already; or a count has leading zeros or more than 10
+    ///   digits.
+    /// - Fix: leave out `dapnorm record` for a recording; write plain decimal counts.
     BadCount,
-    /// The trace ends inside the piece. Only `TraceReader::finish` tells it.
+    /// The trace ends inside the piece. Only `TraceReader::finish` returns it.
+    ///
+    /// - Cause: the recorder was killed.
+    /// - Fix: record again; the frames that ended before have been written.
     Cut,
 }
 
 impl TraceCause {
-    /// The name of the cause.
+    /// Returns the name of the cause.
     pub fn name(self) -> &'static str
         ensures name { result.now ≡ trace_cause_name self }
         ensures short { length result.now ≤ 20 }
@@ -47,7 +57,7 @@ impl Error for TraceCause {}
 /// Which piece of a trace is not read, and why.
 #[derive(Clone, Copy, Debug, PartialEq, Eq)]
 pub struct TraceFault {
-    /// The piece's place in the trace, from 1. A count that would pass 2^64 - 1 stays there.
+    /// The number of the piece in the trace, from 1. Does not grow beyond 2^64 - 1.
     pub piece: u64,
     pub cause: TraceCause,
 }

@@ -1,4 +1,4 @@
-//! Pieces read from a trace.
+//! Reads pieces from a trace.
 ghost use Rattle.std.specs.Prelude.{◌≡◌, ℕ, ◌+◌, ◌<◌, ◌≤◌, ◌↔◌, List, [], ◌∷◌, ◌++◌, length};
 ghost use Rattle.std.specs.Prelude.{take, Err, IfErr, IfOk, IsOk};
 ghost use Rattle.dap_frame.specs.Lines.{number_of};
@@ -16,16 +16,16 @@ use crate::trace_state::TraceState;
 use dap_tree::Side;
 use std::marker::Model;
 
-/// Reads pieces from a trace, which may come in inputs that are cut anywhere, and lends their raw
-/// bytes. No call takes memory.
+/// Reads pieces from a trace, whose inputs may be cut anywhere, and borrows their raw bytes. No
+/// call allocates.
 ///
-/// A reader stands for the number of the piece that has not ended, for the bytes of it that came,
-/// and for those of them that are raw.
+/// A reader represents the number of the current, incomplete piece, the bytes of it so far, and the
+/// raw bytes among them.
 ///
-/// To read a trace, make one reader. Pass each input to [`feed`](TraceReader::feed), and then again
-/// what is left of it behind `used`, until nothing is left: the runs of one piece, joined, are its
-/// raw bytes. At the end of the trace ask [`finish`](TraceReader::finish) whether it ended between
-/// two pieces.
+/// To read a trace, make one reader. Pass each input to [`feed`](TraceReader::feed), then pass the
+/// rest of it after `used` again, until the rest is empty. The runs of one piece, joined, are its
+/// raw bytes. At the end of the trace, [`finish`](TraceReader::finish) returns whether it ended
+/// between two pieces.
 #[derive(Drop)]
 pub struct TraceReader {
     state: TraceState,
@@ -43,7 +43,7 @@ impl Model for TraceReader {
 }
 
 impl TraceReader {
-    /// A reader at the start of a trace.
+    /// Returns a reader at the start of a trace.
     pub fn new() -> TraceReader
         ensures { StandsForPiece result 1 [] [] }
     {
@@ -55,9 +55,13 @@ impl TraceReader {
 
     /// Reads to the end of a run of one piece's raw bytes or of the input, whichever is first.
     ///
-    /// A run ends with its piece or with the input. It is empty only where its piece is, and then
-    /// it is given once. Answers every fault but `Cut`, with the number of the piece that shows it;
-    /// from then on `feed` and [`finish`](TraceReader::finish) answer that fault.
+    /// A run ends with its piece or with the input. A run is empty only if its piece has no raw
+    /// bytes; it is then returned once.
+    ///
+    /// # Errors
+    ///
+    /// Any error except `Cut`, with the number of the piece in which it occurs. After that, `feed`
+    /// and [`finish`](TraceReader::finish) always return this error.
     pub fn feed<'a>(&mut self, input: &'a [u8]) -> Result<FedTrace<'a>, TraceFault>
         ensures gives { (piece : ℕ) (bytes raw : List ℕ) → StandsForPiece self.old piece bytes raw
             → GivesTrace piece bytes raw input.now result self.new }
@@ -77,7 +81,7 @@ impl TraceReader {
         }
     }
 
-    /// Reads on from the marker of a piece.
+    /// Reads a piece from its marker on.
     fn read_marker<'a>(&mut self, input: &'a [u8]) -> Result<FedTrace<'a>, TraceFault>
         requires { self.old.state ≡ TraceState.Marker }
         ensures gives { (piece : ℕ) (bytes raw : List ℕ) → StandsForPiece self.old piece bytes raw
@@ -110,7 +114,7 @@ impl TraceReader {
         }
     }
 
-    /// Reads on from a piece's count. `from` bytes of the input stand before what is read.
+    /// Reads the count of a piece, after the first `from` bytes of the input.
     fn read_count<'a>(
         &mut self,
         side: Side,
@@ -146,8 +150,8 @@ impl TraceReader {
         }
     }
 
-    /// Reads on from a piece's raw bytes, of which `left` are to come. `from` bytes of the input
-    /// stand before them.
+    /// Reads the raw bytes of a piece, of which `left` are missing, after the first `from` bytes of
+    /// the input.
     fn read_raw<'a>(&mut self, side: Side, left: u64, input: &'a [u8], from: usize) -> FedTrace<'a>
         requires { from ≤ length input.now }
         ensures gives { (piece : ℕ) (bytes raw text : List ℕ) → self.old.piece ≡ piece
@@ -189,8 +193,12 @@ impl TraceReader {
         }
     }
 
-    /// Whether the trace may end here: `Cut` inside a piece, or the fault that was met. Changes
-    /// nothing.
+    /// Checks whether the trace may end here. Changes nothing.
+    ///
+    /// # Errors
+    ///
+    /// - `Cut`: the trace ends inside a piece.
+    /// - The error that occurred before, if any.
     pub fn finish(&self) -> Result<(), TraceFault>
         ensures ok { (piece : ℕ) (bytes raw : List ℕ) → StandsForPiece self.now piece bytes raw
             → (IsOk result ↔ (bytes ≡ [])) }

@@ -1,17 +1,17 @@
-//! What a reader of traces is at.
+//! The state of a reader of traces.
 use crate::count::Count;
 use crate::trace_fault::TraceCause;
 use dap_tree::Side;
 
-/// What a reader of traces is at.
+/// The state of a reader of traces.
 #[derive(Clone, Copy)]
 pub enum TraceState {
     /// Between two pieces.
     Marker,
-    /// In the count of this side's piece, behind these digits.
+    /// In the count of this side's piece, after these digits.
     Count(Side, Count),
-    /// In the raw bytes of this side's piece, of which so many are to come.
+    /// In the raw bytes of this side's piece; this number of them is missing.
     Raw(Side, u64),
-    /// At the fault that it met.
+    /// After this error.
     Failed(TraceCause),
 }

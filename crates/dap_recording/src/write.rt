@@ -1,4 +1,4 @@
-//! Records written.
+//! Writes records.
 ghost use Rattle.std.specs.Prelude.{◌≡◌, ◌+◌, ◌<◌, ◌≤◌, ◌⊎◌, ◌↔◌, ◌++◌, length, vec_len};
 ghost use Rattle.std.specs.Prelude.{vec_capacity, Err, IsOk, OnOk, OnErr, IfErr};
 ghost use Rattle.std.specs.Io.{StartsWith};
@@ -9,7 +9,7 @@ use crate::marker::marker_of;
 use dap_frame::{FrameFault, FrameLimits, write_frame};
 use dap_tree::Side;
 
-/// Appends the three parts of a record. On a failure some of them may stand.
+/// Appends the three parts of a record. After a failure, some of them may have been appended.
 fn append_parts(
     out: &mut Vec<u8>,
     side: Side,
@@ -36,9 +36,14 @@ fn append_parts(
 /// Appends the record of a content: the side's marker, the frame that
 /// [`write_frame`](dap_frame::write_frame) writes, and LF.
 ///
-/// Answers `ContentTooLong` exactly where the content is above its limit, and else `Memory` where a
-/// growth of `out` was refused. On both `out` holds the bytes that it held; its capacity may have
-/// grown. No memory is taken where the capacity leaves room for the content and 32 bytes.
+/// Does not allocate if `out` has spare capacity for the content and 32 bytes.
+///
+/// # Errors
+///
+/// `out` then has the bytes that it had. Its capacity may have grown.
+///
+/// - `ContentTooLong`: if and only if the content is above its limit.
+/// - `Memory`: an allocation failed.
 pub fn write_record(
     out: &mut Vec<u8>,
     side: Side,
@@ -49,7 +54,8 @@ pub fn write_record(
     ensures ok { OnOk result (out.new.items ≡ out.old.items ++ record_text side content.now) }
     ensures err { OnErr result (out.new.items ≡ out.old.items) }
 
-    // ContentTooLong comes exactly there, and the only other error is Memory.
+    // `ContentTooLong` is returned if and only if the content is too long. The only other error is
+    // `Memory`.
     ensures too_long { result ≡ Err FrameFault.ContentTooLong
         ↔ (limits.content < length content.now) }
     ensures only { IfErr result (λ fault.

@@ -13,7 +13,7 @@ scan_header-requires-clause-scan c =
     let low = c.requires.sound.header_low in
     (name_text, c.behind_name.ensures c.args.limits, omega (arith, low))
 
--- where nothing has been counted, nothing has come
+-- if the count is 0, no bytes have arrived
 nothing_came : (limits : FrameLimits) (rest : List ℕ) (scan : HeaderScan)
     → IsScanOf limits rest scan → scan.count ≡ 0 → rest ≡ []
 nothing_came limits rest scan scanned none =
@@ -21,6 +21,22 @@ nothing_came limits rest scan scanned none =
 
 pub overflow_add-result : goal.overflow_add-result
 overflow_add-result c =
+    let within = c.in-Some-plain_length.ensures.within in
+    let long = c.in-Some.ensures.cases.2 in
+    omega (arith, within, long)
+
+pub returns-in-Some-plain_length : goal.returns-in-Some-plain_length
+returns-in-Some-plain_length c = λ rest scanned short.
+    let plain = c.in-Some-plain_length.plain in
+    subst (λ r. HasEnded c.args.limits r c.args.piece.now (plain.used + 16) plain.content_len
+    (plain.used + 16))
+    (sym (nothing_came c.args.limits rest c.args.scan scanned c.if-scan-eq0.true))
+    (has_ended c.args.limits c.args.piece.now c.in-Some.behind.now
+    (is_behind c.args.piece.now c.in-Some.behind c.in-Some.ensures.cases) (plain.used + 16)
+    plain.content_len plain.used c.in-Some-plain_length.ensures)
+
+pub overflow_add-result-in-Ok-Ended : goal.overflow_add-result-in-Ok-Ended
+overflow_add-result-in-Ok-Ended c =
     let low = c.requires.sound.header_low in
     let took = (rw c.in-Ok-Ended.field-0-is at c.in-Ok-Ended.ensures) name_text
     (c.behind_name.ensures c.args.limits) (omega (arith, low)) in

@@ -1,4 +1,4 @@
-use Rattle.std.proofs.Common.{◌≡◌, ◌+◌, ◌++◌, take, ap, subst, arith, Some, sym}
+use Rattle.std.proofs.Common.{◌+◌, ◌++◌, take, ap, subst, arith, Some, sym}
 use Rattle.dap_frame.specs.Frame.{HasFrame, IsFrame}
 use Rattle.dap_frame.specs.Framer.{IsKeptIn}
 use Rattle.dap_frame.specs.Reading.{Reading}
