@@ -7,7 +7,8 @@ use Rattle.std.proofs.lemmas.List.{map-append}
 use Rattle.dap_tree.specs.Doc.{Doc, Items, no_items, item, Members, no_members, member}
 use Rattle.dap_flat.specs.declared.node.Node.{Node}
 use Rattle.dap_flat.specs.Order.{more_items, more_members}
-use Rattle.dap_flat.specs.Pieces.{Piece, name, piece_of, pieces, items_pieces, members_pieces, Appends}
+use Rattle.dap_flat.specs.Pieces.{Piece, name, piece_of, pieces, items_pieces, members_pieces}
+use Rattle.dap_flat.specs.Pieces.{Appends}
 
 pub adds_none : (old : List Node) → Appends old old []
 adds_none old = record { more = []; added = sym (append-nil old); shows = refl }
@@ -41,7 +42,7 @@ more_members-pieces (member l e ms) k d =
     ap (λ ps. name l ∷ (pieces e ++ ps)) (more_members-pieces ms k d)
     ∙ ap (λ ps. name l ∷ ps) (sym (append_assoc (pieces e) (members_pieces ms) (name k ∷ pieces d)))
 
--- ---- a beginning that is told how much is inside
+-- ---- a start that gets the number of pieces inside
 
 pub set_begin : (old more : List Node) (x y : Node)
     → set ((old ++ x ∷ []) ++ more) (length old) y ≡ (old ++ y ∷ []) ++ more

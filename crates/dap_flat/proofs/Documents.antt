@@ -1,6 +1,7 @@
 -- The pieces of a document, read back, are the document.
 use Rattle.std.proofs.Common.{◌≡◌, ℕ, zero, suc, ◌<◌, ◌≤◌, List, [], ◌∷◌, ◌++◌, length, take, drop}
-use Rattle.std.proofs.Common.{refl, sym, ap, ap₂, ◌∙◌, arith, length-append, append_assoc, append-nil}
+use Rattle.std.proofs.Common.{refl, sym, ap, ap₂, ◌∙◌, arith, length-append, append_assoc}
+use Rattle.std.proofs.Common.{append-nil}
 use Rattle.std.proofs.Math.Seq.{take-append_seam, drop-append_seam}
 use Rattle.std.proofs.lemmas.List.{length-map}
 use Rattle.dap_tree.specs.Doc.{Doc, null, boolean, whole, text, list, object, id, Items, no_items}
@@ -81,7 +82,7 @@ mutual
       (ap (members_in n) (after_first d (members_pieces ms))
       ∙ members_back n ms (omega (arith, within, all)))
 
--- The document that nodes represent is read back of them.
+-- The document that nodes represent is read back from them.
 pub document_represented : (ns : List Node) (d : Doc) → Represents ns d → document_of ns ≡ d
 document_represented ns d shown =
     ap (document_in (suc (length ns))) (shown ∙ sym (append-nil (pieces d)))

@@ -1,6 +1,7 @@
--- Members looked at one after the other.
+-- Members, one after another.
 use Rattle.std.proofs.Common.{◌≡◌, ℕ, ◌+◌, ◌<◌, List, [], ◌∷◌, ◌++◌, map, length, get_or}
-use Rattle.std.proofs.Common.{true, false, nat_cmp, is_eq, Option, Some, None, Ordering, Less, Equal}
+use Rattle.std.proofs.Common.{true, false, nat_cmp, is_eq, Option, Some, None, Ordering, Less}
+use Rattle.std.proofs.Common.{Equal}
 use Rattle.std.proofs.Common.{Greater, refl, sym, ap, ap₂, ◌∙◌, arith, append_assoc}
 use Rattle.std.proofs.Common.{length-append, subst, bytes_eq}
 use Rattle.std.proofs.Math.Seq.{get_or-append_seam}
@@ -245,15 +246,19 @@ pub object_inside : (ns : List Node) (at : ℕ) (d : Doc) (n x : Node) (i : ℕ)
     → get_or ns at x ≡ n → piece_of n ≡ begin_object i
     → (ms : Members) × (d ≡ object ms) × HoldsMembers ns (at + 1) ms
 object_inside ns at null n x i h there begun = absurd (leaf_is ns at null n x i h there begun)
-object_inside ns at (boolean b) n x i h there begun = absurd (leaf_is ns at (boolean b) n x i h there begun)
-object_inside ns at (whole z) n x i h there begun = absurd (leaf_is ns at (whole z) n x i h there begun)
-object_inside ns at (text s) n x i h there begun = absurd (leaf_is ns at (text s) n x i h there begun)
+object_inside ns at (boolean b) n x i h there begun =
+    absurd (leaf_is ns at (boolean b) n x i h there begun)
+object_inside ns at (whole z) n x i h there begun =
+    absurd (leaf_is ns at (whole z) n x i h there begun)
+object_inside ns at (text s) n x i h there begun =
+    absurd (leaf_is ns at (text s) n x i h there begun)
 object_inside ns at (list ds) n x i h there begun =
     let first = stands_first ns at n x (begin_list (length (items_pieces ds)))
     (items_pieces ds ++ end_list ∷ []) h there in absurd (cc)
 object_inside ns at (object ms) n x i h there begun =
     (ms, refl, behind_first ns at (begin_object (length (members_pieces ms))) _ h)
-object_inside ns at (id s z) n x i h there begun = absurd (leaf_is ns at (id s z) n x i h there begun)
+object_inside ns at (id s z) n x i h there begun =
+    absurd (leaf_is ns at (id s z) n x i h there begun)
 
 -- ---- the members of a document that is an object
 

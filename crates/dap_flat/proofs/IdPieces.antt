@@ -1,5 +1,6 @@
 -- The ids of a document are those of its pieces.
-use Rattle.std.proofs.Common.{◌≡◌, ℕ, ℤ, ◌+◌, suc, List, [], ◌∷◌, ◌++◌, length, drop, refl, sym, ap, ap₂}
+use Rattle.std.proofs.Common.{◌≡◌, ℕ, ℤ, ◌+◌, suc, List, [], ◌∷◌, ◌++◌, length, drop, refl, sym, ap}
+use Rattle.std.proofs.Common.{ap₂}
 use Rattle.std.proofs.Common.{◌∙◌, append_assoc, append-nil, length-append}
 use Rattle.std.proofs.lemmas.List.{drop-drop, take_more_set, drop-set-lt, map-append}
 use Rattle.std.proofs.Math.Seq.{drop-cons}
@@ -45,7 +46,7 @@ mutual
 
 -- ---- other numbers
 
--- the pieces of a value with other numbers, and those after it with the numbers that are left
+-- the pieces of a value with other numbers, and those after it with the remaining numbers
 mutual
   pub numbered_pieces : (d : Doc) (ns : List ℤ) (qs : List Piece)
       → numbered (pieces d ++ qs) ns ≡ pieces (with_ids d ns) ++ numbered qs (drop (id_count d) ns)
@@ -126,7 +127,7 @@ all_numbered d ns =
     ap (λ ps. numbered ps ns) (sym (append-nil (pieces d))) ∙ numbered_pieces d ns []
     ∙ append-nil (pieces (with_ids d ns))
 
--- one node more has its number
+-- the next node has its number
 pub one_numbered : (ns : List Node) (i : ℕ) (d y : Node) (rest after : List ℤ) → i < length ns
     → piece_of y ≡ with_number (piece_of (get_or ns i d)) rest
     → after ≡ after_piece (piece_of (get_or ns i d)) rest
@@ -135,7 +136,8 @@ pub one_numbered : (ns : List Node) (i : ℕ) (d y : Node) (rest after : List �
     ≡ map piece_of (take i ns) ++ numbered (map piece_of (drop i ns)) rest
 one_numbered ns i d y rest after within put left =
     let x = get_or ns i d in
-    let front : map piece_of (take (i + 1) (set ns i y)) ≡ map piece_of (take i ns) ++ piece_of y ∷ [] =
+    let front : map piece_of (take (i + 1) (set ns i y))
+    ≡ map piece_of (take i ns) ++ piece_of y ∷ [] =
     ap (map piece_of) (take_more_set ns i y within) ∙ map-append piece_of (take i ns) (y ∷ []) in
     let back : drop (i + 1) (set ns i y) ≡ drop (i + 1) ns =
     drop-set-lt (i + 1) ns i y (omega arith) in

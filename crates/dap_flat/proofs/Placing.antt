@@ -27,8 +27,11 @@ put_last (member l e ms) k d h =
 below_more : (ms : Members) (k j : List ℕ) (d : Doc) → AreBelow ms k
     → is_lt (slice_cmp nat_cmp k j) ≡ true → AreBelow (more_members ms k d) j
 below_more no_members k j d h low = (low, tt)
-below_more (member l e ms) k j d h low =
-    (ap is_lt (nat_list_cmp_total.trans l k j (less _ h.0) (less _ low)), below_more ms k j d h.1 low)
+below_more (member l e ms) k j d h low = (
+  ap is_lt (nat_list_cmp_total.trans l k j (less _ h.0) (less _ low)),
+  below_more ms k j d h.1
+      low,
+)
 
 pub ends_at_last : (ms : Members) (k : List ℕ) (d : Doc) → AreBelow ms k
     → EndsAt (Some k) (more_members ms k d)
@@ -71,7 +74,8 @@ more_items-no_id no_items d h k = or_both _ false k refl
 more_items-no_id (item e ds) d h k =
     or_both (has_id e) _ (or_left _ _ h) (more_items-no_id ds d (or_right (has_id e) _ h) k)
 
-pub nothing_before : (r : Option (json.Items × List Token)) → r ≡ parse_map (items_before no_items) r
+pub nothing_before : (r : Option (json.Items × List Token))
+    → r ≡ parse_map (items_before no_items) r
 nothing_before None = refl
 nothing_before (Some p) = refl
 
@@ -95,7 +99,7 @@ pub joined_assoc : (a b c : Members) → joined (joined a b) c ≡ joined a (joi
 joined_assoc no_members b c = refl
 joined_assoc (member l e ms) b c = ap (member l e) (joined_assoc ms b c)
 
--- a name that is not above the last one is below all that is above it
+-- a name that is not greater than the last one is less than each greater name
 lower : (o : Ordering) (l k j : List ℕ) → slice_cmp nat_cmp l k ≡ o → is_lt o ≡ false
     → slice_cmp nat_cmp l j ≡ Less → slice_cmp nat_cmp k j ≡ Less
 lower Less l k j e h g = cc
@@ -125,6 +129,6 @@ ends_still (Some l) ms k d h above j low =
     put_below ms k j d (ap is_lt (lower (slice_cmp nat_cmp l k) l k j refl above (less _ low)))
     (h j low)
 
--- what is last when a name was looked at
+-- the greatest name after a member
 pub ends_then : (ms : Members) (k : List ℕ) (d : Doc) → AreBelow ms k → EndsAt (Some k) (put k d ms)
 ends_then ms k d h j low = rw (put_last ms k d h) (below_more ms k j d h low)

@@ -24,7 +24,7 @@ abbrev pub tail_or : List Piece → List Piece
 tail_or [] = []
 tail_or (p ∷ ps) = ps
 
--- how long a value is that begins with a piece
+-- the length of a value that starts with a piece
 pub size_first : (d : Doc) (qs : List Piece) → size (head_or (pieces d ++ qs)) ≡ length (pieces d)
 size_first null qs = refl
 size_first (boolean b) qs = refl
@@ -34,7 +34,7 @@ size_first (list ds) qs = omega (arith, length-append (items_pieces ds) (end_lis
 size_first (object ms) qs = omega (arith, length-append (members_pieces ms) (end_object ∷ []))
 size_first (id s z) qs = refl
 
--- nodes that are these pieces and those are two parts
+-- nodes of two lists of pieces are in two parts
 pub record Parts (ns : List Node) (ps qs : List Piece) : Type 0 where
   pub front : List Node
   pub back : List Node
@@ -80,7 +80,7 @@ none_between held k ms e = record {
   behind = e;
 }
 
--- it goes before what is left
+-- it goes before the remaining members
 pub goes : (held : List Node) (k : List ℕ) (p : ℕ) (ms : Members) (d : Doc)
     → (b : Between held k p ms) → IsBefore k b.left → Inserts held k p ms d
 goes held k p ms d b first = record {
@@ -101,7 +101,7 @@ above : (l k : List ℕ) (o : Ordering) → slice_cmp nat_cmp k l ≡ Greater
     → is_lt (slice_cmp nat_cmp l k) ≡ true
 above l k o e = ap is_lt (nat_list_cmp_total.antisymm l k ∙ ap ordering_reverse e)
 
--- what one member more leaves
+-- the members after the next one
 passed : (held front rest inside behind : List Node) (n : Node) (k l : List ℕ) (p end : ℕ)
     (ms done left : Members) (e : Doc) → held ≡ front ++ n ∷ rest → rest ≡ inside ++ behind
     → p ≡ length front → end ≡ p + 1 + length inside → ms ≡ joined done (member l e left)
@@ -121,7 +121,8 @@ passed held front rest inside behind n k l p end ms done left e all two here the
       low = below_joined done (member l e no_members) k low (less, tt);
       before =
           map-append piece_of front (n ∷ inside)
-          ∙ ap₂ (λ xs ys. xs ++ ys) before (ap₂ (λ x xs. x ∷ xs) named (value ∙ sym (append-nil (pieces e))))
+          ∙ ap₂ (λ xs ys. xs ++ ys) before
+          (ap₂ (λ x xs. x ∷ xs) named (value ∙ sym (append-nil (pieces e))))
           ∙ sym (joined_pieces done (member l e no_members));
       behind = after;
     }
@@ -134,7 +135,7 @@ name_or (begin_object n) = []
 name_or end_object = []
 name_or (name k) = k
 
--- the length of a value that begins there
+-- the length of a value that starts there
 pub first_size : (rest : List Node) (x : Node) (e : Doc) (qs : List Piece) → 0 < length rest
     → map piece_of rest ≡ pieces e ++ qs → size (piece_of (get_or rest 0 x)) ≡ length (pieces e)
 first_size [] x e qs some is = absurd (omega (arith, some))
@@ -262,7 +263,8 @@ placed before held more old new k ms d start at p is here there value g e =
     record {
       more = g.front ++ (more ++ g.back);
       added =
-          e ∙ ap (λ xs. take (start + p) xs ++ (drop at xs ++ take (at - (start + p)) (drop (start + p) xs))) whole
+          e ∙ ap (λ xs. take (start + p) xs ++
+          (drop at xs ++ take (at - (start + p)) (drop (start + p) xs))) whole
           ∙ turned before g.front g.back more (start + p) at (omega (arith, here, g.here))
           (omega (arith, here, there, lengths));
       shows =
@@ -276,6 +278,7 @@ pub slice_held : (before held more : List Node) (start at : ℕ) → length befo
     → take (at - start) (drop start (before ++ (held ++ more))) ≡ held
 slice_held before held more start at here there =
     let rest : drop start (before ++ (held ++ more)) ≡ held ++ more =
-    ap (λ n. drop n (before ++ (held ++ more))) (sym here) ∙ drop-append_seam before (held ++ more) in
+    ap (λ n. drop n (before ++ (held ++ more))) (sym here)
+    ∙ drop-append_seam before (held ++ more) in
     let width : at - start ≡ length held = omega (arith, here, there) in
     ap₂ (λ n xs. take n xs) width rest ∙ take-append_seam held more

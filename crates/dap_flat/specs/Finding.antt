@@ -22,8 +22,8 @@ Holds ns at d = Stand ns at (pieces d)
 abbrev pub HoldsMembers : List Node → ℕ → Members → Type 0
 HoldsMembers ns at ms = Stand ns at (members_pieces ms ++ end_object ∷ [])
 
--- The pieces of the document e are between `pre` and `post`. If f gives a document with as many
--- pieces, those replace the pieces of e in the changed whole.
+-- The pieces of the document e are between `pre` and `post`. If f returns a document with the
+-- same number of pieces, those replace the pieces of e in the changed whole.
 pub record Between (whole : List Piece) (changed : (Doc → Doc) → List Piece) (e : Doc)
     (pre post : List Piece) : Type 0 where
   pub is : whole ≡ pre ++ (pieces e ++ post)
@@ -41,7 +41,7 @@ pub record Found (ns : List Node) (at i : ℕ) (whole : List Piece)
   pub here : i ≡ at + length pre
   pub holds : Holds ns i part
 
--- What was found is the place of that document, or nothing if there is none.
+-- It is the place of that document, or `None` if there is no document.
 abbrev pub Finds : List Node → ℕ → List Piece → ((Doc → Doc) → List Piece) → Option ℕ → Option Doc
     → Type 0
 Finds ns at whole changed found d =
@@ -58,7 +58,7 @@ abbrev pub FindsChild : List Node → ℕ → List ℕ → Option ℕ → Type 0
 FindsChild ns at k found = (d : Doc) → Holds ns at d
     → Finds ns at (pieces d) (λ f. pieces (change_child k f d)) found (get k d)
 
--- For a loop: looking for a name in the members that are left, or changing it there, is as in all.
+-- For a loop: a name is found among the remaining members, or changed there, as among all members.
 pub record Left (ns : List Node) (from : ℕ) (k : List ℕ) (p : ℕ) (ms : Members) : Type 0 where
   pub members : Members
   pub holds : HoldsMembers ns p members

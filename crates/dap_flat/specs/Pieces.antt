@@ -1,5 +1,5 @@
--- The flat form of a document (own): its pieces in the order of its text. A list and an object are a
--- start, which holds the number of pieces inside, then their parts and an end. A member is its name
+-- The flat form of a document (own): its pieces in the order of its text. A list and an object are
+-- a start, which has the number of pieces inside, then their parts and an end. A member is its name
 -- and the pieces of its value.
 use Rattle.std.specs.Prelude.{◌≡◌, ℕ, pos, List, [], ◌∷◌, ◌++◌, map, length}
 use Rattle.dap_tree.specs.Doc.{Doc, null, boolean, whole, text, list, object, id, Items, no_items}

@@ -15,7 +15,7 @@ size (begin_object n) = n + 2
 size end_object = 1
 size (name k) = 1
 
--- A member of that name belongs at p among the members that are held.
+-- A member of that name belongs at p among these members.
 pub record Inserts (held : List Node) (k : List ℕ) (p : ℕ) (ms : Members) (d : Doc) : Type 0 where
   pub front : List Node
   pub back : List Node

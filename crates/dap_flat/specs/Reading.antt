@@ -1,4 +1,4 @@
--- What reading a content as a flat document gives. All but the first is for private clauses.
+-- The result of reading a content as a flat document. All but the first is for private clauses.
 use Rattle.std.specs.Prelude.{◌≡◌, ℕ, ℤ, List, Option}
 use Rattle.json.specs.Token.{Token}
 use Rattle.serde_json.specs.Data as json
@@ -7,7 +7,8 @@ use Rattle.dap_tree.specs.Json.{IsRead}
 use Rattle.dap_tree.specs.ReadTokens.{IsTextOf, IsNumberOf, IsParsed, AreItemsParsed}
 use Rattle.dap_tree.specs.ReadTokens.{AreMembersParsed}
 use Rattle.dap_flat.specs.declared.node.Node.{Node}
-use Rattle.dap_flat.specs.Pieces.{Piece, piece_of, pieces, items_pieces, members_pieces, Appends, Represents}
+use Rattle.dap_flat.specs.Pieces.{Piece, piece_of, pieces, items_pieces, members_pieces, Appends}
+use Rattle.dap_flat.specs.Pieces.{Represents}
 use Rattle.dap_flat.specs.Pieces as flat
 
 -- The content is read as a document, and the nodes represent it.

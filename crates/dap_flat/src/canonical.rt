@@ -1,4 +1,5 @@
-//! Writes the canonical text of a content, read as a flat document if possible and as a tree if not.
+//! Writes the canonical text of a content. It is read as a flat document if possible, and as a tree
+//! otherwise.
 ghost use Rattle.std.specs.Prelude.{◌≡◌, ◌++◌, OnOk, OnErr, IfErr};
 ghost use Rattle.dap_tree.specs.Json.{ExplainsText};
 ghost use Rattle.dap_flat.specs.Canonical.{AppendsCanonical};
@@ -13,12 +14,12 @@ use std::alloc::Global;
 /// Appends the canonical text of a content: compact JSON with the members in the order of their
 /// names.
 ///
-/// After an error `out` holds what it held before; its capacity may have grown.
+/// After an error the bytes of `out` are unchanged; its capacity may have grown.
 ///
 /// # Errors
 ///
-/// Those of [`read_tree_with`]: the content is not JSON, holds a number that is not whole, or an
-/// allocation failed.
+/// Those of [`read_tree_with`]: the content is not JSON, it has a number that is not an integer, or
+/// an allocation failed.
 pub fn append_canonical(
     alloc: Global,
     content: &[u8],

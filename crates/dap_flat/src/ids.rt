@@ -11,7 +11,7 @@ use std::alloc::AllocError;
 
 /// Appends the ids of a document, in the order of its text.
 ///
-/// After an error `found` holds what it held before; its capacity may have grown.
+/// After an error the items of `found` are unchanged; its capacity may have grown.
 pub fn add_ids(nodes: &[Node<'_>], found: &mut Vec<(Sort, i64)>) -> Result<(), AllocError>
     ensures ok { OnOk result ((d : Doc) → Represents nodes.now d
         → found.new.items ≡ found.old.items ++ ids d) }

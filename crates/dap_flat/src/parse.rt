@@ -5,8 +5,8 @@ ghost use Rattle.json.specs.Json.{value, items, members};
 ghost use Rattle.serde_json.specs.Data.{no_members};
 ghost use Rattle.serde_json.specs.Read.{of_json, of_items, of_members, converted, number_of};
 ghost use Rattle.serde_json.specs.Read.{number_from};
-ghost use Rattle.dap_flat.specs.Reading.{ReadsDocument, ReadsText, ReadsNumber, ReadsValue, ReadsItems};
-ghost use Rattle.dap_flat.specs.Reading.{ReadsMembers};
+ghost use Rattle.dap_flat.specs.Reading.{ReadsDocument, ReadsText, ReadsNumber, ReadsValue};
+ghost use Rattle.dap_flat.specs.Reading.{ReadsItems, ReadsMembers};
 
 use crate::node::Node;
 use crate::place::place_member;
@@ -166,7 +166,7 @@ fn set_node<'a>(nodes: &mut Vec<Node<'a>>, at: usize, node: Node<'a>)
     nodes[at] = node;
 }
 
-/// Returns the node of a number, if it is whole and fits 64 bits.
+/// Returns the node of a number, if it is an integer that fits 64 bits.
 #[inline(always)]
 fn whole<'a>(text: &str) -> Result<Node<'a>, Unread>
     ensures { IfOk result (ReadsNumber (number_of text.now)) }
@@ -197,7 +197,7 @@ fn unsigned<'a>(numeral: &Numeral<'_>) -> Result<Node<'a>, Unread>
     }
 }
 
-/// Returns the node of a negative number. `-0` is not a whole number.
+/// Returns the node of a negative number. `-0` is not an integer.
 #[inline(always)]
 fn negative<'a>(numeral: &Numeral<'_>) -> Result<Node<'a>, Unread>
     ensures { IfOk result (ReadsNumber (number_from true numeral.now)) }

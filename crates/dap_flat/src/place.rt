@@ -1,6 +1,6 @@
 //! Inserts a member among those that were read before it, in the order of their names.
-ghost use Rattle.std.specs.Prelude.{◌≡◌, ◌++◌, ◌+◌, ◌-◌, ◌<◌, ◌≤◌, length, take, drop, OnOk, IfOk, IfSome, slice_index_or};
-ghost use Rattle.std.specs.Prelude.{option_map, reverse};
+ghost use Rattle.std.specs.Prelude.{◌≡◌, ◌++◌, ◌+◌, ◌-◌, ◌<◌, ◌≤◌, length, take, drop, OnOk, IfOk};
+ghost use Rattle.std.specs.Prelude.{IfSome, slice_index_or, option_map, reverse};
 ghost use Rattle.std.specs.Bool.{MatchBool};
 ghost use Rattle.dap_flat.specs.Order.{IsAbove, IsNotAbove};
 ghost use Rattle.dap_flat.specs.declared.node.Node.{Node};
@@ -42,8 +42,8 @@ pub(crate) fn place_member<'a>(
     moves: &mut usize,
 ) -> Result<Option<&'a str>, Unread>
     requires { (start ≤ at) × (at ≤ length nodes.old.items) }
-    ensures { IfOk result (λ now. PlacesMember start at (option_map (λ s. s.now) last.entry) name.now
-        nodes.old.items nodes.new.items (option_map (λ s. s.now) now)) }
+    ensures { IfOk result (λ now. PlacesMember start at (option_map (λ s. s.now) last.entry)
+        name.now nodes.old.items nodes.new.items (option_map (λ s. s.now) now)) }
 {
     if is_greatest(last, name) {
         return Ok(Some(name));
@@ -52,8 +52,8 @@ pub(crate) fn place_member<'a>(
     Ok(last)
 }
 
-/// Subtracts the cost of a move from what the content may spend, so that a content whose members
-/// come in falling order does not take quadratic time.
+/// Subtracts the cost of a move from the remaining budget of the content. Without the budget, a
+/// content whose members are in falling order would take quadratic time.
 #[inline(always)]
 fn spend(moves: &mut usize, cost: usize) -> Result<(), Unread> {
     match moves.checked_sub(cost) {
@@ -65,7 +65,7 @@ fn spend(moves: &mut usize, cost: usize) -> Result<(), Unread> {
     }
 }
 
-/// Moves the nodes from `at` on before those from `from` on.
+/// Moves the nodes that start at `at` to `from`, before those that start there.
 fn rotate(nodes: &mut Vec<Node<'_>>, from: usize, at: usize)
     requires { (from ≤ at) × (at ≤ length nodes.old.items) }
     ensures { nodes.new.items ≡ take from nodes.old.items
@@ -74,9 +74,33 @@ fn rotate(nodes: &mut Vec<Node<'_>>, from: usize, at: usize)
     swap_halves(&mut nodes[from..], at - from);
 }
 
-/// Exchanges the nodes before `mid` and those from `mid` on. Three reversals do it, since the
-/// standard library's `rotate_left` clears a buffer of 4 KB at each call.
+/// Exchanges the nodes before `mid` and those from `mid` on.
 fn swap_halves(nodes: &mut [Node<'_>], mid: usize)
+    requires { mid ≤ length nodes.old }
+    ensures { nodes.new ≡ drop mid nodes.old ++ take mid nodes.old }
+{
+    if nodes.len() - mid == 2 {
+        move_last_two(nodes, mid);
+    } else {
+        swap_by_reversals(nodes, mid);
+    }
+}
+
+/// Moves the two nodes from `mid` on to the start. Most members have two nodes.
+fn move_last_two(nodes: &mut [Node<'_>], mid: usize)
+    requires { mid + 2 ≡ length nodes.old }
+    ensures { nodes.new ≡ drop mid nodes.old ++ take mid nodes.old }
+{
+    let first = nodes[mid];
+    let second = nodes[mid + 1];
+    nodes.copy_within(..mid, 2);
+    nodes[0] = first;
+    nodes[1] = second;
+}
+
+/// Exchanges the two parts by three reversals: the standard library's `rotate_left` clears a buffer
+/// of 4 KB at each call.
+fn swap_by_reversals(nodes: &mut [Node<'_>], mid: usize)
     requires { mid ≤ length nodes.old }
     ensures { nodes.new ≡ drop mid nodes.old ++ take mid nodes.old }
 {

@@ -7,8 +7,8 @@ use std::alloc::{AllocError, AllocFailed};
 pub enum Unread {
     /// An allocation failed.
     Memory,
-    /// The content has to be read as a tree. It may not be JSON, may hold a number that is not
-    /// whole, may name a member twice, or may have members whose order is expensive to change.
+    /// The content has to be read as a tree. It may not be JSON, it may have a number that is not
+    /// an integer or two members with one name, or its members may be expensive to put in order.
     Unclear,
 }
 

@@ -12,7 +12,7 @@ use std::mem;
 
 /// Appends the compact text of a document. The text has no spaces, and an id is its number.
 ///
-/// After an error `out` holds what it held before; its capacity may have grown.
+/// After an error the bytes of `out` are unchanged; its capacity may have grown.
 pub fn write_flat(alloc: Global, nodes: &[Node<'_>], out: &mut Vec<u8>) -> Result<(), AllocError>
     ensures text { OnOk result ((d : Doc) → Represents nodes.now d
         → out.new.items ≡ out.old.items ++ text_of d) }

@@ -1,5 +1,6 @@
--- Places of a flat document judged.
-use Rattle.std.proofs.Common.{◌≡◌, ℕ, ◌+◌, ◌<◌, List, [], ◌∷◌, ◌++◌, map, length, get_or, Bool, true}
+-- Paths of a flat document checked against a row.
+use Rattle.std.proofs.Common.{◌≡◌, ℕ, ◌+◌, ◌<◌, List, [], ◌∷◌, ◌++◌, map, length, get_or, Bool}
+use Rattle.std.proofs.Common.{true}
 use Rattle.std.proofs.Common.{false, Option, Some, None, refl, sym, ap, ◌∙◌, option_map, subst}
 use Rattle.std.proofs.Common.{is_some, append_assoc, arith}
 use Rattle.std.specs.List.{flat_map}
@@ -17,9 +18,12 @@ use Rattle.dap_flat.specs.Pieces.{piece_of, pieces, items_pieces}
 use Rattle.dap_flat.specs.Placing.{size}
 use Rattle.dap_flat.proofs.Found.{stands_first, behind_first, first_part, second_part, size_there}
 use Rattle.dap_flat_message.specs.Judging.{top_of, is_list, told, Judges, items_fault, JudgesItems}
-use Rattle.dap_flat_message.specs.Judging.{ItemsLeft, fault_told}
+use Rattle.dap_flat_message.specs.Judging.{ItemsLeft, fault_told, JudgesTop}
+use Rattle.dap_flat_message.specs.Places.{Locates, FindsTop}
+use Rattle.dap_flat_message.specs.declared.members.Envelope.{Envelope}
 use Rattle.dap_flat_message.specs.declared.rows.Broken.{Broken}
 use Rattle.dap_flat_message.proofs.Tops.{top_there, cause-top, is_object-top, is_list-top}
+use Rattle.dap_flat_message.proofs.Heads.{holds_whole}
 
 -- ---- options
 
@@ -37,7 +41,7 @@ map_or : {X Y : Type 0} (f : X → Y) (a b : Option X)
 map_or f None b = refl
 map_or f (Some x) b = refl
 
--- ---- what stands at a node
+-- ---- the value at a node
 
 pub value_judged : (ns : List Node) (at : ℕ) (x : Node) (w : Want) (needed : Bool) (n : ℕ) (d : Doc)
     → Holds ns at d
@@ -64,12 +68,14 @@ found_there : (ns : List Node) (at i : ℕ) (k : List ℕ) (r : Option ℕ) (d :
     → FindsChild ns at k r → r ≡ Some i → Holds ns at d
     → Found ns at i (pieces d) (λ g. pieces (change_child k g d)) (get k d)
 found_there ns at i k r d finds is h =
-    subst (λ r. Finds ns at (pieces d) (λ g. pieces (change_child k g d)) r (get k d)) is (finds d h)
+    subst (λ r. Finds ns at (pieces d) (λ g. pieces (change_child k g d)) r (get k d)) is
+    (finds d h)
 
 none_there : (ns : List Node) (at : ℕ) (k : List ℕ) (r : Option ℕ) (d : Doc)
     → FindsChild ns at k r → r ≡ None → Holds ns at d → get k d ≡ None
 none_there ns at k r d finds is h =
-    subst (λ r. Finds ns at (pieces d) (λ g. pieces (change_child k g d)) r (get k d)) is (finds d h)
+    subst (λ r. Finds ns at (pieces d) (λ g. pieces (change_child k g d)) r (get k d)) is
+    (finds d h)
 
 member_at : (k : List ℕ) (w : Want) (needed : Bool) (n : ℕ) (d : Doc) (o : Option Doc)
     → is_object d ≡ true → get k d ≡ o
@@ -106,7 +112,7 @@ pub no_object_judged : (ns : List Node) (at : ℕ) (x : Node) (k : List ℕ) (w 
 no_object_judged ns at x k w needed obj n d h =
     sym (no_member_at k w needed n d (sym (object_there ns at x d h) ∙ obj))
 
--- ---- what is inside a member
+-- ---- below a member
 
 inside_at : (k : List ℕ) (p : PlaceStep) (ps : List PlaceStep) (w : Want) (needed : Bool) (n : ℕ)
     (d e : Doc) → get k d ≡ Some e
@@ -132,6 +138,62 @@ pub nothing_inside : (ns : List Node) (at : ℕ) (k : List ℕ) (p : PlaceStep) 
 nothing_inside ns at k p ps w needed r finds is n d h =
     sym (inside_none k p ps w needed n d (none_there ns at k r d finds is h))
 
+-- ---- a member at the top
+
+found_top : (ns : List Node) (e : Envelope) (i : ℕ) (k : List ℕ) (r : Option ℕ) (d : Doc)
+    → FindsTop ns e k r → r ≡ Some i → Locates ns e d
+    → Found ns 0 i (pieces d) (λ g. pieces (change_child k g d)) (get k d)
+found_top ns e i k r d finds is l =
+    subst (λ r. Finds ns 0 (pieces d) (λ g. pieces (change_child k g d)) r (get k d)) is (finds d l)
+
+none_top : (ns : List Node) (e : Envelope) (k : List ℕ) (r : Option ℕ) (d : Doc)
+    → FindsTop ns e k r → r ≡ None → Locates ns e d → get k d ≡ None
+none_top ns e k r d finds is l =
+    subst (λ r. Finds ns 0 (pieces d) (λ g. pieces (change_child k g d)) r (get k d)) is (finds d l)
+
+object_top : (ns : List Node) (e : Envelope) (x : Node) (d : Doc) → Locates ns e d
+    → is_object (top_of (piece_of (get_or ns 0 x))) ≡ is_object d
+object_top ns e x d l = object_there ns 0 x d (holds_whole ns d l.shows)
+
+pub top_judged : (ns : List Node) (e : Envelope) (i : ℕ) (x : Node) (k : List ℕ) (w : Want)
+    (needed : Bool) (c : Option Broken) (r : Option ℕ) → FindsTop ns e k r → r ≡ Some i
+    → is_object (top_of (piece_of (get_or ns 0 x))) ≡ true → Judges ns i [] w needed c
+    → JudgesTop ns e (named k ∷ []) w needed c
+top_judged ns e i x k w needed c r finds is obj judged n d l =
+    let f = found_top ns e i k r d finds is l in
+    judged n f.part f.holds
+    ∙ sym (member_at k w needed n d (Some f.part) (sym (object_top ns e x d l) ∙ obj) f.is)
+
+pub absent_top : (ns : List Node) (e : Envelope) (x : Node) (k : List ℕ) (w : Want) (needed : Bool)
+    (c : Option Broken) (r : Option ℕ) → FindsTop ns e k r → r ≡ None
+    → is_object (top_of (piece_of (get_or ns 0 x))) ≡ true
+    → ((n : ℕ) → told n c ≡ option_map (of_row n) (cause_against w needed None))
+    → JudgesTop ns e (named k ∷ []) w needed c
+absent_top ns e x k w needed c r finds is obj judged n d l =
+    let none = none_top ns e k r d finds is l in
+    judged n ∙ ap (option_map (of_row n)) (or_none (cause_against w needed None))
+    ∙ sym (member_at k w needed n d None (sym (object_top ns e x d l) ∙ obj) none)
+
+pub no_object_top : (ns : List Node) (e : Envelope) (x : Node) (k : List ℕ) (w : Want)
+    (needed : Bool) → is_object (top_of (piece_of (get_or ns 0 x))) ≡ false
+    → JudgesTop ns e (named k ∷ []) w needed None
+no_object_top ns e x k w needed obj n d l =
+    sym (no_member_at k w needed n d (sym (object_top ns e x d l) ∙ obj))
+
+pub through_top : (ns : List Node) (e : Envelope) (i : ℕ) (k : List ℕ) (p : PlaceStep)
+    (ps : List PlaceStep) (w : Want) (needed : Bool) (c : Option Broken) (r : Option ℕ)
+    → FindsTop ns e k r → r ≡ Some i → Judges ns i (p ∷ ps) w needed c
+    → JudgesTop ns e (named k ∷ p ∷ ps) w needed c
+through_top ns e i k p ps w needed c r finds is judged n d l =
+    let f = found_top ns e i k r d finds is l in
+    judged n f.part f.holds ∙ sym (inside_at k p ps w needed n d f.part f.is)
+
+pub nothing_top : (ns : List Node) (e : Envelope) (k : List ℕ) (p : PlaceStep)
+    (ps : List PlaceStep) (w : Want) (needed : Bool) (r : Option ℕ) → FindsTop ns e k r
+    → r ≡ None → JudgesTop ns e (named k ∷ p ∷ ps) w needed None
+nothing_top ns e k p ps w needed r finds is n d l =
+    sym (inside_none k p ps w needed n d (none_top ns e k r d finds is l))
+
 -- ---- items
 
 causes_then : (w : Want) (needed : Bool) (xs ys : List (Option Doc))
@@ -153,7 +215,7 @@ item_then n ps w needed e rest =
     ∙ map_or (of_row n) (broken_at ps w needed e)
     (first_cause (map (cause_against w needed) (flat_map (parts_at ps) (elements rest))))
 
--- no value begins with the end of a list
+-- no value starts with the end of a list
 no_value_ends : (ns : List Node) (p : ℕ) (d : Doc) (qs : List Piece) (x : Node)
     → Stand ns p (pieces d ++ qs) → piece_of (get_or ns p x) ≡ end_list → ⊥
 no_value_ends ns p null qs x s e = let first = stands_first ns p _ x _ _ s refl in cc
@@ -180,7 +242,8 @@ ended : (ns : List Node) (p : ℕ) (x : Node) (ps : List PlaceStep) (w : Want) (
     → piece_of (get_or ns p x) ≡ end_list → items_fault n ps w needed left ≡ None
 ended ns p x ps w needed n no_items s end = refl
 ended ns p x ps w needed n (item e rest) s end =
-    absurd (no_value_ends ns p e (items_pieces rest ++ end_list ∷ []) x (value_then ns p e rest s) end)
+    absurd (no_value_ends ns p e (items_pieces rest ++ end_list ∷ []) x
+    (value_then ns p e rest s) end)
 
 pub items_ended : (ns : List Node) (p : ℕ) (x : Node) (ps : List PlaceStep) (w : Want)
     (needed : Bool) (n : ℕ) (ds : Items) → ItemsLeft ns p ps w needed ds

@@ -1,6 +1,8 @@
 pub mod Tops
-pub mod Judged
 pub mod Heads
+pub mod Located
+pub mod KeptPlaces
+pub mod Judged
 pub mod Named
 pub mod Replacing
 pub mod Shown

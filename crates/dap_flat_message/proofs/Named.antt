@@ -1,4 +1,4 @@
--- What is wrong with a document of a kind and a name.
+-- The first fault of a document of a kind and a name.
 use Rattle.std.proofs.Common.{◌≡◌, ℕ, List, true, false, cond, Option, Some, None, refl, sym, ap}
 use Rattle.std.proofs.Common.{◌∙◌, get_or}
 use Rattle.dap_tree.specs.Doc.{Doc, null, boolean, whole, text, list, object, id}
@@ -14,9 +14,12 @@ use Rattle.dap_message.proofs.AskedRows.{asked-rows, any_name, fault-asked, faul
 use Rattle.dap_flat.specs.declared.node.Node.{Node}
 use Rattle.dap_flat.specs.Pieces.{piece_of, Represents}
 use Rattle.dap_flat_message.specs.Judging.{top_of}
-use Rattle.dap_flat_message.specs.Heads.{IsFirst, IsFault, IsNamed, AreAsked}
+use Rattle.dap_flat_message.specs.Heads.{IsFirst, IsFault, IsNamed, AreAsked, Tells}
+use Rattle.dap_flat_message.specs.Places.{IsEnvelope}
+use Rattle.dap_flat_message.specs.declared.members.Envelope.{Envelope}
 use Rattle.dap_flat_message.proofs.Tops.{top_there, is_object-top}
 use Rattle.dap_flat_message.proofs.Heads.{holds_whole}
+use Rattle.dap_flat_message.proofs.Located.{tells}
 
 object_of_kind : (d : Doc) (k : Kind) → kind_told d ≡ Some k → is_object d ≡ true
 object_of_kind null k h = absurd (cc)
@@ -27,11 +30,15 @@ object_of_kind (list ds) k h = absurd (cc)
 object_of_kind (object ms) k h = refl
 object_of_kind (id s z) k h = absurd (cc)
 
-pub asked_fault : (ns : List Node) (rs : List ProfileRow) (f : Option MessageFault)
-    → AreAsked ns rs → IsFirst ns 0 rs f → IsFault ns f
-asked_fault ns rs f asked first d shows =
+pub tells_whole : (ns : List Node) (e : Envelope) → IsEnvelope ns e → (d : Doc) → Represents ns d
+    → Tells ns d e
+tells_whole ns e places d shows = tells ns e d record { shows = shows; places = places d shows }
+
+pub asked_fault : (ns : List Node) (e : Envelope) (rs : List ProfileRow) (f : Option MessageFault)
+    → AreAsked ns rs → IsEnvelope ns e → IsFirst ns e rs f → IsFault ns f
+asked_fault ns e rs f asked places first d shows =
     let told = asked d shows in
-    first d (holds_whole ns d shows) ∙ ap (λ rs. first_by rs d) told.2
+    first d record { shows = shows; places = places d shows } ∙ ap (λ rs. first_by rs d) told.2
     ∙ sym (fault-asked d told.0 (object_of_kind d told.0 told.1) told.1)
 
 pub named_asked : (ns : List Node) (k : Kind) (n : Option (List ℕ)) (rs : List ProfileRow)

@@ -3,12 +3,14 @@ use Rattle.std.proofs.Common.{◌≡◌, ℕ, ◌+◌, ◌-◌, ◌<◌, ◌≤�
 use Rattle.std.proofs.Common.{drop, set, get_or, Option, Some, None, Ordering, Less, Equal, Greater}
 use Rattle.std.proofs.Common.{nat_cmp, true, false, Bool, cond, ℤ, refl, sym, ap, ap₂, ◌∙◌, arith}
 use Rattle.std.proofs.Common.{append_assoc, length-append, append-nil, subst, take_all}
-use Rattle.std.proofs.Math.Seq.{take-append_seam, drop-append_seam, set-append_seam, get_or-append_seam}
+use Rattle.std.proofs.Math.Seq.{take-append_seam, drop-append_seam, set-append_seam}
+use Rattle.std.proofs.Math.Seq.{get_or-append_seam}
 use Rattle.std.proofs.lemmas.List.{map-append, length-map}
 use Rattle.std.specs.Cmp.Lexicographic.{slice_cmp}
 use Rattle.std.specs.Ordering.{match_ordering}
 use Rattle.dap_tree.specs.declared.sort.Sort.{Sort}
-use Rattle.dap_tree.specs.Doc.{Doc, null, boolean, whole, text, list, object, id, Items, no_items, item, map_items}
+use Rattle.dap_tree.specs.Doc.{Doc, null, boolean, whole, text, list, object, id, Items, no_items}
+use Rattle.dap_tree.specs.Doc.{item, map_items}
 use Rattle.dap_tree.specs.Doc.{Members}
 use Rattle.dap_tree.specs.Doc.{no_members, member, get, get_member, change_child, change_member}
 use Rattle.dap_message.specs.Marks.{marked, is_id_of}
@@ -86,7 +88,8 @@ inner old new at i pre ps qs post all changed s is changes here r =
       is =
           r.is ∙ ap₂ (λ xs ys. xs ++ (r.put ++ ys)) fronts behinds
           ∙ append_assoc s.front one.front (r.put ++ (two.back ++ s.behind))
-          ∙ ap (λ xs. s.front ++ xs) (ap (λ xs. one.front ++ xs) (sym (append_assoc r.put two.back s.behind))
+          ∙ ap (λ xs. s.front ++ xs)
+          (ap (λ xs. one.front ++ xs) (sym (append_assoc r.put two.back s.behind))
           ∙ sym (append_assoc one.front (r.put ++ two.back) s.behind));
       here = s.here;
       showed = s.shows;
@@ -97,7 +100,8 @@ inner old new at i pre ps qs post all changed s is changes here r =
       long =
           ap length changes ∙ length-append pre (qs ++ post)
           ∙ ap (λ n. length pre + n) (length-append qs post ∙ ap (λ n. n + length post) r.long
-          ∙ sym (length-append ps post)) ∙ sym (length-append pre (ps ++ post)) ∙ ap length (sym is);
+          ∙ sym (length-append ps post)) ∙ sym (length-append pre (ps ++ post))
+          ∙ ap length (sym is);
     }
 
 -- the child that was found is changed
@@ -174,17 +178,21 @@ one_piece false s z = refl
 pub marked_there : (ns : List Node) (at : ℕ) (n x : Node) (s : Sort) (d : Doc) → Holds ns at d
     → piece_of n ≡ marked_piece s (piece_of (get_or ns at x))
     → Replaced ns (set ns at n) at (pieces d) (pieces (marked s d))
-marked_there ns at n x s null h e = one_replaced ns at n x _ _ [] h (λ is. e ∙ ap (marked_piece s) is)
-marked_there ns at n x s (boolean b) h e = one_replaced ns at n x _ _ [] h (λ is. e ∙ ap (marked_piece s) is)
+marked_there ns at n x s null h e =
+    one_replaced ns at n x _ _ [] h (λ is. e ∙ ap (marked_piece s) is)
+marked_there ns at n x s (boolean b) h e =
+    one_replaced ns at n x _ _ [] h (λ is. e ∙ ap (marked_piece s) is)
 marked_there ns at n x s (whole z) h e =
     subst (Replaced ns (set ns at n) at (leaf (whole z) ∷ [])) (sym (one_piece (is_id_of s z) s z))
     (one_replaced ns at n x _ _ [] h (λ is. e ∙ ap (marked_piece s) is))
-marked_there ns at n x s (text t) h e = one_replaced ns at n x _ _ [] h (λ is. e ∙ ap (marked_piece s) is)
+marked_there ns at n x s (text t) h e =
+    one_replaced ns at n x _ _ [] h (λ is. e ∙ ap (marked_piece s) is)
 marked_there ns at n x s (list ds) h e =
     one_replaced ns at n x _ _ _ h (λ is. e ∙ ap (marked_piece s) is)
 marked_there ns at n x s (object ms) h e =
     one_replaced ns at n x _ _ _ h (λ is. e ∙ ap (marked_piece s) is)
-marked_there ns at n x s (id t z) h e = one_replaced ns at n x _ _ [] h (λ is. e ∙ ap (marked_piece s) is)
+marked_there ns at n x s (id t z) h e =
+    one_replaced ns at n x _ _ [] h (λ is. e ∙ ap (marked_piece s) is)
 
 -- ---- a path, a step at a time
 
@@ -193,9 +201,9 @@ pub first_rest : {X : Type 0} (xs : List X) (d : X) → 1 ≤ length xs
 first_rest [] d some = absurd (omega (arith, some))
 first_rest (x ∷ xs) d some = ap (λ ys. x ∷ ys) (take_all _ xs (omega arith))
 
--- ---- items, one after the other
+-- ---- items, one after another
 
--- no value begins with the end of a list
+-- no value starts with the end of a list
 no_value_ends : (ns : List Node) (p : ℕ) (d : Doc) (qs : List Piece) (x : Node)
     → Stand ns p (pieces d ++ qs) → piece_of (get_or ns p x) ≡ end_list → ⊥
 no_value_ends ns p null qs x s e = let first = stands_first ns p _ x _ _ s refl in cc
@@ -210,14 +218,17 @@ pub replaced_then : (a b c : List Node) (at : ℕ) (ps qs rs : List Piece) → R
     → Replaced b c at qs rs → Replaced a c at ps rs
 replaced_then a b c at ps qs rs f g =
     let fronts : g.front ≡ f.front =
-    front_is b g.front (g.inside ++ g.behind) f.front (f.put ++ f.behind) at g.was f.is g.here f.here in
+    front_is b g.front (g.inside ++ g.behind) f.front (f.put ++ f.behind) at g.was f.is g.here
+    f.here in
     let rests : g.inside ++ g.behind ≡ f.put ++ f.behind =
-    behind_is b g.front (g.inside ++ g.behind) f.front (f.put ++ f.behind) at g.was f.is g.here f.here in
+    behind_is b g.front (g.inside ++ g.behind) f.front (f.put ++ f.behind) at g.was f.is g.here
+    f.here in
     let same_long : length g.inside ≡ length f.put =
     sym (length-map g.inside piece_of) ∙ ap length (g.showed ∙ sym f.shows)
     ∙ length-map f.put piece_of in
     let behinds : g.behind ≡ f.behind =
-    behind_is (f.put ++ f.behind) g.inside g.behind f.put f.behind (length g.inside) (sym rests) refl
+    behind_is (f.put ++ f.behind) g.inside g.behind f.put f.behind (length g.inside) (sym rests)
+    refl
     refl same_long in record {
       front = f.front;
       inside = f.inside;
@@ -261,7 +272,7 @@ map_joined : (f : Doc → Doc) (a b : Items)
 map_joined f no_items b = refl
 map_joined f (item d ds) b = ap (item (f d)) (map_joined f ds b)
 
--- the pieces round one of the items
+-- the pieces around one of the items
 round_one : (a b : Items) (d : Doc)
     → items_pieces (joined a (item d b)) ++ end_list ∷ []
     ≡ items_pieces a ++ (pieces d ++ (items_pieces b ++ end_list ∷ []))
@@ -280,7 +291,7 @@ none_so_far ns from f ds s = record {
   replaced = same_again ns from (items_pieces ds ++ end_list ∷ []) s;
 }
 
--- what stands at the next item
+-- the pieces from the next item on
 at_left : (now : List Node) (from p : ℕ) (done left : Items)
     → Stand now from (items_pieces (joined done left) ++ end_list ∷ [])
     → p ≡ from + length (items_pieces done) → Stand now p (items_pieces left ++ end_list ∷ [])
@@ -375,14 +386,20 @@ not_list ns at p ps n x i s there begun = sym (stands_first ns at n x p ps s the
 pub list_inside : (ns : List Node) (at : ℕ) (d : Doc) (n x : Node) (i : ℕ) → Holds ns at d
     → get_or ns at x ≡ n → piece_of n ≡ begin_list i
     → (ds : Items) × (d ≡ list ds) × Stand ns (at + 1) (items_pieces ds ++ end_list ∷ [])
-list_inside ns at null n x i h there begun = let no = not_list ns at _ _ n x i h there begun in absurd (cc)
-list_inside ns at (boolean b) n x i h there begun = let no = not_list ns at _ _ n x i h there begun in absurd (cc)
-list_inside ns at (whole z) n x i h there begun = let no = not_list ns at _ _ n x i h there begun in absurd (cc)
-list_inside ns at (text t) n x i h there begun = let no = not_list ns at _ _ n x i h there begun in absurd (cc)
+list_inside ns at null n x i h there begun =
+    let no = not_list ns at _ _ n x i h there begun in absurd (cc)
+list_inside ns at (boolean b) n x i h there begun =
+    let no = not_list ns at _ _ n x i h there begun in absurd (cc)
+list_inside ns at (whole z) n x i h there begun =
+    let no = not_list ns at _ _ n x i h there begun in absurd (cc)
+list_inside ns at (text t) n x i h there begun =
+    let no = not_list ns at _ _ n x i h there begun in absurd (cc)
 list_inside ns at (list ds) n x i h there begun =
     (ds, refl, behind_first ns at (begin_list (length (items_pieces ds))) _ h)
-list_inside ns at (object ms) n x i h there begun = let no = not_list ns at _ _ n x i h there begun in absurd (cc)
-list_inside ns at (id t z) n x i h there begun = let no = not_list ns at _ _ n x i h there begun in absurd (cc)
+list_inside ns at (object ms) n x i h there begun =
+    let no = not_list ns at _ _ n x i h there begun in absurd (cc)
+list_inside ns at (id t z) n x i h there begun =
+    let no = not_list ns at _ _ n x i h there begun in absurd (cc)
 
 pub list_replaced : (old new : List Node) (at : ℕ) (ds : Items) (f : Doc → Doc)
     → Holds old at (list ds)

@@ -1,4 +1,4 @@
--- What the kind of a document says of its envelope.
+-- The kind of a document, and the members that its kind has.
 use Rattle.std.proofs.Common.{◌≡◌, ℤ, Bool, true, false, cond, Some, None, refl, sym, ap, ap₂, ◌∙◌}
 use Rattle.std.proofs.Common.{codes}
 use Rattle.std.specs.Option.{option_map_or}

@@ -1,4 +1,4 @@
--- What begins with a node.
+-- A node is the start of a document.
 use Rattle.std.proofs.Common.{◌≡◌, ℕ, List, get_or, Bool}
 use Rattle.std.proofs.Common.{subst, Option, Some, refl, sym, ap, ◌∙◌}
 use Rattle.dap_tree.specs.Doc.{Doc, null, boolean, whole, text, list, object, id, no_items}
@@ -15,7 +15,7 @@ use Rattle.dap_message.specs.Envelope.{text_value, boolean_value, id_number}
 use Rattle.dap_message.specs.Rows.{is_true}
 use Rattle.dap_flat_message.specs.Judging.{top_of, is_list, Begins}
 
--- a document of the same sort, with nothing inside
+-- a document of the same form, without its parts
 abbrev pub top : Doc → Doc
 top null = null
 top (boolean b) = boolean b

@@ -1,5 +1,6 @@
--- Messages that tell no capabilities.
-use Rattle.std.proofs.Common.{◌≡◌, ℕ, List, Bool, true, false, cond, ◌&&◌, Option, Some, None, refl, sym}
+-- Messages that report no capabilities.
+use Rattle.std.proofs.Common.{◌≡◌, ℕ, List, Bool, true, false, cond, ◌&&◌, Option, Some, None, refl}
+use Rattle.std.proofs.Common.{sym}
 use Rattle.std.proofs.Common.{ap, ◌∙◌, bytes_eq, codes, subst}
 use Rattle.std.specs.Option.{option_map_or}
 use Rattle.dap_tree.specs.Doc.{Doc, null, boolean, whole, text, list, object, id, get}
@@ -19,7 +20,9 @@ use Rattle.dap_flat.specs.declared.node.Node.{Node}
 use Rattle.dap_flat.specs.Pieces.{Represents}
 use Rattle.dap_flat_message.specs.Heads.{IsNamed, IsFault}
 use Rattle.dap_flat_message.specs.Marked.{Makes}
-use Rattle.dap_flat_message.specs.Typed.{IsTypedFlat, may_tell}
+use Rattle.dap_flat_message.specs.Places.{IsEnvelope, Locates}
+use Rattle.dap_flat_message.specs.Typed.{IsTypedFlat, KeepsPlaces, may_tell}
+use Rattle.dap_flat_message.specs.declared.members.Envelope.{Envelope}
 
 text-value : (w : List ℕ) (o : Option Doc)
     → is_text w o ≡ option_map_or (bytes_eq w) (text_value o) false
@@ -70,12 +73,25 @@ untold Adapter d Response n told name not_told =
     (worded w o b ∙ ap (λ n. option_map_or (bytes_eq w) n false) name ∙ not_told)
     ∙ both_false (is_of_kind Response d)
 
-pub typed_nodes : (side : Side) (old new : List Node) (k : Kind) (n : Option (List ℕ))
-    → IsNamed old k n → may_tell side k n ≡ false → IsFault old None → Makes old new (mark side)
-    → IsTypedFlat side old new None
-typed_nodes side old new k n named not_told fits makes d shows =
+located : (side : Side) (old new : List Node) (e : Envelope) (k : Kind) (n : Option (List ℕ))
+    → IsNamed old k n → may_tell side k n ≡ false → IsEnvelope old e
+    → Makes e old new (mark side) → (d : Doc) → Represents old d
+    → Locates new e (message_of side d)
+located side old new e k n named not_told places makes d shows =
     let told = named d shows in
     let none = untold side d k n told.0 told.1 not_told in
     let is : mark side d ≡ message_of side d =
     ap (λ b. mark side (cond b (with_capabilities d) d)) (sym none) in
-    (sym (fits d shows), subst (Represents new) is (makes d shows))
+    subst (Locates new e) is (makes d record { shows = shows; places = places d shows })
+
+pub typed_nodes : (side : Side) (old new : List Node) (e : Envelope) (k : Kind)
+    (n : Option (List ℕ)) → IsNamed old k n → may_tell side k n ≡ false → IsEnvelope old e
+    → IsFault old None → Makes e old new (mark side) → IsTypedFlat side old new None
+typed_nodes side old new e k n named not_told places fits makes d shows =
+    (sym (fits d shows), (located side old new e k n named not_told places makes d shows).shows)
+
+pub typed_places : (side : Side) (old new : List Node) (e : Envelope) (k : Kind)
+    (n : Option (List ℕ)) → IsNamed old k n → may_tell side k n ≡ false → IsEnvelope old e
+    → Makes e old new (mark side) → KeepsPlaces side old e None
+typed_places side old new e k n named not_told places makes d shows =
+    (located side old new e k n named not_told places makes d shows).places

@@ -1,6 +1,6 @@
--- What is wrong with a message that nodes show.
-use Rattle.std.specs.Prelude.{◌≡◌, ℕ, List, [], ◌∷◌, ◌++◌, map, Bool, true, false, Option, Some, None, option_map}
-use Rattle.std.specs.Prelude.{MatchOption}
+-- The first fault of a message that nodes represent.
+use Rattle.std.specs.Prelude.{◌≡◌, ℕ, List, [], ◌∷◌, ◌++◌, map, Bool, true, false, Option, Some}
+use Rattle.std.specs.Prelude.{None, option_map, MatchOption}
 use Rattle.std.specs.List.{flat_map}
 use Rattle.dap_tree.specs.Doc.{Doc, null, list, object, Items, no_items}
 use Rattle.dap_tree.specs.Doc.{no_members}
@@ -14,16 +14,18 @@ use Rattle.dap_flat.specs.declared.node.Node.{Node}
 use Rattle.dap_flat.specs.Finding.{Stand, Holds}
 use Rattle.dap_flat.specs.Pieces.{Piece, leaf, begin_list, end_list, begin_object, end_object, name}
 use Rattle.dap_flat.specs.Pieces.{items_pieces}
+use Rattle.dap_flat_message.specs.Places.{Locates}
+use Rattle.dap_flat_message.specs.declared.members.Envelope.{Envelope}
 use Rattle.dap_flat_message.specs.declared.rows.Broken.{Broken}
 use Rattle.dap_flat_message.specs.declared.rows.Broken.TheVariants.{Missing, WrongType}
 
--- ---- what stands somewhere
+-- ---- the value at a place
 
--- What was found begins there; nothing is found of what is absent.
+-- The document starts at the place that was found. If no place was found, there is no document.
 abbrev pub Begins : List Node → Option ℕ → Option Doc → Type 0
 Begins ns found d = MatchOption found (d ≡ None) (λ i. (e : Doc) × (d ≡ Some e) × Holds ns i e)
 
--- For private clauses: a document of the sort that begins with the piece.
+-- For private clauses: a document that starts with the piece, without its parts.
 abbrev pub top_of : Piece → Doc
 top_of (leaf d) = d
 top_of (begin_list n) = list no_items
@@ -39,7 +41,7 @@ is_list _ = false
 
 -- ---- how a row is broken
 
--- The fault of the row with that number.
+-- The fault by the row with that number.
 abbrev pub fault_told : ℕ → Broken → MessageFault
 fault_told n Missing = fault.Missing n
 fault_told n WrongType = fault.WrongType n
@@ -47,28 +49,33 @@ fault_told n WrongType = fault.WrongType n
 abbrev pub told : ℕ → Option Broken → Option MessageFault
 told n c = option_map (fault_told n) c
 
--- It is what is wrong at that place of the document that begins there.
+-- It is the fault at that path of the document that starts there.
 abbrev pub Judges : List Node → ℕ → List PlaceStep → Want → Bool → Option Broken → Type 0
 Judges ns at p want needed c = (n : ℕ) (d : Doc) → Holds ns at d
     → told n c ≡ option_map (of_row n) (broken_at p want needed d)
 
--- What is wrong at that place of some items.
+-- It is the fault at that path of the whole document.
+abbrev pub JudgesTop : List Node → Envelope → List PlaceStep → Want → Bool → Option Broken → Type 0
+JudgesTop ns e p want needed c = (n : ℕ) (d : Doc) → Locates ns e d
+    → told n c ≡ option_map (of_row n) (broken_at p want needed d)
+
+-- The fault at that path of some items.
 abbrev pub items_fault : ℕ → List PlaceStep → Want → Bool → Items → Option MessageFault
 items_fault n p want needed ds =
     option_map (of_row n)
     (first_cause (map (cause_against want needed) (flat_map (parts_at p) (elements ds))))
 
--- It is what is wrong at that place of the items that begin there.
+-- It is the fault at that path of the items that start there.
 abbrev pub JudgesItems : List Node → ℕ → List PlaceStep → Want → Bool → Option Broken → Type 0
 JudgesItems ns from p want needed c = (n : ℕ) (ds : Items)
     → Stand ns from (items_pieces ds ++ end_list ∷ []) → told n c ≡ items_fault n p want needed ds
 
--- The place of a part of an item, or of the item itself.
+-- The path of a part of an item, or of the item itself.
 abbrev pub part_steps : Option (List ℕ) → List PlaceStep
 part_steps None = []
 part_steps (Some k) = named k ∷ []
 
--- For a loop: nothing is wrong with the items before.
+-- For a loop: the items before p have no fault.
 pub record ItemsLeft (ns : List Node) (p : ℕ) (place : List PlaceStep) (want : Want) (needed : Bool)
     (ds : Items) : Type 0 where
   pub left : Items

@@ -1,3 +1,4 @@
+pub mod Places
 pub mod Judging
 pub mod Heads
 pub mod Marking

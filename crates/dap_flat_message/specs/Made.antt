@@ -7,13 +7,15 @@ use Rattle.dap_message.specs.Envelope.{request_seq_of, success_of}
 use Rattle.dap_message.specs.Faults.{Fits}
 use Rattle.dap_message.specs.Message.{message_of}
 use Rattle.dap_message.specs.Rows.{is_of_kind}
-use Rattle.dap_flat.specs.Pieces.{Represents}
 use Rattle.dap_flat.specs.declared.node.Node.{Node}
+use Rattle.dap_flat_message.specs.Places.{Locates}
+use Rattle.dap_flat_message.specs.declared.members.Envelope.{Envelope}
 
--- The nodes represent the message that some document is on this side.
-abbrev pub IsMadeOf : Side → List Node → Type 0
-IsMadeOf side ns =
-    (d : Doc) × (is_plain d ≡ true) × Fits d × Represents ns (message_of side d)
+-- The nodes represent the message that some document is on this side, and the envelope has the
+-- places of its members.
+abbrev pub IsMadeOf : Side → List Node → Envelope → Type 0
+IsMadeOf side ns e =
+    (d : Doc) × (is_plain d ≡ true) × Fits d × Locates ns e (message_of side d)
 
 -- The number that a response answers, and whether it reports success.
 pub record Answers (a : Option ℤ × Option Bool) (d : Doc) : Type 0 where

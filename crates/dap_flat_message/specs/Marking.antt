@@ -1,4 +1,4 @@
--- A part of a flat document changed where it stands.
+-- A part of a flat document that is changed in its place.
 use Rattle.std.specs.Prelude.{◌≡◌, ℕ, ◌+◌, List, [], ◌∷◌, ◌++◌, map, length}
 use Rattle.dap_tree.specs.declared.sort.Sort.{Sort}
 use Rattle.dap_tree.specs.Doc.{Doc, Items, no_items, item, map_items}
@@ -11,7 +11,7 @@ use Rattle.dap_flat.specs.Pieces.{piece_of, pieces, items_pieces}
 use Rattle.dap_flat_message.specs.declared.marks.Step.{Step}
 use Rattle.dap_flat_message.specs.declared.marks.Step.TheVariants.{Name, Each}
 
--- What begins there are other pieces now, as many, and nothing else is changed.
+-- The pieces that start there are replaced by the same number of others. Nothing else is changed.
 pub record Replaced (old new : List Node) (at : ℕ) (ps qs : List Piece) : Type 0 where
   pub front : List Node
   pub inside : List Node
@@ -24,11 +24,11 @@ pub record Replaced (old new : List Node) (at : ℕ) (ps qs : List Piece) : Type
   pub shows : map piece_of put ≡ qs
   pub long : length qs ≡ length ps
 
--- The document that begins there is changed so.
+-- The document that starts there is changed by f.
 abbrev pub Edits : List Node → List Node → ℕ → (Doc → Doc) → Type 0
 Edits old new at f = (d : Doc) → Holds old at d → Replaced old new at (pieces d) (pieces (f d))
 
--- The items that begin there, with the end of their list, are changed so.
+-- The items that start there are changed by f. The end of their list comes after them.
 abbrev pub EditsItems : List Node → List Node → ℕ → (Doc → Doc) → Type 0
 EditsItems old new at f = (ds : Items) → Stand old at (items_pieces ds ++ end_list ∷ [])
     → Replaced old new at (items_pieces ds ++ end_list ∷ [])
@@ -41,12 +41,12 @@ step_of Each = each
 abbrev pub steps : List Step → List PlaceStep
 steps path = map step_of path
 
--- The items, and others behind them.
+-- The items, and others after them.
 abbrev pub joined : Items → Items → Items
 joined no_items es = es
 joined (item d ds) es = item d (joined ds es)
 
--- For a loop: of the items those in front of p are changed.
+-- For a loop: the items before p are changed.
 pub record SoFar (old now : List Node) (from p : ℕ) (f : Doc → Doc) (ds : Items) : Type 0 where
   pub done : Items
   pub left : Items

@@ -1,22 +1,25 @@
-//! The first thing that is wrong with a flat message.
+//! Finds the first row that a flat message violates.
 ghost use Rattle.std.specs.Prelude.{◌≡◌, Some, None, IfOk, map, option_map};
 ghost use Rattle.dap_tree.specs.Doc.{Doc};
 ghost use Rattle.dap_profile.specs.Stretches.{rows_in};
 ghost use Rattle.dap_profile.specs.ProfileRows.{row_of};
 ghost use Rattle.dap_message.specs.AskedRows.{fault_by, asked_rows, first_by};
 ghost use Rattle.dap_message.specs.Faults.{fault};
-ghost use Rattle.dap_flat_message.specs.Heads.{IsFirst, IsTold, IsFault, IsNamed, AreAsked, text_in};
+ghost use Rattle.dap_flat_message.specs.Heads.{IsFirst, IsTold, IsFault, IsNamed, AreAsked};
+ghost use Rattle.dap_flat_message.specs.Heads.{text_in};
+ghost use Rattle.dap_flat_message.specs.Places.{IsEnvelope};
 
-use crate::members::{find_envelope, kind_told, name_told};
+use crate::members::{Envelope, kind_told, name_told};
 use crate::rows::{Broken, broken_by, is_object};
 use dap_flat::{Node, Unread};
 use dap_message::MessageFault;
 use dap_profile::{Kind, Row, rows_of};
 
-/// What is wrong with the message that the nodes show: nothing, or what `typed` would tell of it.
+/// Returns the message's fault, as `typed` does, or `None` if it has none.
 ///
-/// `Unclear` where they show no document.
-pub fn message_fault(nodes: &[Node<'_>]) -> Result<Option<MessageFault>, Unread>
+/// Returns `Unclear` if the nodes do not represent a document.
+pub fn message_fault(nodes: &[Node<'_>], found: &Envelope) -> Result<Option<MessageFault>, Unread>
+    requires { IsEnvelope nodes.now found.now }
     ensures { IfOk result (IsFault nodes.now) }
 {
     if nodes.is_empty() {
@@ -25,42 +28,48 @@ pub fn message_fault(nodes: &[Node<'_>]) -> Result<Option<MessageFault>, Unread>
     if !is_object(&nodes[0]) {
         return Ok(Some(MessageFault::NotObject));
     }
-    let found = find_envelope(nodes, 0)?;
-    match kind_told(nodes, &found)? {
-        Some(kind) => first_broken(nodes, kind, name_told(nodes, &found, kind)?),
+    match kind_told(nodes, found)? {
+        Some(kind) => first_broken(nodes, found, kind, name_told(nodes, found, kind)?),
         None => Ok(Some(MessageFault::UnknownType)),
     }
 }
 
-/// The fault of the first broken row that is asked of a message of this kind and name.
+/// Returns the fault by the first violated row that applies to a message of this kind and name.
 pub fn first_broken(
     nodes: &[Node<'_>],
+    found: &Envelope,
     kind: Kind,
     name: Option<&str>,
 ) -> Result<Option<MessageFault>, Unread>
-    requires { IsNamed nodes.now kind (text_in name) }
+    requires named { IsNamed nodes.now kind (text_in name) }
+    requires places { IsEnvelope nodes.now found.now }
     ensures { IfOk result (IsFault nodes.now) }
 {
-    first_asked(nodes, &rows_of(kind, name))
+    first_asked(nodes, found, &rows_of(kind, name))
 }
 
-/// The fault of the first broken row of these, which are asked of the message.
-pub fn first_asked(nodes: &[Node<'_>], stretches: &[&[Row]]) -> Result<Option<MessageFault>, Unread>
-    requires { AreAsked nodes.now (rows_in stretches.now) }
+/// Returns the fault by the first violated row of those that apply to the message.
+pub fn first_asked(
+    nodes: &[Node<'_>],
+    found: &Envelope,
+    stretches: &[&[Row]],
+) -> Result<Option<MessageFault>, Unread>
+    requires asked { AreAsked nodes.now (rows_in stretches.now) }
+    requires places { IsEnvelope nodes.now found.now }
     ensures { IfOk result (IsFault nodes.now) }
 {
-    first_in(stretches, nodes, 0)
+    first_in(stretches, nodes, found)
 }
 
 fn first_in(
     stretches: &[&[Row]],
     nodes: &[Node<'_>],
-    at: usize,
+    found: &Envelope,
 ) -> Result<Option<MessageFault>, Unread>
-    ensures { IfOk result (IsFirst nodes.now at (rows_in stretches.now)) }
+    ensures { IfOk result (IsFirst nodes.now found.now (rows_in stretches.now)) }
 {
     for rows in stretches {
-        let fault = first_of(rows, nodes, at)?;
+        let fault = first_of(rows, nodes, found)?;
         if fault.is_some() {
             return Ok(fault);
         }
@@ -68,11 +77,15 @@ fn first_in(
     Ok(None)
 }
 
-fn first_of(rows: &[Row], nodes: &[Node<'_>], at: usize) -> Result<Option<MessageFault>, Unread>
-    ensures { IfOk result (IsFirst nodes.now at (map row_of rows.now)) }
+fn first_of(
+    rows: &[Row],
+    nodes: &[Node<'_>],
+    found: &Envelope,
+) -> Result<Option<MessageFault>, Unread>
+    ensures { IfOk result (IsFirst nodes.now found.now (map row_of rows.now)) }
 {
     for row in rows {
-        let fault = fault_by(row, nodes, at)?;
+        let fault = fault_by(row, nodes, found)?;
         if fault.is_some() {
             return Ok(fault);
         }
@@ -80,10 +93,10 @@ fn first_of(rows: &[Row], nodes: &[Node<'_>], at: usize) -> Result<Option<Messag
     Ok(None)
 }
 
-fn fault_by(row: &Row, nodes: &[Node<'_>], at: usize) -> Result<Option<MessageFault>, Unread>
-    ensures { IfOk result (IsTold nodes.now at (fault_by (row_of row.now))) }
+fn fault_by(row: &Row, nodes: &[Node<'_>], found: &Envelope) -> Result<Option<MessageFault>, Unread>
+    ensures { IfOk result (IsTold nodes.now found.now (fault_by (row_of row.now))) }
 {
-    match broken_by(row, nodes, at)? {
+    match broken_by(row, nodes, found)? {
         Some(Broken::Missing) => Ok(Some(MessageFault::Missing(row.number))),
         Some(Broken::WrongType) => Ok(Some(MessageFault::WrongType(row.number))),
         None => Ok(None),

@@ -1,4 +1,4 @@
-//! The numbers of a flat message that are ids, marked in place.
+//! Marks the numbers of a flat message that are ids, in place.
 ghost use Rattle.std.specs.Prelude.{◌≡◌, ◌<◌, ◌^◌, length, slice_set, slice_index_or, OnOk, pos};
 ghost use Rattle.dap_tree.specs.Doc.{change_child, change_items};
 ghost use Rattle.dap_message.specs.Marks.{edit, marked, is_id_of};
@@ -10,14 +10,14 @@ ghost use Rattle.dap_flat_message.specs.Marking.{Edits, EditsItems, steps, marke
 use dap_flat::{Node, Unread, child, value_end};
 use dap_tree::Sort;
 
-/// One step of a place: to a member, or to each element.
+/// One step of a path: to a member, or to each element.
 #[derive(Clone, Copy, Drop)]
 pub enum Step<'a> {
     Name(&'a str),
     Each,
 }
 
-/// Marks the numbers that stand at a path, in the document that begins at `at`.
+/// Marks the numbers at a path in the document that starts at `at`.
 #[cycle(mark_path)]
 pub fn mark_path(
     nodes: &mut [Node<'_>],
@@ -53,7 +53,7 @@ fn mark_below(
     }
 }
 
-/// Marks what stands at the path in each item of a list.
+/// Marks the numbers at a path in each item of a list.
 #[cycle(mark_path)]
 fn mark_each(nodes: &mut [Node<'_>], at: usize, path: &[Step<'_>], sort: Sort) -> Result<(), Unread>
     ensures { OnOk result (Edits nodes.old nodes.new at
@@ -91,7 +91,8 @@ fn mark_items(
 }
 
 fn is_end(node: Node<'_>) -> bool
-    ensures { MatchBool result (piece_of node.entry ≡ end_list) (piece_of node.entry ≡ end_list → ⊥) }
+    ensures { MatchBool result (piece_of node.entry ≡ end_list)
+        (piece_of node.entry ≡ end_list → ⊥) }
 {
     match node {
         Node::EndList => true,

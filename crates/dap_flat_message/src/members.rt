@@ -1,20 +1,36 @@
-//! The members that every message of a kind has, found in one pass.
-ghost use Rattle.std.specs.Prelude.{◌≡◌, ◌+◌, IfOk, option_map, codes, Some, Option};
-ghost use Rattle.dap_tree.specs.Doc.{Doc, get};
+//! The members at the top of a message, found in one pass.
+ghost use Rattle.std.specs.Prelude.{◌≡◌, false, IfOk, MatchOption, bytes_eq, Some, None};
+ghost use Rattle.std.specs.Option.{option_or};
+ghost use Rattle.dap_tree.specs.Doc.{Doc};
 ghost use Rattle.dap_message.specs.AskedRows.{kind_typed, kind_told, name_told};
 ghost use Rattle.dap_message.specs.Envelope.{text_value, boolean_value, id_number};
 ghost use Rattle.dap_message.specs.Rows.{is_true};
-ghost use Rattle.dap_flat.specs.Finding.{Holds};
 ghost use Rattle.dap_flat.specs.Pieces.{piece_of};
-ghost use Rattle.dap_flat_message.specs.Judging.{Begins, top_of};
-ghost use Rattle.dap_flat_message.specs.Heads.{IsEnvelope, IsEnvelopeLeft, note, IsValue, IsTold};
-ghost use Rattle.dap_flat_message.specs.Heads.{text_in, Tells};
+ghost use Rattle.dap_flat_message.specs.Judging.{top_of};
+ghost use Rattle.dap_flat_message.specs.Heads.{note, IsValue, text_in, Tells};
+ghost use Rattle.dap_flat_message.specs.Places.{IsEnvelope, FindsTop, word, place_at, put_at};
+ghost use Rattle.dap_flat_message.specs.declared.members.Key.{Key};
 
 use crate::rows::is_object;
-use dap_flat::{Node, Unread, value_end};
+use dap_flat::{Node, Unread, child, value_end};
 use dap_profile::Kind;
 
-/// Where the members begin that tell what message it is.
+/// A member at the top of a message that rows look at.
+#[derive(Clone, Copy, Drop)]
+pub enum Key {
+    /// `type`.
+    Kind,
+    Command,
+    Event,
+    Seq,
+    RequestSeq,
+    Success,
+    Message,
+    Arguments,
+    Body,
+}
+
+/// The places of a message's members: where the value of each of them starts.
 #[derive(Clone, Copy, Drop)]
 pub struct Envelope {
     /// `type`.
@@ -24,29 +40,117 @@ pub struct Envelope {
     pub seq: Option<usize>,
     pub request_seq: Option<usize>,
     pub success: Option<usize>,
+    pub message: Option<usize>,
+    pub arguments: Option<usize>,
+    pub body: Option<usize>,
 }
 
-/// Where those members of the document begin that begins at `at`, in one pass over its members.
-///
-/// `Unclear` where no document begins there.
-pub fn find_envelope(nodes: &[Node<'_>], at: usize) -> Result<Envelope, Unread>
-    ensures { IfOk result (IsEnvelope nodes.now at) }
+impl Envelope {
+    #[inline(always)]
+    fn new() -> Envelope
+        ensures { (k : Key) → place_at k result ≡ None }
+    {
+        Envelope {
+            kind: None,
+            command: None,
+            event: None,
+            seq: None,
+            request_seq: None,
+            success: None,
+            message: None,
+            arguments: None,
+            body: None,
+        }
+    }
+
+    #[inline(always)]
+    fn place(&self, key: Key) -> Option<usize>
+        ensures { result ≡ place_at key self.now }
+    {
+        match key {
+            Key::Kind => self.kind,
+            Key::Command => self.command,
+            Key::Event => self.event,
+            Key::Seq => self.seq,
+            Key::RequestSeq => self.request_seq,
+            Key::Success => self.success,
+            Key::Message => self.message,
+            Key::Arguments => self.arguments,
+            Key::Body => self.body,
+        }
+    }
+
+    /// Notes the place of a member, if it has none.
+    #[inline(always)]
+    fn with(self, key: Key, place: usize) -> Envelope
+        ensures { result ≡ put_at key (option_or (place_at key self) (Some place)) self }
+    {
+        match key {
+            Key::Kind => Envelope {
+                kind: first(self.kind, place),
+                ..self
+            },
+            Key::Command => Envelope {
+                command: first(self.command, place),
+                ..self
+            },
+            Key::Event => Envelope {
+                event: first(self.event, place),
+                ..self
+            },
+            Key::Seq => Envelope {
+                seq: first(self.seq, place),
+                ..self
+            },
+            Key::RequestSeq => Envelope {
+                request_seq: first(self.request_seq, place),
+                ..self
+            },
+            Key::Success => Envelope {
+                success: first(self.success, place),
+                ..self
+            },
+            Key::Message => Envelope {
+                message: first(self.message, place),
+                ..self
+            },
+            Key::Arguments => Envelope {
+                arguments: first(self.arguments, place),
+                ..self
+            },
+            Key::Body => Envelope {
+                body: first(self.body, place),
+                ..self
+            },
+        }
+    }
+}
+
+#[inline(always)]
+fn first(found: Option<usize>, place: usize) -> Option<usize>
+    ensures { result ≡ option_or found (Some place) }
 {
-    let mut found = Envelope {
-        kind: None,
-        command: None,
-        event: None,
-        seq: None,
-        request_seq: None,
-        success: None,
-    };
-    if at >= nodes.len() {
+    match found {
+        Some(_) => found,
+        None => Some(place),
+    }
+}
+
+/// Returns the places of the members of the document that the nodes represent, in one pass over
+/// them. If it is not an object, it has none.
+///
+/// Returns `Unclear` if the nodes do not represent a document.
+pub fn find_envelope(nodes: &[Node<'_>]) -> Result<Envelope, Unread>
+    ensures { IfOk result (IsEnvelope nodes.now) }
+{
+    let mut found = Envelope::new();
+    if nodes.is_empty() {
         return Err(Unread::Unclear);
     }
-    if !is_object(&nodes[at]) {
+    if !is_object(&nodes[0]) {
         return Ok(found);
     }
-    let mut p = at + 1;
+    let mut p = 1;
     while p < nodes.len() {
         match nodes[p] {
             Node::Name(name) => {
@@ -62,36 +166,55 @@ pub fn find_envelope(nodes: &[Node<'_>], at: usize) -> Result<Envelope, Unread>
 
 #[inline(always)]
 fn noted(found: Envelope, name: &str, place: usize) -> Envelope
-    ensures kind { result.kind ≡ note (codes "type") name.now place found.kind }
-    ensures command { result.command ≡ note (codes "command") name.now place found.command }
-    ensures event { result.event ≡ note (codes "event") name.now place found.event }
-    ensures seq { result.seq ≡ note (codes "seq") name.now place found.seq }
-    ensures request_seq { result.request_seq
-        ≡ note (codes "request_seq") name.now place found.request_seq }
-    ensures success { result.success ≡ note (codes "success") name.now place found.success }
+    ensures { (k : Key) → place_at k result ≡ note (word k) name.now place (place_at k found) }
 {
-    Envelope {
-        kind: note("type", name, place, found.kind),
-        command: note("command", name, place, found.command),
-        event: note("event", name, place, found.event),
-        seq: note("seq", name, place, found.seq),
-        request_seq: note("request_seq", name, place, found.request_seq),
-        success: note("success", name, place, found.success),
+    match key_named(name) {
+        Some(key) => found.with(key, place),
+        None => found,
     }
 }
 
 #[inline(always)]
-fn note(key: &str, name: &str, place: usize, found: Option<usize>) -> Option<usize>
-    ensures { result ≡ note key.now name.now place found }
+fn key_named(name: &str) -> Option<Key>
+    ensures { MatchOption result ((k : Key) → bytes_eq (word k) name.now ≡ false)
+        (λ k. name.now ≡ word k) }
 {
-    match found {
-        Some(_) => found,
-        None if key == name => Some(place),
-        None => None,
+    if name == "body" {
+        Some(Key::Body)
+    } else if name == "arguments" {
+        Some(Key::Arguments)
+    } else if name == "seq" {
+        Some(Key::Seq)
+    } else if name == "command" {
+        Some(Key::Command)
+    } else if name == "type" {
+        Some(Key::Kind)
+    } else if name == "request_seq" {
+        Some(Key::RequestSeq)
+    } else if name == "success" {
+        Some(Key::Success)
+    } else if name == "event" {
+        Some(Key::Event)
+    } else if name == "message" {
+        Some(Key::Message)
+    } else {
+        None
     }
 }
 
-/// The text that begins there.
+/// Returns the place of a member's value, as [`child`] does at the top of the document. It looks
+/// into the nodes only if the envelope does not note the name.
+#[inline(always)]
+pub fn top_child(nodes: &[Node<'_>], found: &Envelope, name: &str) -> Result<Option<usize>, Unread>
+    ensures { IfOk result (FindsTop nodes.now found.now name.now) }
+{
+    match key_named(name) {
+        Some(key) => Ok(found.place(key)),
+        None => child(nodes, 0, name),
+    }
+}
+
+/// Returns the string that starts at the place, if one does.
 pub fn text_at<'a>(nodes: &[Node<'a>], place: Option<usize>) -> Result<Option<&'a str>, Unread>
     ensures { IfOk result (λ s. IsValue nodes.now place text_value (text_in s)) }
 {
@@ -113,7 +236,7 @@ fn text_of<'a>(node: &Node<'a>) -> Option<&'a str>
     }
 }
 
-/// The boolean that begins there.
+/// Returns the boolean that starts at the place, if one does.
 pub fn boolean_at(nodes: &[Node<'_>], place: Option<usize>) -> Result<Option<bool>, Unread>
     ensures { IfOk result (IsValue nodes.now place boolean_value) }
 {
@@ -135,7 +258,7 @@ fn boolean_of(node: &Node<'_>) -> Option<bool>
     }
 }
 
-/// The number of the id that begins there.
+/// Returns the number of the id that starts at the place, if one does.
 pub fn number_at(nodes: &[Node<'_>], place: Option<usize>) -> Result<Option<i64>, Unread>
     ensures { IfOk result (IsValue nodes.now place id_number) }
 {
@@ -157,7 +280,7 @@ fn number_of(node: &Node<'_>) -> Option<i64>
     }
 }
 
-/// The kind of a document with this envelope, if it has one.
+/// Returns the kind of a document with this envelope, if it has one.
 pub fn kind_told(nodes: &[Node<'_>], envelope: &Envelope) -> Result<Option<Kind>, Unread>
     ensures { IfOk result
         (λ k. (d : Doc) → Tells nodes.now d envelope.now → k ≡ kind_told d) }
@@ -182,7 +305,8 @@ fn kind_typed(text: &str) -> Option<Kind>
     }
 }
 
-/// The name by which rows are asked of a document of this kind: none where it may have no body.
+/// Returns the name by which rows apply to a document of this kind, or `None` if it is a response
+/// that has no body.
 pub fn name_told<'a>(
     nodes: &[Node<'a>],
     envelope: &Envelope,

@@ -14,7 +14,7 @@ ghost use Rattle.dap_flat.specs.Pieces.{Represents};
 ghost use Rattle.dap_flat_message.specs.Made.{IsMadeOf, Answers};
 ghost use Rattle.dap_flat_message.specs.Heads.{Tells, text_in};
 
-use crate::members::{Envelope, boolean_at, find_envelope, kind_told, number_at, text_at};
+use crate::members::{Envelope, boolean_at, kind_told, number_at, text_at};
 use dap_flat::{Node, Unread, add_ids, replace_ids, write_flat};
 use dap_message::AnyMessage;
 use dap_profile::Kind;
@@ -52,19 +52,23 @@ pub struct FlatMessage<'a> {
 impl<'a> FlatMessage<'a> {
     ghost use Rattle.dap_flat_message.specs.FlatMessages.{flat_side, flat_doc};
 
-    /// Makes a message of the nodes of a document that fits the profile, with its ids marked.
+    /// Makes a message of the nodes of a document that fits the profile, with its ids marked. The
+    /// envelope has the places of its members.
     ///
     /// Returns `Unclear` if the nodes do not represent a document.
-    pub(crate) fn new(side: Side, nodes: Vec<Node<'a>>) -> Result<FlatMessage<'a>, Unread>
-        requires { IsMadeOf side nodes.items }
+    pub(crate) fn new(
+        side: Side,
+        nodes: Vec<Node<'a>>,
+        found: &Envelope,
+    ) -> Result<FlatMessage<'a>, Unread>
+        requires { IsMadeOf side nodes.items found.now }
         ensures side { IfOk result (λ m. flat_side m ≡ side) }
         ensures doc { IfOk result (λ m. flat_doc m ≡ document_of nodes.entry.items) }
     {
-        let found = find_envelope(&nodes, 0)?;
-        let kind = kind_told(&nodes, &found)?.ok_or(Unread::Unclear)?;
-        let name = name_at(&nodes, &found, kind)?.ok_or(Unread::Unclear)?;
+        let kind = kind_told(&nodes, found)?.ok_or(Unread::Unclear)?;
+        let name = name_at(&nodes, found, kind)?.ok_or(Unread::Unclear)?;
         let seq = number_at(&nodes, found.seq)?.ok_or(Unread::Unclear)?;
-        let (request_seq, success) = answer_at(&nodes, &found, kind)?;
+        let (request_seq, success) = answer_at(&nodes, found, kind)?;
         Ok(FlatMessage {
             side,
             kind,

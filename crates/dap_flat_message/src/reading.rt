@@ -2,6 +2,7 @@
 ghost use Rattle.std.specs.Prelude.{IfOk, IfErr};
 ghost use Rattle.dap_flat_message.specs.FlatMessages.{IsFlatMessage, RefusesContent};
 
+use crate::members::find_envelope;
 use crate::message::FlatMessage;
 use crate::typing::typed_flat;
 use dap_flat::{Node, Unread, read_flat};
@@ -46,8 +47,9 @@ pub fn read_flat_message<'a>(
     ensures err { IfErr result (RefusesContent content.now) }
 {
     let mut nodes = read_flat(content, scratch, nodes)?;
-    if let Some(fault) = typed_flat(&mut nodes, side)? {
+    let found = find_envelope(&nodes)?;
+    if let Some(fault) = typed_flat(&mut nodes, &found, side)? {
         return Err(FlatFault::Message(fault));
     }
-    Ok(FlatMessage::new(side, nodes)?)
+    Ok(FlatMessage::new(side, nodes, &found)?)
 }

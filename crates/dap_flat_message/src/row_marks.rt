@@ -1,50 +1,68 @@
-//! The ids of a flat message, marked in place by the rows that are asked of it.
-ghost use Rattle.std.specs.Prelude.{◌≡◌, OnOk, map};
-ghost use Rattle.dap_tree.specs.Doc.{Doc};
+//! Marks the ids of a flat message in place, by the rows that apply to it.
+ghost use Rattle.std.specs.Prelude.{◌≡◌, ◌∷◌, OnOk, map};
 ghost use Rattle.dap_profile.specs.Stretches.{rows_in};
-ghost use Rattle.dap_profile.specs.PlaceSteps.{steps_of};
+ghost use Rattle.dap_profile.specs.PlaceSteps.{named, steps_of};
 ghost use Rattle.dap_profile.specs.ProfileRows.{row_of};
 ghost use Rattle.dap_message.specs.AskedRows.{mark_by, marks_by};
 ghost use Rattle.dap_message.specs.Marks.{sort_of, marked, edit, mark};
 ghost use Rattle.dap_flat_message.specs.Heads.{AreAsked};
 ghost use Rattle.dap_flat_message.specs.Marked.{Makes};
+ghost use Rattle.dap_flat_message.specs.Marking.{steps};
 
 use crate::marks::{Step, mark_path};
+use crate::members::{Envelope, top_child};
 use dap_flat::{Node, Unread};
 use dap_profile::{Place, Row, Want};
 use dap_tree::{Side, Sort};
 
-/// Marks the ids of the message that the nodes show, of which these rows are asked.
-pub fn mark_message(nodes: &mut [Node<'_>], stretches: &[&[Row]], side: Side) -> Result<(), Unread>
+/// Marks the ids of the message that the nodes represent. These rows apply to it.
+pub fn mark_message(
+    nodes: &mut [Node<'_>],
+    found: &Envelope,
+    stretches: &[&[Row]],
+    side: Side,
+) -> Result<(), Unread>
     requires { AreAsked nodes.old (rows_in stretches.now) }
-    ensures { OnOk result (Makes nodes.old nodes.new (mark side)) }
+    ensures { OnOk result (Makes found.now nodes.old nodes.new (mark side)) }
 {
-    mark_stretches(nodes, stretches, side)
+    mark_stretches(nodes, found, stretches, side)
 }
 
-fn mark_stretches(nodes: &mut [Node<'_>], stretches: &[&[Row]], side: Side) -> Result<(), Unread>
-    ensures { OnOk result (Makes nodes.old nodes.new (marks_by (rows_in stretches.now) side)) }
+fn mark_stretches(
+    nodes: &mut [Node<'_>],
+    found: &Envelope,
+    stretches: &[&[Row]],
+    side: Side,
+) -> Result<(), Unread>
+    ensures { OnOk result
+        (Makes found.now nodes.old nodes.new (marks_by (rows_in stretches.now) side)) }
 {
     for rows in stretches {
-        mark_rows(nodes, rows, side)?;
+        mark_rows(nodes, found, rows, side)?;
     }
     Ok(())
 }
 
-fn mark_rows(nodes: &mut [Node<'_>], rows: &[Row], side: Side) -> Result<(), Unread>
-    ensures { OnOk result (Makes nodes.old nodes.new (marks_by (map row_of rows.now) side)) }
+fn mark_rows(
+    nodes: &mut [Node<'_>],
+    found: &Envelope,
+    rows: &[Row],
+    side: Side,
+) -> Result<(), Unread>
+    ensures { OnOk result
+        (Makes found.now nodes.old nodes.new (marks_by (map row_of rows.now) side)) }
 {
     for row in rows {
-        mark_row(nodes, row, side)?;
+        mark_row(nodes, found, row, side)?;
     }
     Ok(())
 }
 
-fn mark_row(nodes: &mut [Node<'_>], row: &Row, side: Side) -> Result<(), Unread>
-    ensures { OnOk result (Makes nodes.old nodes.new (mark_by (row_of row.now) side)) }
+fn mark_row(nodes: &mut [Node<'_>], found: &Envelope, row: &Row, side: Side) -> Result<(), Unread>
+    ensures { OnOk result (Makes found.now nodes.old nodes.new (mark_by (row_of row.now) side)) }
 {
     match sort_of(side, row.want) {
-        Some(sort) => mark_place(nodes, row.place, sort),
+        Some(sort) => mark_place(nodes, found, row.place, sort),
         None => Ok(()),
     }
 }
@@ -63,30 +81,45 @@ fn sort_of(side: Side, want: Want) -> Option<Sort>
     }
 }
 
-fn mark_place(nodes: &mut [Node<'_>], place: Place, sort: Sort) -> Result<(), Unread>
-    ensures { OnOk result (Makes nodes.old nodes.new (edit (steps_of place) (marked sort))) }
+fn mark_place(
+    nodes: &mut [Node<'_>],
+    found: &Envelope,
+    place: Place,
+    sort: Sort,
+) -> Result<(), Unread>
+    ensures { OnOk result
+        (Makes found.now nodes.old nodes.new (edit (steps_of place) (marked sort))) }
 {
     match place {
-        Place::Member(a) => mark_path(nodes, 0, &[Step::Name(a)], sort),
-        Place::Inner(a, b) => mark_path(nodes, 0, &[Step::Name(a), Step::Name(b)], sort),
-        Place::Element(a, b) => {
-            mark_path(nodes, 0, &[Step::Name(a), Step::Name(b), Step::Each], sort)
-        }
+        Place::Member(a) => mark_top(nodes, found, a, &[], sort),
+        Place::Inner(a, b) => mark_top(nodes, found, a, &[Step::Name(b)], sort),
+        Place::Element(a, b) => mark_top(nodes, found, a, &[Step::Name(b), Step::Each], sort),
         Place::Part(a, b, c) => {
-            mark_path(
+            mark_top(
                 nodes,
-                0,
-                &[Step::Name(a), Step::Name(b), Step::Each, Step::Name(c)],
+                found,
+                a,
+                &[Step::Name(b), Step::Each, Step::Name(c)],
                 sort,
             )
         }
-        Place::Deep(a, b, c) => {
-            mark_path(
-                nodes,
-                0,
-                &[Step::Name(a), Step::Name(b), Step::Name(c)],
-                sort,
-            )
-        }
+        Place::Deep(a, b, c) => { mark_top(nodes, found, a, &[Step::Name(b), Step::Name(c)], sort) }
+    }
+}
+
+/// Marks the numbers at a path in a member at the top of the message.
+fn mark_top(
+    nodes: &mut [Node<'_>],
+    found: &Envelope,
+    name: &str,
+    path: &[Step<'_>],
+    sort: Sort,
+) -> Result<(), Unread>
+    ensures { OnOk result (Makes found.now nodes.old nodes.new
+        (edit (named name.now ∷ steps path.now) (marked sort))) }
+{
+    match top_child(nodes, found, name)? {
+        Some(place) => mark_path(nodes, place, path, sort),
+        None => Ok(()),
     }
 }

@@ -1,37 +1,40 @@
-//! Whether a flat message breaks one row.
-ghost use Rattle.std.specs.Prelude.{◌≡◌, ℕ, pos, ◌<◌, [], ◌∷◌, Some, option_map, length, IfOk, OnOk};
+//! Checks a flat message against one row.
+ghost use Rattle.std.specs.Prelude.{◌≡◌, ℕ, pos, [], ◌∷◌, Some, None, option_map, IfOk};
 ghost use Rattle.std.specs.Bool.{MatchBool};
-ghost use Rattle.dap_tree.specs.Doc.{Doc};
 ghost use Rattle.dap_profile.specs.PlaceSteps.{named, each, steps_of};
 ghost use Rattle.dap_message.specs.Places.{is_object};
 ghost use Rattle.dap_message.specs.Rows.{has_type, is_id_number, is_null, cause_against, of_row};
-ghost use Rattle.dap_flat.specs.Finding.{Holds};
 ghost use Rattle.dap_flat.specs.Pieces.{piece_of, end_list};
-ghost use Rattle.dap_flat_message.specs.Judging.{Begins, top_of, told, Judges, JudgesItems};
+ghost use Rattle.dap_flat_message.specs.Judging.{top_of, told, Judges, JudgesTop, JudgesItems};
 ghost use Rattle.dap_flat_message.specs.Judging.{part_steps, is_list};
 
+use crate::members::{Envelope, top_child};
 use dap_flat::{Node, Unread, child, value_end};
 use dap_profile::{Place, Row, Want};
 
-/// How a row is broken.
+/// How a row is violated.
 #[derive(Clone, Copy, Drop)]
 pub(crate) enum Broken {
     Missing,
     WrongType,
 }
 
-/// How the document that begins at `at` breaks the row: by the first element, where it looks at
-/// several.
-pub(crate) fn broken_by(row: &Row, nodes: &[Node<'_>], at: usize) -> Result<Option<Broken>, Unread>
+/// Returns how the document violates the row, if it does. If the row looks at several elements, the
+/// first one that violates it decides.
+pub(crate) fn broken_by(
+    row: &Row,
+    nodes: &[Node<'_>],
+    found: &Envelope,
+) -> Result<Option<Broken>, Unread>
     ensures { IfOk result
-        (Judges nodes.now at (steps_of row.now.place) row.now.want row.now.needed) }
+        (JudgesTop nodes.now found.now (steps_of row.now.place) row.now.want row.now.needed) }
 {
     match row.place {
-        Place::Member(a) => judge_member(nodes, at, a, row.want, row.needed),
-        Place::Inner(a, b) => judge_inner(nodes, at, a, b, row.want, row.needed),
-        Place::Element(a, b) => judge_elements(nodes, at, a, b, row.want, row.needed),
-        Place::Part(a, b, c) => judge_parts(nodes, at, a, b, c, row.want, row.needed),
-        Place::Deep(a, b, c) => judge_deep(nodes, at, a, b, c, row.want, row.needed),
+        Place::Member(a) => judge_top(nodes, found, a, row.want, row.needed),
+        Place::Inner(a, b) => judge_inner(nodes, found, a, b, row.want, row.needed),
+        Place::Element(a, b) => judge_elements(nodes, found, a, b, row.want, row.needed),
+        Place::Part(a, b, c) => judge_parts(nodes, found, a, b, c, row.want, row.needed),
+        Place::Deep(a, b, c) => judge_deep(nodes, found, a, b, c, row.want, row.needed),
     }
 }
 
@@ -63,7 +66,7 @@ fn is_id_number(_number: i64) -> bool
     true
 }
 
-/// A node that begins no value counts as null: nothing is asked of it.
+/// A node that does not start a value counts as null, which no optional row rejects.
 fn is_null(node: &Node<'_>) -> bool
     ensures { result ≡ is_null (top_of (piece_of node.now)) }
 {
@@ -104,6 +107,13 @@ fn judge_node(node: &Node<'_>, want: Want, needed: bool) -> Option<Broken>
     Some(Broken::WrongType)
 }
 
+fn judge_absent(needed: bool) -> Option<Broken>
+    ensures { (n : ℕ) (want : Want) → told n result
+        ≡ option_map (of_row n) (cause_against want needed None) }
+{
+    if needed { Some(Broken::Missing) } else { None }
+}
+
 fn judge_value(
     nodes: &[Node<'_>],
     at: usize,
@@ -118,7 +128,7 @@ fn judge_value(
     Ok(judge_node(&nodes[at], want, needed))
 }
 
-/// Nothing is asked of a parent that is no object.
+/// A parent that is not an object passes.
 fn judge_member(
     nodes: &[Node<'_>],
     at: usize,
@@ -136,13 +146,12 @@ fn judge_member(
     }
     match child(nodes, at, name)? {
         Some(place) => judge_value(nodes, place, want, needed),
-        None if needed => Ok(Some(Broken::Missing)),
-        None => Ok(None),
+        None => Ok(judge_absent(needed)),
     }
 }
 
-/// Nothing is asked where the outer member is not there.
-fn judge_inner(
+/// An absent parent passes.
+fn judge_below(
     nodes: &[Node<'_>],
     at: usize,
     outer: &str,
@@ -159,9 +168,47 @@ fn judge_inner(
     }
 }
 
+fn judge_top(
+    nodes: &[Node<'_>],
+    found: &Envelope,
+    name: &str,
+    want: Want,
+    needed: bool,
+) -> Result<Option<Broken>, Unread>
+    ensures { IfOk result (JudgesTop nodes.now found.now (named name.now ∷ []) want needed) }
+{
+    if nodes.is_empty() {
+        return Err(Unread::Unclear);
+    }
+    if !is_object(&nodes[0]) {
+        return Ok(None);
+    }
+    match top_child(nodes, found, name)? {
+        Some(place) => judge_value(nodes, place, want, needed),
+        None => Ok(judge_absent(needed)),
+    }
+}
+
+fn judge_inner(
+    nodes: &[Node<'_>],
+    found: &Envelope,
+    outer: &str,
+    inner: &str,
+    want: Want,
+    needed: bool,
+) -> Result<Option<Broken>, Unread>
+    ensures { IfOk result
+        (JudgesTop nodes.now found.now (named outer.now ∷ named inner.now ∷ []) want needed) }
+{
+    match top_child(nodes, found, outer)? {
+        Some(place) => judge_member(nodes, place, inner, want, needed),
+        None => Ok(None),
+    }
+}
+
 fn judge_deep(
     nodes: &[Node<'_>],
-    at: usize,
+    found: &Envelope,
     outer: &str,
     middle: &str,
     inner: &str,
@@ -169,27 +216,28 @@ fn judge_deep(
     needed: bool,
 ) -> Result<Option<Broken>, Unread>
     ensures { IfOk result
-        (Judges nodes.now at (named outer.now ∷ named middle.now ∷ named inner.now ∷ [])
-        want needed) }
+        (JudgesTop nodes.now found.now
+        (named outer.now ∷ named middle.now ∷ named inner.now ∷ []) want needed) }
 {
-    match child(nodes, at, outer)? {
-        Some(place) => judge_inner(nodes, place, middle, inner, want, needed),
+    match top_child(nodes, found, outer)? {
+        Some(place) => judge_below(nodes, place, middle, inner, want, needed),
         None => Ok(None),
     }
 }
 
 fn judge_elements(
     nodes: &[Node<'_>],
-    at: usize,
+    found: &Envelope,
     outer: &str,
     inner: &str,
     want: Want,
     needed: bool,
 ) -> Result<Option<Broken>, Unread>
     ensures { IfOk result
-        (Judges nodes.now at (named outer.now ∷ named inner.now ∷ each ∷ []) want needed) }
+        (JudgesTop nodes.now found.now (named outer.now ∷ named inner.now ∷ each ∷ [])
+        want needed) }
 {
-    match child(nodes, at, outer)? {
+    match top_child(nodes, found, outer)? {
         Some(place) => judge_list_in(nodes, place, inner, None, want, needed),
         None => Ok(None),
     }
@@ -197,7 +245,7 @@ fn judge_elements(
 
 fn judge_parts(
     nodes: &[Node<'_>],
-    at: usize,
+    found: &Envelope,
     outer: &str,
     inner: &str,
     part: &str,
@@ -205,10 +253,10 @@ fn judge_parts(
     needed: bool,
 ) -> Result<Option<Broken>, Unread>
     ensures { IfOk result
-        (Judges nodes.now at
+        (JudgesTop nodes.now found.now
         (named outer.now ∷ named inner.now ∷ each ∷ named part.now ∷ []) want needed) }
 {
-    match child(nodes, at, outer)? {
+    match top_child(nodes, found, outer)? {
         Some(place) => judge_list_in(nodes, place, inner, Some(part), want, needed),
         None => Ok(None),
     }
@@ -295,7 +343,8 @@ fn judge_item(
 }
 
 fn is_end(node: Node<'_>) -> bool
-    ensures { MatchBool result (piece_of node.entry ≡ end_list) (piece_of node.entry ≡ end_list → ⊥) }
+    ensures { MatchBool result (piece_of node.entry ≡ end_list)
+        (piece_of node.entry ≡ end_list → ⊥) }
 {
     match node {
         Node::EndList => true,

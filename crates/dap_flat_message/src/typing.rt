@@ -1,58 +1,68 @@
-//! A flat document typed as a message.
+//! Types a flat document as a message.
 ghost use Rattle.std.specs.Prelude.{◌≡◌, Some, IfOk};
 ghost use Rattle.dap_flat_message.specs.Heads.{IsNamed, text_in};
-ghost use Rattle.dap_flat_message.specs.Typed.{IsTypedFlat, HasFault, may_tell};
+ghost use Rattle.dap_flat_message.specs.Places.{IsEnvelope};
+ghost use Rattle.dap_flat_message.specs.Typed.{IsTypedFlat, KeepsPlaces, HasFault, may_tell};
 
 use crate::faults::{first_asked, message_fault};
-use crate::members::{find_envelope, kind_told, name_told};
+use crate::members::{Envelope, kind_told, name_told};
 use crate::row_marks::mark_message;
 use dap_flat::{Node, Unread};
 use dap_message::MessageFault;
 use dap_profile::{Kind, rows_of};
 use dap_tree::Side;
 
-/// Makes the document that the nodes show the message that it is on this side, in place; or tells
-/// its first fault.
+/// Types the document that the nodes represent as a message of this side, in place, or returns its
+/// first fault.
 ///
-/// `Unclear` where the nodes show no document, or its capabilities are to be filled in: what the
-/// nodes show then is not told.
-pub fn typed_flat(nodes: &mut [Node<'_>], side: Side) -> Result<Option<MessageFault>, Unread>
-    ensures { IfOk result (IsTypedFlat side nodes.old nodes.new) }
+/// Returns `Unclear` if the nodes do not represent a document, or if absent capabilities may have
+/// to be filled in. The nodes are then unspecified.
+pub fn typed_flat(
+    nodes: &mut [Node<'_>],
+    found: &Envelope,
+    side: Side,
+) -> Result<Option<MessageFault>, Unread>
+    requires { IsEnvelope nodes.old found.now }
+    ensures typed { IfOk result (IsTypedFlat side nodes.old nodes.new) }
+    ensures places { IfOk result (KeepsPlaces side nodes.old found.now) }
 {
-    let found = find_envelope(nodes, 0)?;
-    match kind_told(nodes, &found)? {
+    match kind_told(nodes, found)? {
         Some(kind) => {
-            let name = name_told(nodes, &found, kind)?;
-            typed_as(nodes, kind, name, side)
+            let name = name_told(nodes, found, kind)?;
+            typed_as(nodes, found, kind, name, side)
         }
-        None => Ok(Some(kindless_fault(nodes)?)),
+        None => Ok(Some(kindless_fault(nodes, found)?)),
     }
 }
 
 fn typed_as(
     nodes: &mut [Node<'_>],
+    found: &Envelope,
     kind: Kind,
     name: Option<&str>,
     side: Side,
 ) -> Result<Option<MessageFault>, Unread>
-    requires { IsNamed nodes.old kind (text_in name) }
-    ensures { IfOk result (IsTypedFlat side nodes.old nodes.new) }
+    requires named { IsNamed nodes.old kind (text_in name) }
+    requires places { IsEnvelope nodes.old found.now }
+    ensures typed { IfOk result (IsTypedFlat side nodes.old nodes.new) }
+    ensures places { IfOk result (KeepsPlaces side nodes.old found.now) }
 {
     let rows = rows_of(kind, name);
-    if let Some(fault) = first_asked(nodes, &rows)? {
+    if let Some(fault) = first_asked(nodes, found, &rows)? {
         return Ok(Some(fault));
     }
     if may_tell_capabilities(side, kind, name) {
         return Err(Unread::Unclear);
     }
-    mark_message(nodes, &rows, side)?;
+    mark_message(nodes, found, &rows, side)?;
     Ok(None)
 }
 
-fn kindless_fault(nodes: &[Node<'_>]) -> Result<MessageFault, Unread>
+fn kindless_fault(nodes: &[Node<'_>], found: &Envelope) -> Result<MessageFault, Unread>
+    requires { IsEnvelope nodes.now found.now }
     ensures { IfOk result (HasFault nodes.now) }
 {
-    match message_fault(nodes)? {
+    match message_fault(nodes, found)? {
         Some(fault) => Ok(fault),
         None => Err(Unread::Unclear),
     }

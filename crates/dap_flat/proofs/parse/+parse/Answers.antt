@@ -79,7 +79,8 @@ parse_value-returns-in_ok-push-in-Number-clause-ok t c =
     let w = c.in_ok-whole-in-Number.ensures in (
       whole w.0,
       (read ∙ ap (option_map (λ d. (d, left))) w.1.0, w.1.1),
-      adds_same _ _ _ _ (ap (λ p. p ∷ []) w.2) (adds_one _ _ _ c.in_ok-push-in-Number.ensures.items),
+      adds_same _ _ _ _ (ap (λ p. p ∷ []) w.2)
+          (adds_one _ _ _ c.in_ok-push-in-Number.ensures.items),
     )
 
 pub parse_value-returns-in_ok-push-in-BeginArray-2-clause-ok
@@ -116,14 +117,16 @@ parse_value-returns-in_ok-push-in-BeginObject-2-clause-ok t c =
     ∙ value-begin_object c.args.depth left (omega arith))
     ∙ converted-object (members (value (c.args.depth - 1)) (length left) left) in
     let here : c.len-at-in-BeginObject.result ≡ length c.args.nodes.now.items = search rules in
-    let there : c.len-in-BeginObject.result ≡ length c.parse_members.new.nodes.items = search rules in
+    let there : c.len-in-BeginObject.result ≡ length c.parse_members.new.nodes.items =
+    search rules in
     let found = c.in_ok-parse_members-in-BeginObject.ensures.ok in (
       object found.0,
       (opened ∙ ap (parse_map json.object) found.1.0, found.1.1),
       adds_same _ _ _ _
           (ap (λ n. begin_object n ∷ (members_pieces found.0 ++ end_object ∷ []))
           (inside_is _ _ _ _ _ _ _ c.in_ok-push-in-BeginObject.ensures.items found.2 here there))
-          (adds_whole _ _ _ _ _ (node.Object 0) (node.Object (c.len-in-BeginObject.result - c.len-at-in-BeginObject.result - 1))
+          (adds_whole _ _ _ _ _ (node.Object 0)
+          (node.Object (c.len-in-BeginObject.result - c.len-at-in-BeginObject.result - 1))
           node.EndObject _ _ c.in_ok-push-in-BeginObject.ensures.items found.2 here
           c.set_node-in-BeginObject.ensures c.in_ok-push-in-BeginObject-2.ensures.items),
     )
@@ -160,7 +163,8 @@ parse_items-items-preserved t c =
       l.invariant.3 ∙ ap (parse_map (items_before ds)) rotate ∙ one_more_item ds d _,
       omega (arith, l.invariant.4),
       more_items-no_id ds d l.invariant.5 done.ok.1.1,
-      adds_same _ _ _ _ (sym (more_items-pieces ds d)) (adds_then _ _ _ _ _ l.invariant.6 done.ok.2),
+      adds_same _ _ _ _ (sym (more_items-pieces ds d))
+          (adds_then _ _ _ _ _ l.invariant.6 done.ok.2),
     )
 
 pub parse_items-returns-clause-ok : goal.parse_items-returns-clause-ok

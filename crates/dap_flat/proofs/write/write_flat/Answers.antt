@@ -12,5 +12,7 @@ returns-else-is_err-clause-text c =
     ∙ ap (λ v. v.items) c.replace.ensures.value in
     on_ok_weaker c.write_nodes-written.result
     (λ ok d shows. c.into_inner.ensures.items
-    ∙ ap₂ (λ xs ts. xs ++ print ts) before (ok ∙ ap (λ ts. ts ++ tokens_of ns) c.new-writer.ensures.tokens)
-    ∙ ap (λ bs. c.args.out.now.items ++ bs) (text_spelled ns d shows)) c.write_nodes-written.ensures.ok
+    ∙ ap₂ (λ xs ts. xs ++ print ts) before (ok
+    ∙ ap (λ ts. ts ++ tokens_of ns) c.new-writer.ensures.tokens)
+    ∙ ap (λ bs. c.args.out.now.items ++ bs) (text_spelled ns d shows))
+    c.write_nodes-written.ensures.ok

@@ -7,6 +7,7 @@ use Rattle.dap_flat_message.proofs.faults.first_asked.Goals as goal
 pub returns : goal.returns
 returns c =
     let ns = c.args.nodes.now in
+    let e = c.args.found.now in
     let rs = rows_in c.args.stretches.now in
-    IfOk-weaker c.first_in.result (IsFirst ns 0 rs) (IsFault ns)
-    (λ f first. asked_fault ns rs f c.requires first) c.first_in.ensures
+    IfOk-weaker c.first_in.result (IsFirst ns e rs) (IsFault ns)
+    (λ f first. asked_fault ns e rs f c.requires.asked c.requires.places first) c.first_in.ensures

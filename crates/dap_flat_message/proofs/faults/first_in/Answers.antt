@@ -7,10 +7,12 @@ pub returns-then-is_some : goal.returns-then-is_some
 returns-then-is_some c d h = sym
     (c.loop-rows.invariant d h
     ∙ first-told (λ rs. map row_of rs.now) c.args.stretches.now c.loop-rows.rows-index _
-    d _ c.loop-rows-test.true (c.in_ok-fault.ensures d h) (sym c.is_some.ensures ∙ c.if-is_some.true))
+    d _ c.loop-rows-test.true (c.in_ok-fault.ensures d h)
+    (sym c.is_some.ensures ∙ c.if-is_some.true))
 
 pub loop-rows-preserved : goal.loop-rows-preserved
 loop-rows-preserved c d h =
     c.loop-rows.invariant d h
     ∙ first-rest (λ rs. map row_of rs.now) c.args.stretches.now c.loop-rows.rows-index _
-    d _ c.loop-rows-test.true (c.in_ok-fault.ensures d h) (sym c.is_some.ensures ∙ c.if-is_some.false)
+    d _ c.loop-rows-test.true (c.in_ok-fault.ensures d h)
+    (sym c.is_some.ensures ∙ c.if-is_some.false)

@@ -5,4 +5,4 @@ use Rattle.dap_flat_message.proofs.faults.first_of.Given as goal
 
 abbrev pub invariant-loop-row : goal.invariant-loop-row
 invariant-loop-row l =
-    AreRowsLeft l.nodes l.at (map row_of l.rows) (map row_of (drop l.row-index l.rows))
+    AreRowsLeft l.nodes l.found (map row_of l.rows) (map row_of (drop l.row-index l.rows))

@@ -1,4 +1,5 @@
-use Rattle.std.proofs.Common.{◌≡◌, ◌+◌, ◌-◌, ◌<◌, ◌∷◌, ◌∙◌, None, IfSome, length, take, drop, get_or, ap, sym, subst}
+use Rattle.std.proofs.Common.{◌≡◌, ◌+◌, ◌-◌, ◌<◌, ◌∷◌, ◌∙◌, None, IfSome, length, take, drop}
+use Rattle.std.proofs.Common.{get_or, ap, sym, subst}
 use Rattle.std.proofs.Common.{refl, arith}
 use Rattle.std.specs.Prelude.{OnOk}
 use Rattle.std.proofs.lemmas.Result.{on_ok_weaker}
@@ -71,7 +72,8 @@ mark_each-returns-in-List t c =
     let inside = list_inside ns at d (node.List c.in-List.field-0) node.Null c.in-List.field-0 holds
     c.in-List.is refl in
     subst (λ e. Replaced ns new at (pieces e) (pieces (change_items f e))) (sym inside.1)
-    (list_replaced ns new at inside.0 f (subst (Holds ns at) inside.1 holds) (ok inside.0 inside.2)))
+    (list_replaced ns new at inside.0 f (subst (Holds ns at) inside.1 holds)
+    (ok inside.0 inside.2)))
     c.mark_items.ensures
 
 pub mark_items-loop-p-init : goal.mark_items-loop-p-init

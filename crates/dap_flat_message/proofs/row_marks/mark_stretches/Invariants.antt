@@ -6,4 +6,4 @@ use Rattle.dap_flat_message.proofs.row_marks.mark_stretches.Given as goal
 abbrev pub invariant-loop-rows : goal.invariant-loop-rows
 invariant-loop-rows l =
     AreMarked (rows_in l.stretches) (rows_in (drop l.rows-index l.stretches)) l.side
-    l.initial.nodes l.nodes
+    l.found l.initial.nodes l.nodes

@@ -1,4 +1,5 @@
-use Rattle.std.proofs.Common.{◌≡◌, ◌+◌, ◌<◌, sym, ◌∙◌, subst, IfSome, option_map, length, get_or, arith}
+use Rattle.std.proofs.Common.{◌≡◌, ◌+◌, ◌<◌, sym, ◌∙◌, subst, IfSome, option_map, length, get_or}
+use Rattle.std.proofs.Common.{arith}
 use Rattle.dap_flat.specs.Placing.{size}
 use Rattle.dap_flat.specs.Pieces.{piece_of}
 use Rattle.dap_flat.specs.declared.node.Node.TheVariants as node
@@ -8,12 +9,14 @@ use Rattle.dap_flat_message.proofs.rows.judge_items.Goals as goal
 
 pub returns-then-is_end : goal.returns-then-is_end
 returns-then-is_end c n ds s =
-    items_ended c.args.nodes.now c.loop-p.p node.Null (part_steps (option_map (λ s. s.now) c.args.part))
+    items_ended c.args.nodes.now c.loop-p.p node.Null
+    (part_steps (option_map (λ s. s.now) c.args.part))
     c.args.want c.args.needed n ds (c.loop-p.invariant ds s) c.if-is_end.ensures
 
 pub returns-then-is_some : goal.returns-then-is_some
 returns-then-is_some c n ds s =
-    item_breaks c.args.nodes.now c.loop-p.p node.Null (part_steps (option_map (λ s. s.now) c.args.part))
+    item_breaks c.args.nodes.now c.loop-p.p node.Null
+    (part_steps (option_map (λ s. s.now) c.args.part))
     c.args.want c.args.needed c.in_ok-cause.cause n ds (c.loop-p.invariant ds s) c.if-is_end.ensures
     c.in_ok-cause.ensures (sym c.is_some.ensures ∙ c.if-is_some.true)
 

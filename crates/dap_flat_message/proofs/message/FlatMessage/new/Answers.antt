@@ -6,10 +6,10 @@ use Rattle.dap_message.specs.Message.{message_of}
 use Rattle.dap_message.specs.Numbers.{is_proper}
 use Rattle.dap_message.proofs.KeptByTyping.{proper-message}
 use Rattle.dap_flat.specs.Document.{document_of}
-use Rattle.dap_flat.specs.Pieces.{Represents}
 use Rattle.dap_flat.proofs.Documents.{document_represented}
 use Rattle.dap_flat_message.specs.Heads.{Tells, text_in}
-use Rattle.dap_flat_message.proofs.Heads.{holds_whole}
+use Rattle.dap_flat_message.specs.Places.{Locates}
+use Rattle.dap_flat_message.proofs.Located.{tells}
 use Rattle.dap_flat_message.proofs.Told.{has_kind, kind_is, name_is}
 use Rattle.dap_flat_message.proofs.message.FlatMessage.new.Goals as goal
 
@@ -17,35 +17,32 @@ pub invariant_of-result : goal.invariant_of-result
 invariant_of-result c =
     let ns = c.args.nodes.items in
     let d = document_of ns in
-    let found = c.in_ok-found.found in
+    let found = c.args.found.now in
     let kind = c.in_ok-kind.kind in
     let made = c.requires in
     let is : d ≡ message_of c.args.side made.0 =
-    document_represented ns (message_of c.args.side made.0) made.3 in
-    let shown : Represents ns d = subst (Represents ns) (sym is) made.3 in
-    let tells : Tells ns d found =
-    subst (λ xs. Tells xs d found) c.deref.ensures.value
-    (c.in_ok-found.ensures d (holds_whole c.deref.result.now d
-    (subst (λ xs. Represents xs d) (sym c.deref.ensures.value) shown))) in
+    document_represented ns (message_of c.args.side made.0) made.3.shows in
+    let located : Locates ns found d = subst (Locates ns found) (sym is) made.3 in
+    let told_at : Tells ns d found = tells ns found d located in
     let told : kind_told d ≡ Some kind =
     sym (c.in_ok-kind_told.ensures d
-    (subst (λ xs. Tells xs d found) (sym c.deref-2.ensures.value) tells))
+    (subst (λ xs. Tells xs d found) (sym c.deref.ensures.value) told_at))
     ∙ c.in_ok-kind.ensures.ok_part in
     let name : name_of d ≡ Some c.in_ok-name.name.now =
     name_is d kind told
     ∙ sym (c.in_ok-name_at.ensures d
-    (subst (λ xs. Tells xs d found) (sym c.deref-3.ensures.value) tells))
+    (subst (λ xs. Tells xs d found) (sym c.deref-2.ensures.value) told_at))
     ∙ ap text_in c.in_ok-name.ensures.ok_part in
     let seq : seq_of d ≡ Some c.in_ok-seq.seq =
     sym (c.in_ok-number_at.ensures (get (codes "seq") d)
-    (subst (λ xs. Tells xs d found) (sym c.deref-4.ensures.value) tells).seq)
+    (subst (λ xs. Tells xs d found) (sym c.deref-3.ensures.value) told_at).seq)
     ∙ c.in_ok-seq.ensures.ok_part in
     let answer =
     c.in_ok-request_seq.ensures d
-    (subst (λ xs. Tells xs d found) (sym c.deref-5.ensures.value) tells) told in
+    (subst (λ xs. Tells xs d found) (sym c.deref-4.ensures.value) told_at) told in
     let proper : is_proper d ≡ true = ap is_proper is ∙ proper-message c.args.side made.0 made.1 in
     record {
-      shown = ∣ shown ∣₁;
+      shown = ∣ located.shows ∣₁;
       kind_same = kind_is d kind told;
       kind_told = has_kind d kind told;
       name_same = name;
