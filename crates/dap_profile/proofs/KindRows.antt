@@ -1,4 +1,4 @@
--- The rows that are asked of the messages of a kind are parts of the profile.
+-- The rows that apply to the messages of a kind are parts of the profile.
 use Rattle.std.proofs.Common.{◌≡◌, ℕ, true, List, [], ◌++◌, Option, Some, refl, sym, ◌∙◌, ap, ap₂}
 use Rattle.std.proofs.Common.{take, drop, map}
 use Rattle.std.proofs.lemmas.List.{take-map, drop-map}
@@ -6,14 +6,18 @@ use Rattle.std.specs.List.{filter}
 use Rattle.dap_profile.proofs.AskedRows.{asked-of-kind, whole-part, named-part, no-parts}
 use Rattle.dap_profile.specs.Profile.{profile, first_rows, later_rows}
 use Rattle.dap_profile.specs.ProfileRows.{ProfileRow, row_of}
-use Rattle.dap_profile.specs.Stretches.{may_ask, rows_asked, rows_named, one_name, together}
+use Rattle.dap_profile.specs.Stretches.{may_ask, rows_asked, rows_named, one_name, are_runs}
+use Rattle.dap_profile.specs.declared.asked_rows.TheConstants.{FIRST_REQUESTS, SECOND_REQUESTS}
+use Rattle.dap_profile.specs.declared.asked_rows.TheConstants.{THIRD_REQUESTS, FIRST_EVENTS}
+use Rattle.dap_profile.specs.declared.asked_rows.TheConstants.{SECOND_EVENTS, THIRD_EVENTS}
+use Rattle.dap_profile.specs.declared.asked_rows.TheConstants.{FIRST_RESPONSES, LAST_RESPONSES}
 use Rattle.dap_profile.specs.declared.profile.Kind.{Kind}
 use Rattle.dap_profile.specs.declared.profile.Kind.TheVariants.{Request, Response, Event}
 use Rattle.dap_profile.specs.declared.profile.Row.{Row}
 
 -- ---- parts of the table
 
--- the rows behind some others, so many of them
+-- the given number of rows after the first ones
 behind : (first count : ℕ) (rows : List Row) → map row_of rows ≡ profile
     → map row_of (take count (drop first rows)) ≡ take count (drop first profile)
 behind first count rows h =
@@ -51,43 +55,43 @@ responses : filter (may_ask (Some Response)) profile
 unfolding profile first_rows later_rows
 responses = refl
 
--- the rows of each name stand together in these parts
-abbrev Grouped : ℕ → ℕ → Type 0
-Grouped first count =
+-- the rows of these parts are runs
+abbrev Runs : List ℕ → ℕ → ℕ → Type 0
+Runs counts first count =
     (rows : List Row) → map row_of rows ≡ profile
-    → together (map row_of (take count (drop first rows))) ≡ true
+    → are_runs counts (map row_of (take count (drop first rows))) ≡ true
 
-pub first-requests : Grouped 7 42
+pub first-requests : Runs FIRST_REQUESTS 7 42
 unfolding profile first_rows later_rows
-first-requests rows h = ap together (behind 7 42 rows h)
+first-requests rows h = ap (are_runs FIRST_REQUESTS) (behind 7 42 rows h)
 
-pub second-requests : Grouped 140 11
+pub second-requests : Runs SECOND_REQUESTS 140 11
 unfolding profile first_rows later_rows
-second-requests rows h = ap together (behind 140 11 rows h)
+second-requests rows h = ap (are_runs SECOND_REQUESTS) (behind 140 11 rows h)
 
-pub third-requests : Grouped 155 11
+pub third-requests : Runs THIRD_REQUESTS 155 11
 unfolding profile first_rows later_rows
-third-requests rows h = ap together (behind 155 11 rows h)
+third-requests rows h = ap (are_runs THIRD_REQUESTS) (behind 155 11 rows h)
 
-pub first-events : Grouped 87 17
+pub first-events : Runs FIRST_EVENTS 87 17
 unfolding profile first_rows later_rows
-first-events rows h = ap together (behind 87 17 rows h)
+first-events rows h = ap (are_runs FIRST_EVENTS) (behind 87 17 rows h)
 
-pub second-events : Grouped 151 4
+pub second-events : Runs SECOND_EVENTS 151 4
 unfolding profile first_rows later_rows
-second-events rows h = ap together (behind 151 4 rows h)
+second-events rows h = ap (are_runs SECOND_EVENTS) (behind 151 4 rows h)
 
-pub third-events : Grouped 167 5
+pub third-events : Runs THIRD_EVENTS 167 5
 unfolding profile first_rows later_rows
-third-events rows h = ap together (behind 167 5 rows h)
+third-events rows h = ap (are_runs THIRD_EVENTS) (behind 167 5 rows h)
 
-pub first-responses : Grouped 49 38
+pub first-responses : Runs FIRST_RESPONSES 49 38
 unfolding profile first_rows later_rows
-first-responses rows h = ap together (behind 49 38 rows h)
+first-responses rows h = ap (are_runs FIRST_RESPONSES) (behind 49 38 rows h)
 
-pub last-responses : Grouped 172 16
+pub last-responses : Runs LAST_RESPONSES 172 16
 unfolding profile first_rows later_rows
-last-responses rows h = ap together (behind 172 16 rows h)
+last-responses rows h = ap (are_runs LAST_RESPONSES) (behind 172 16 rows h)
 
 -- the rows of these parts have one name
 abbrev OfOne : ℕ → ℕ → Type 0
@@ -109,7 +113,7 @@ breakpoints-name rows h = ap one_name (behind 166 1 rows h)
 
 -- ---- the rows of a kind and a name
 
--- x is what a name has of a part of the table
+-- x are the rows of a part of the table that have a name
 abbrev Named : Option (List ℕ) → List Row → ℕ → ℕ → List ProfileRow → Type 0
 Named n rows first count x = x ≡ rows_named n (map row_of (take count (drop first rows)))
 

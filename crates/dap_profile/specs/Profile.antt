@@ -1,6 +1,6 @@
--- The rows of the profile: number, messages, place, wanted type, and whether it is needed. The
--- members and their types are those of the DAP specification's schema, narrowed to what this
--- project reads; what is needed is own.
+-- The rows of the profile: number, messages, path, expected type, and whether it is required.
+-- The members and their types are those of the schema of the DAP specification, restricted to what
+-- this project reads. Which of them are required is own.
 use Rattle.std.specs.Prelude.{ℕ, Bool, List, [], ◌∷◌, ◌++◌, Option, true, false, Some, None}
 use Rattle.std.specs.Prelude.{codes}
 use Rattle.dap_profile.specs.PlaceSteps.{PlaceStep, named, each}
@@ -13,9 +13,9 @@ use Rattle.dap_profile.specs.declared.profile.Want.TheVariants.{Object, List as 
 use Rattle.dap_profile.specs.declared.profile.Want.TheVariants.{OtherSeq, Frame, Reference}
 use Rattle.dap_profile.specs.declared.profile.Want.TheVariants.{Thread, Breakpoint}
 
--- ---- what a row may want
+-- ---- the types that a row may expect
 
--- An id is wanted, which is renamed.
+-- The row expects an id, which is renamed.
 abbrev pub wants_id : Want → Bool
 wants_id WantBool = false
 wants_id Whole = false
@@ -24,7 +24,7 @@ wants_id Object = false
 wants_id WantList = false
 wants_id _ = true
 
--- What is to stand at a place: a type, by its name in JSON Schema, or what an id numbers (own).
+-- The expected type: its name in JSON Schema, or the word for what an id numbers (own).
 abbrev pub want_word : Want → List ℕ
 want_word WantBool = codes "boolean"
 want_word Whole = codes "integer"
@@ -314,7 +314,7 @@ first_rows =
     (inside (codes "body") (codes "supportsWriteMemoryRequest")) WantBool optional
     ∷ []
 
--- The rows that a later profile has behind them: thread ids and breakpoint ids (own).
+-- The rows of a later profile, after the first rows: thread ids and breakpoint ids (own).
 unfoldable pub later_rows : List ProfileRow
 later_rows =
     row 140 (Some Response) (Some (codes "threads"))

@@ -1,12 +1,12 @@
--- A row of the profile: its number, the messages that it is asked of, its place, what is to stand
--- there, and whether it is needed.
+-- A row of the profile: its number, the messages that it applies to, its path, the expected type,
+-- and whether the value is required.
 use Rattle.std.specs.Prelude.{ℕ, Bool, List, Option, option_map}
 use Rattle.dap_profile.specs.PlaceSteps.{PlaceStep, steps_of}
 use Rattle.dap_profile.specs.declared.profile.Kind.{Kind}
 use Rattle.dap_profile.specs.declared.profile.Row.{Row}
 use Rattle.dap_profile.specs.declared.profile.Want.{Want}
 
--- A row, as the definitions see it.
+-- A row in the definitions.
 pub record ProfileRow : Type 0 where
   pub number : ℕ
   pub kind : Option Kind
@@ -15,7 +15,7 @@ pub record ProfileRow : Type 0 where
   pub want : Want
   pub needed : Bool
 
--- What the definitions see of a row of the program.
+-- The row of the definitions that a row of the program represents.
 abbrev pub row_of : Row → ProfileRow
 row_of r = record {
   number = r.number;

@@ -1,7 +1,6 @@
--- The rows that are asked of a message of a kind and a name, and rows that stand together in the
--- table.
+-- The rows that apply to a message of a kind and a name, and runs of rows with one name.
 use Rattle.std.specs.Prelude.{ℕ, Bool, true, false, cond, ◌&&◌, List, [], ◌∷◌, map, Option}
-use Rattle.std.specs.Prelude.{bytes_eq}
+use Rattle.std.specs.Prelude.{length, take, drop, nat_le, bytes_eq}
 use Rattle.std.specs.Borrow.{Bor}
 use Rattle.std.specs.List.{filter, flat_map, list_all}
 use Rattle.std.specs.Option.{option_map_or}
@@ -11,7 +10,7 @@ use Rattle.dap_profile.specs.declared.profile.Kind.{Kind}
 use Rattle.dap_profile.specs.declared.profile.Kind.TheVariants.{Request, Response, Event}
 use Rattle.dap_profile.specs.declared.profile.Row.{Row}
 
--- The rows of some stretches of the profile.
+-- The rows of some ranges of the profile.
 abbrev pub rows_in : List (Bor (List Row)) → List ProfileRow
 rows_in stretches = flat_map (λ rows. map row_of rows.now) stretches
 
@@ -23,7 +22,7 @@ same_kind Response Response = true
 same_kind Event Event = true
 same_kind _ _ = false
 
--- The row is of every kind, or of this one.
+-- The row applies to every kind, or to this kind.
 abbrev pub may_ask : Option Kind → ProfileRow → Bool
 may_ask k r = option_map_or (λ j. option_map_or (same_kind j) k false) r.kind true
 
@@ -31,42 +30,40 @@ may_ask k r = option_map_or (λ j. option_map_or (same_kind j) k false) r.kind t
 abbrev pub has_name : Option (List ℕ) → ProfileRow → Bool
 has_name n r = option_map_or (λ m. option_map_or (bytes_eq m) n false) r.name false
 
--- The row is asked of a document of this kind and name.
+-- The row applies to a document of this kind and name.
 abbrev pub asks : Option Kind → Option (List ℕ) → ProfileRow → Bool
 asks k n r =
     option_map_or (λ j. option_map_or (same_kind j) k false
     && option_map_or (λ m. option_map_or (bytes_eq m) n false) r.name true) r.kind true
 
--- The rows that are asked of it, in order.
+-- The rows that apply to a document of this kind and name, in order.
 unfoldable pub rows_asked : Option Kind → Option (List ℕ) → List ProfileRow
 rows_asked k n = filter (asks k n) profile
 
--- ---- rows that stand together
+-- ---- rows with one name
 
--- The rows of a name.
+-- The rows with a name.
 unfoldable pub rows_named : Option (List ℕ) → List ProfileRow → List ProfileRow
 rows_named n rs = filter (has_name n) rs
-
--- The leading rows that pass.
-abbrev pub leading : (ProfileRow → Bool) → List ProfileRow → List ProfileRow
-leading p [] = []
-leading p (r ∷ rs) = cond (p r) (r ∷ leading p rs) []
 
 abbrev pub none_of : (ProfileRow → Bool) → List ProfileRow → Bool
 none_of p [] = true
 none_of p (r ∷ rs) = cond (p r) false (none_of p rs)
-
--- After the first row that fails none passes.
-abbrev pub only_front : (ProfileRow → Bool) → List ProfileRow → Bool
-only_front p [] = true
-only_front p (r ∷ rs) = cond (p r) (only_front p rs) (none_of p rs)
 
 -- Each row has the name of the first.
 abbrev pub one_name : List ProfileRow → Bool
 one_name [] = true
 one_name (r ∷ rs) = list_all (has_name r.name) (r ∷ rs)
 
--- The rows of each name stand together.
-abbrev pub together : List ProfileRow → Bool
-together [] = true
-together (r ∷ rs) = only_front (has_name r.name) rs && together rs
+-- There are n leading rows, which have the name of the first row. No later row has this name.
+abbrev pub is_run : ℕ → List ProfileRow → Bool
+is_run n [] = false
+is_run n (r ∷ rs) =
+    nat_le n (length (r ∷ rs)) && list_all (has_name r.name) (take n (r ∷ rs))
+    && none_of (has_name r.name) (drop n (r ∷ rs))
+
+-- The rows are runs of these lengths, one after the other.
+abbrev pub are_runs : List ℕ → List ProfileRow → Bool
+are_runs [] [] = true
+are_runs [] (r ∷ rs) = false
+are_runs (n ∷ ns) rs = is_run n rs && are_runs ns (drop n rs)

@@ -1,8 +1,8 @@
-//! The profile of the Debug Adapter Protocol: which members of a message are looked at.
+//! The profile of the Debug Adapter Protocol: the members of a message that are checked.
 //!
-//! [`PROFILE`] is the table, a [`Row`] for each place. `specs/` has the same table for the proofs,
-//! and [`profile_rows`] promises that it is the same. [`rows_of`] gives the rows that are asked of
-//! a message, by its kind and its name.
+//! [`PROFILE`] is the table, with one [`Row`] per path. `specs/` has the same table for the proofs,
+//! and the contract of [`profile_rows`] says that the two are equal. [`rows_of`] returns the rows
+//! that apply to a message, by its kind and its name.
 #![tactic(auto)]
 
 mod asked_rows;

@@ -1,9 +1,9 @@
-//! The profile: which members of a message are looked at, as a flat table of numbered rows.
+//! The profile: the members of a message that are checked, as a flat table of numbered rows.
 ghost use Rattle.std.specs.Prelude.{◌≡◌, map};
 ghost use Rattle.dap_profile.specs.Profile.{profile, want_word, wants_id};
 ghost use Rattle.dap_profile.specs.ProfileRows.{row_of};
 
-/// What sort of message it is (DAP specification, `ProtocolMessage.type`).
+/// The kind of a message (DAP specification, `ProtocolMessage.type`).
 #[derive(Clone, Copy, Debug, PartialEq, Eq, Drop)]
 pub enum Kind {
     Request,
@@ -11,13 +11,13 @@ pub enum Kind {
     Event,
 }
 
-/// What a row wants at its place.
+/// The type that a row expects at its path.
 ///
-/// Those behind `List` want a number of a tree from -2^63 to 2^63-1, which is an id there.
+/// The variants after `List` expect an integer from -2^63 to 2^63-1, which is an id.
 #[derive(Clone, Copy, Debug, PartialEq, Eq, Drop)]
 pub enum Want {
     Bool,
-    /// Any number of a tree.
+    /// An integer of any size.
     Whole,
     Text,
     Object,
@@ -28,16 +28,16 @@ pub enum Want {
     OtherSeq,
     /// The id of a stack frame.
     Frame,
-    /// A variables reference. Where it is 0 it refers to nothing, and is no id.
+    /// A variables reference. 0 refers to nothing and is not an id.
     Reference,
-    /// The id of a thread, 0 too.
+    /// The id of a thread. 0 is an id too.
     Thread,
-    /// The id of a breakpoint, 0 too.
+    /// The id of a breakpoint. 0 is an id too.
     Breakpoint,
 }
 
 impl Want {
-    /// Whether an id is wanted.
+    /// Returns whether the row expects an id.
     pub fn is_id(self) -> bool
         ensures { result ≡ wants_id self }
     {
@@ -47,7 +47,7 @@ impl Want {
         }
     }
 
-    /// How it is written: the name of a type in JSON Schema, or what an id numbers.
+    /// Returns the name of the type in JSON Schema, or the word for what an id numbers.
     pub fn word(self) -> &'static str
         ensures { result.now ≡ want_word self }
     {
@@ -67,16 +67,16 @@ impl Want {
     }
 }
 
-/// Where in a message a row looks, by the names of the members on the way.
+/// The path of a row in a message, by the names of its members.
 #[derive(Clone, Copy, Debug, PartialEq, Eq, Drop)]
 pub enum Place {
     /// `a`: a member of the message.
     Member(&'static str),
     /// `a.b`: a member of a member.
     Inner(&'static str, &'static str),
-    /// `a.b[]`: each element of a list.
+    /// `a.b[]`: each element of an array.
     Element(&'static str, &'static str),
-    /// `a.b[].c`: a member of each element of a list.
+    /// `a.b[].c`: a member of each element of an array.
     Part(&'static str, &'static str, &'static str),
     /// `a.b.c`: a member of a member of a member.
     Deep(&'static str, &'static str, &'static str),
@@ -84,23 +84,23 @@ pub enum Place {
 
 /// A row of the profile.
 ///
-/// It stands in a message if, in each parent that is there and is an object (or a list), the place
-/// holds what the row wants, or the row is not needed and the place is absent or null. A row with a
-/// name is asked of the requests with that command, of the successful responses to it, or of the
-/// events with that name.
+/// A message satisfies a row if each parent on the path that exists and is an object (or an array)
+/// has a value of the expected type there. If the row is not required, the value may be missing or
+/// null. A row with a name applies to the requests with that command, to the successful responses
+/// to it, or to the events with that name.
 #[derive(Clone, Copy, Debug, PartialEq, Eq, Drop)]
 pub struct Row {
-    /// Counted from 1. `MessageFault` tells it.
+    /// Counted from 1. `MessageFault` has this number.
     pub number: u16,
-    /// The messages that the row is asked of; of every kind, if `None`.
+    /// The kind of the messages that the row applies to; all kinds, if `None`.
     pub kind: Option<Kind>,
-    /// Their command or event; of every one, if `None`.
+    /// The command or the name of the event; all names, if `None`.
     pub name: Option<&'static str>,
-    /// Where it looks.
+    /// The path of the value.
     pub place: Place,
-    /// What is to stand there.
+    /// The expected type.
     pub want: Want,
-    /// Whether the place may be neither absent nor null.
+    /// Whether the value is required: it may be neither missing nor null.
     pub needed: bool,
 }
 
@@ -155,9 +155,9 @@ macro_rules! profile_rows {
 
 /// The rows, in the order of their numbers.
 ///
-/// The members and their types are those of the protocol's schema, narrowed to what this project
-/// reads; what is needed of them is this project's choice. A line is a row: number, messages,
-/// place, wanted type, and whether it is needed.
+/// The members and their types are those of the protocol's schema, restricted to what this project
+/// reads. Which of them are required is this project's choice. Each line is a row: number,
+/// messages, path, expected type, and whether the value is required.
 pub static PROFILE: [Row; 188] = profile_rows! {
     1 every Member("seq") OwnSeq needed;
     2 request Member("command") Text needed;
@@ -349,7 +349,7 @@ pub static PROFILE: [Row; 188] = profile_rows! {
     188 response("setExceptionBreakpoints") Part("body", "breakpoints", "id") Breakpoint optional;
 };
 
-/// The rows of the table, in the order of their numbers.
+/// Returns the rows of the table, in the order of their numbers.
 pub fn profile_rows() -> &'static [Row; 188]
     ensures { map row_of result.now ≡ profile }
 {

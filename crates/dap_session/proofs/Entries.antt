@@ -1,4 +1,4 @@
--- A list of requests after a request and after an answer.
+-- A list of requests after one more request, and after a response.
 use Rattle.std.proofs.Common.{◌≡◌, ℕ, ◌+◌, ℤ, Bool, true, false, cond, not, List, [], ◌∷◌, map}
 use Rattle.std.proofs.Common.{Some, None, option_map, sym, ap, ◌∙◌, refl, subst, arith}
 use Rattle.std.specs.declared.cmp.Ordering.{Ordering}
@@ -56,7 +56,7 @@ cond_swap true false x y z h = refl
 cond_swap false true x y z h = refl
 cond_swap false false x y z h = refl
 
--- no number is two
+-- a number is not equal to another number
 apart : (q n k : ℤ) → int_eq n k ≡ false → int_eq q k ≡ true → int_eq q n ≡ true → ⊥
 apart q n k ne a b =
     let at_k : q ≡ k = (Decides-int_eq q k).0 a in
@@ -114,7 +114,7 @@ unanswered-with_request n c [] h = refl
 unanswered-with_request n c (e ∷ es) h =
     unanswered_step n c e es (int_cmp n e.0) h (unanswered-with_request n c es)
 
--- one more answer
+-- one more response
 found_answer_step : (q n : ℤ) (c : List ℕ) (a : Noted) (e : ℤ × Noted) (es : Requests) (b : Bool)
     → int_eq n e.0 ≡ b → cond b (Some e.1) (request_numbered n es) ≡ Some a →
     (request_numbered n es ≡ Some a

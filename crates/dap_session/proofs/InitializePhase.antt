@@ -1,4 +1,4 @@
--- How far the `initialize` request has come.
+-- The phase of the `initialize` request.
 use Rattle.std.proofs.Common.{◌≡◌, ℤ, Bool, true, false, cond, not, ◌&&◌, ◌||◌, List, [], ◌∷◌, ◌++◌}
 use Rattle.std.proofs.Common.{sym, ap, ◌∙◌, refl, subst}
 use Rattle.std.specs.List.{list_any}
@@ -70,7 +70,7 @@ have_push : (n : ℤ) (ms : List Sent) (m : Sent) → HaveNumber n ms
 have_push n [] m h e = (e, tt)
 have_push n (x ∷ ms) m h e = (h.0, have_push n ms m h.1 e)
 
--- the answer ends it
+-- the response ends the phase
 done_step : (c a r : Bool) → (c ≡ true → a ≡ true) → r ≡ false → ((c && not a) || r) ≡ false
 done_step true a r h g = or_from _ _ (ap not (h refl)) g
 done_step false a r h g = g
@@ -84,7 +84,7 @@ done n (x ∷ ms) m h e g =
     (λ i. ap (λ k. is_answered Client k (ms ++ m ∷ [])) (h.0 i)
     ∙ any_push (λ r. is_response_to Client n r) ms m ∙ or_right _ _ g) (done n ms m h.1 e g)
 
--- it stays ended
+-- the phase remains ended
 stay_step : (c a s : Bool) → (c && not a) ≡ false → (c && not (a || s)) ≡ false
 stay_step true true s h = refl
 stay_step true false s h = absurd (cc)

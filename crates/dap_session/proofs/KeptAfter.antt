@@ -1,4 +1,4 @@
--- What one more message changes.
+-- The changes that one more message makes.
 use Rattle.std.proofs.Common.{◌≡◌, ℕ, ◌+◌, ◌≤◌, ℤ, Bool, true, false, cond, not, ◌&&◌, ◌||◌, List}
 use Rattle.std.proofs.Common.{[], ◌∷◌, ◌++◌, Option, Some, None, sym, ap, ◌∙◌, refl, arith}
 use Rattle.std.specs.Ordering.{int_eq}
@@ -56,7 +56,7 @@ count_same p q same [] = refl
 count_same p q same (x ∷ xs) =
     omega (arith, count-cons p x xs, count-cons q x xs, ap tally (same x), count_same p q same xs)
 
--- a request that is not there is counted nowhere
+-- a request that is not in the list is not counted
 count_step : (side : Side) (n : ℤ) (x : Sent) (ms : List Sent) (b : Bool)
     → cond b (Some x) (request_at side n ms) ≡ None
     → (request_at side n ms ≡ None → count_by (λ q. is_request_of side n q) ms ≡ 0)
@@ -74,7 +74,7 @@ count_none side n (x ∷ ms) h =
       count_step side n x ms (is_request_of side n x) h (count_none side n ms),
     )
 
--- a request that is there is counted
+-- a request that is in the list is counted
 some_step : (side : Side) (n : ℤ) (x r : Sent) (ms : List Sent) (b : Bool)
     → cond b (Some x) (request_at side n ms) ≡ Some r
     → (request_at side n ms ≡ Some r → 1 ≤ count_by (λ q. is_request_of side n q) ms)
@@ -96,7 +96,7 @@ none_here : (b c d : Bool) → tally b ≡ 0 → d ≡ false → ((b && c) || d)
 none_here true c d h g = absurd (cc)
 none_here false c d h g = g
 
--- a property of the requests with one number is one of the first of them, where there is but one
+-- a property holds for some request with a number if the first one has it and no other exists
 none_of : (p : Sent → Bool) (side : Side) (n : ℤ) (ms : List Sent)
     → count_by (λ q. is_request_of side n q) ms ≡ 0
     → list_any (λ q. is_request_of side n q && p q) ms ≡ false
@@ -134,7 +134,7 @@ one_with p side n r (x ∷ ms) once h =
     one_step p side n x r ms (is_request_of side n x)
     (omega (arith, count-cons (λ q. is_request_of side n q) x ms)) h (one_with p side n r ms)
 
--- the unanswered requests before an answer to number n are those after it, and those of number n
+-- the unanswered requests before a response to number n are those after it, and those of number n
 split_step : (r a s : Bool) → (s ≡ true → a ≡ false)
     → tally (r && not (a || s)) + tally (r && s) ≡ tally (r && not a)
 split_step false a s h = refl

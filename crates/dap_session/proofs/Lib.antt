@@ -1,11 +1,11 @@
 pub mod Sides
 pub mod RulesOneByOne
 pub mod Entries
-pub mod FirstBroken
 pub mod AnsweredRequest
 pub mod KeptAfter
 pub mod RequestsAfter
 pub mod RuleTests
+pub mod RulesByKind
 pub mod RequestLists
 pub mod InitializePhase
 pub mod SessionSteps

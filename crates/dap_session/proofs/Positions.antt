@@ -1,4 +1,4 @@
--- The tests of the rules decide their statements over positions.
+-- The test of each rule decides its statement over positions.
 use Rattle.std.proofs.Common.{◌≡◌, ℕ, zero, suc, ◌<◌, ℤ, Bool, true, false, cond, not, ◌&&◌, List}
 use Rattle.std.proofs.Common.{[], ◌∷◌, ◌++◌, length, Option, Some, None, codes, inl, inr, sym, ap}
 use Rattle.std.proofs.Common.{◌∙◌, refl, subst, arith}
@@ -145,7 +145,7 @@ of_number (Some k) p P each = (
       ≡ w.0 = same_Some k w.0 w.1 in ap p same ∙ (each w.0).1 w.2,
 )
 
--- ---- the `initialize` request that has no answer yet
+-- ---- the `initialize` request that has no response yet
 
 not_there : (n : ℤ) (x : Sent) (before rest : List Sent) (i : ℕ) (r : Sent) → 0 < i
     → i < length (x ∷ before) → At (x ∷ before ++ rest) i r → IsResponseOf Adapter n r
@@ -283,7 +283,7 @@ by_position OtherCommand before after m =
 pub output : (m : Sent) → Decides (is_output m) (IsOutput m)
 output m = Decides-and _ _ (Decides-and _ _ (from Adapter m) (event m)) (named (codes "output") m)
 
--- by places of the list
+-- by positions of the list
 abbrev pub TellsFirst : (Rule → Bool) → List Rule → Option Rule → Type 0
 TellsFirst test rs o = MatchOption o ((j : ℕ) (r : Rule) → slice_get rs j ≡ Some r → test r ≡ false)
     (λ r. (i : ℕ) × (slice_get rs i ≡ Some r) × (test r ≡ true)

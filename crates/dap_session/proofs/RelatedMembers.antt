@@ -1,5 +1,5 @@
--- Two documents of one skeleton have their ids in the same places, so that a relation of the one's
--- ids to the other's relates the ids of each member.
+-- Two documents with the same skeleton have their ids at the same paths. So a relation between
+-- their ids relates the ids of each member.
 use Rattle.dap_tree.specs.Doc.{Doc, null, boolean, whole, text, list, object, id, Items, no_items}
 use Rattle.dap_tree.specs.Doc.{item, Members, no_members, member, get, get_member}
 use Rattle.dap_tree.specs.Ids.{ids, items_ids, members_ids, skeleton, items_skeleton}
@@ -16,11 +16,11 @@ abbrev pub Ids : Type 0
 Ids = List (Sort × ℤ)
 
 module _ (R : Sort → ℤ → ℤ → Type 0) where
-  -- place by place, the numbers are related
+  -- the numbers are related, pair by pair
   abbrev pub Paired : Ids → Ids → Type 0
   Paired is js = AllZip (λ i j. R i.0 i.1 j.1) is js
 
-  -- the ids of two documents, and then more
+  -- the ids of two documents, followed by more ids
   abbrev pub Tied : Doc → Doc → Ids → Ids → Type 0
   Tied d e xs ys = Paired (ids d ++ xs) (ids e ++ ys)
 
@@ -30,7 +30,7 @@ module _ (R : Sort → ℤ → ℤ → Type 0) where
       subst (λ t. Paired t (c ++ (d ++ ys))) (append_assoc a b xs)
       (subst (λ t. Paired ((a ++ b) ++ xs) t) (append_assoc c d ys) h)
 
-  -- what stands behind the ids of two documents of one skeleton is paired too
+  -- what follows the ids of two documents with the same skeleton is paired too
   mutual
     pub past_doc : (d e : Doc) (xs ys : Ids) → skeleton d ≡ skeleton e → Tied d e xs ys
         → Paired xs ys
@@ -61,7 +61,7 @@ module _ (R : Sort → ℤ → ℤ → Type 0) where
         (shift (ids t) (members_ids ts) (ids u) (members_ids us) xs ys h))
     past_members t u xs ys e h = absurd cc
 
-  -- neither document is there, or both are, of one skeleton, and their ids are paired
+  -- both documents are missing, or both exist, have the same skeleton, and their ids are paired
   abbrev pub Both : Option Doc → Option Doc → Type 0
   Both None None = Unit {0}
   Both None (Some e) = ⊥
@@ -106,7 +106,7 @@ module _ (R : Sort → ℤ → ℤ → Type 0) where
   get_both k (id s a) (id t b) xs ys e h = tt
   get_both k t u xs ys e h = absurd cc
 
-  -- the members of one name are both there or not, and their ids are paired
+  -- both members of a name exist or both are missing, and their ids are paired
   pub member_paired : (k : List ℕ) (d e : Doc) → skeleton d ≡ skeleton e → Paired (ids d) (ids e)
       → Both (get k d) (get k e)
   member_paired k d e one h =
@@ -114,7 +114,7 @@ module _ (R : Sort → ℤ → ℤ → Type 0) where
       (subst (λ t. Paired t (ids e ++ [])) (sym (append-nil (ids d)))
       (subst (λ t. Paired (ids d) t) (sym (append-nil (ids e))) h))
 
-  -- where an id of that sort stands in the one, an id stands in the other, and their numbers are
+  -- if the first has an id of this kind there, the second has an id too, and their numbers are
   -- related
   pub ids_paired : (s : Sort) (a b : Option Doc) → Both a b → id_sort a ≡ Some s
       → (x : ℤ) × (y : ℤ) × (a ≡ Some (id s x)) × (b ≡ Some (id s y)) × R s x y

@@ -1,4 +1,4 @@
--- What a renaming leaves of a message, as far as the rules look.
+-- The parts of a message that the rules read, after a renaming.
 use Rattle.dap_tree.specs.Doc.{Doc, null, boolean, whole, text, list, object, id, get}
 use Rattle.dap_tree.specs.Ids.{skeleton}
 use Rattle.dap_tree.specs.declared.sort.Sort.{Sort}
@@ -19,7 +19,7 @@ use Rattle.dap_session.specs.Messages.{success_of, other}
 use Rattle.dap_session.specs.RenamedLists.{id_sort, seq_sort, IsNumbered, DiffersInIds, DifferInIds}
 use Rattle.dap_session.proofs.RelatedMembers.{member_paired, ids_paired}
 
--- ---- what the skeleton tells
+-- ---- what the skeleton determines
 
 sort-skeleton : (o : Option Doc) → id_sort (option_map skeleton o) ≡ id_sort o
 sort-skeleton None = refl
@@ -43,7 +43,7 @@ same_kind_of k d e h =
     sym (text-shape skeleton skeleton_keeps (type_name k) (codes "type") d) ∙ ap (is_of_kind k) h
     ∙ text-shape skeleton skeleton_keeps (type_name k) (codes "type") e
 
--- a message of the same skeleton and side has numbers of the same sorts
+-- a message with the same skeleton and side has numbers of the same kinds
 pub renamed_numbered : (m n : Sent) → m.side ≡ n.side → skeleton m.doc ≡ skeleton n.doc
     → IsNumbered m → IsNumbered n
 renamed_numbered m n side one is = record {
@@ -57,7 +57,7 @@ renamed_numbered m n side one is = record {
 -- ---- two messages that are alike
 
 module _ (R : Sort → ℤ → ℤ → Type 0) where
-  -- the two numbers, where there are, as R says
+  -- R relates the two numbers, if they exist
   abbrev pub NumbersTied : Sort → Option ℤ → Option ℤ → Type 0
   NumbersTied s None None = Unit {0}
   NumbersTied s None (Some y) = ⊥

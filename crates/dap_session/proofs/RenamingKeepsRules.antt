@@ -1,4 +1,4 @@
--- A one-to-one renaming keeps every verdict of the rules.
+-- A one-to-one renaming changes no result of the rules.
 use Rattle.dap_tree.specs.Side.{same_side}
 use Rattle.dap_tree.specs.declared.side.Side.{Side}
 use Rattle.dap_tree.specs.declared.side.Side.TheVariants.{Client, Adapter}
@@ -37,7 +37,7 @@ and_same a b c d e f = ap (λ x. x && c) e ∙ ap (λ y. b && y) f
 pub or_same : (a b c d : Bool) → a ≡ b → c ≡ d → (a || c) ≡ (b || d)
 or_same a b c d e f = ap (λ x. x || c) e ∙ ap (λ y. b || y) f
 
--- the second parts need be equal only where the first ones hold
+-- the second parts need to be equal only if the first parts hold
 and_if : (a b c d : Bool) → a ≡ b → (a ≡ true → c ≡ d) → (a && c) ≡ (b && d)
 and_if true true c d e f = f refl
 and_if true false c d e f = absurd (cc)
@@ -56,7 +56,7 @@ module _ {X : Type 0} (P : X → X → Type 0) where
   last_pair (a ∷ c ∷ xs) [] x y h = absurd h.1
   last_pair (a ∷ xs) (b ∷ ys) x y h = let w = last_pair xs ys x y h.1 in ((h.0, w.0), w.1)
 
-  -- what stands across from a part of the second list
+  -- what corresponds to a part of the second list
   pub across : (xs before after : List X) (y : X) → AllZip P xs (before ++ y ∷ after)
       → (front : List X) × (back : List X) × (x : X) × (xs ≡ front ++ x ∷ back)
       × AllZip P front before × P x y
@@ -192,7 +192,7 @@ module _ (R : Sort → ℤ → ℤ → Type 0) (one : IsOneToOne R) where
       (subst (λ s. NumbersTied R (seq_sort s) (request_seq_of a) (request_seq_of b)) there
       t.request_seq) h)
 
-  -- the side too may be told by another message
+  -- the side may also be that of another message
   request_of_both : (side across : Side) (x y : ℤ) (a b : Sent) → side ≡ across
       → R (seq_sort side) x y → Alike R a b → is_request_of side x a ≡ is_request_of across y b
   request_of_both side across x y a b e h t =
@@ -297,14 +297,14 @@ module _ (R : Sort → ℤ → ℤ → Type 0) (one : IsOneToOne R) where
       (first_same (λ r. is_broken r ms m) (λ r. is_broken r ns n)
       (λ r. broken_same r ms ns m n s t) rules)
 
-  -- the rule that is told of the last message is that of the last renamed one
+  -- the first rule that the last message breaks is that of the last renamed message
   pub first_renamed : (ms ns : List Sent) (m n : Sent) → All IsNumbered (ms ++ m ∷ [])
       → DifferInIds R (ms ++ m ∷ []) (ns ++ n ∷ []) → first_broken ms m ≡ first_broken ns n
   first_renamed ms ns m n is h =
       let w = last_pair (Alike R) ms ns m n (all_alike R (ms ++ m ∷ []) (ns ++ n ∷ []) is h) in
       first_alike ms ns m n w.0 w.1
 
-  -- as many requests are open
+  -- the same number of requests has no response
   pub open_renamed : (side : Side) (ms ns : List Sent) → All IsNumbered ms → DifferInIds R ms ns
       → open_requests side ms ≡ open_requests side ns
   unfolding open_requests
@@ -335,7 +335,7 @@ module _ (R : Sort → ℤ → ℤ → Type 0) (one : IsOneToOne R) where
       let back = turned (λ n x. Alike R x n) w.0 before w.4 in
       first_alike before w.0 m w.2 back w.5 ∙ keeps w.0 w.1 w.2 w.3
 
-  -- the renamed list keeps the rules where the list does
+  -- the renamed list obeys the rules if the list does
   pub keeps_renamed : (ms ns : List Sent) → All IsNumbered ms → DifferInIds R ms ns
       → (KeepsRules ms → KeepsRules ns) × (KeepsRules ns → KeepsRules ms)
   keeps_renamed ms ns is h = let s =

@@ -1,4 +1,4 @@
--- The requests of a side stand for one more message.
+-- The requests of a side represent one more message.
 use Rattle.std.proofs.Common.{◌≡◌, ℕ, ◌+◌, ◌≤◌, ℤ, Bool, true, false, cond, not, ◌&&◌, ◌||◌, List}
 use Rattle.std.proofs.Common.{[], ◌∷◌, ◌++◌, Option, Some, None, option_map, sym, ap, ◌∙◌, refl}
 use Rattle.std.proofs.Common.{subst, arith}
@@ -28,7 +28,7 @@ use Rattle.dap_session.proofs.KeptAfter.{count_same, count_none, count_some, cou
 int_same : (a b : ℤ) → int_eq a b ≡ true → a ≡ b
 int_same a b h = (Decides-int_eq a b).0 h
 
--- what the list says of one number
+-- what the list has for one number
 abbrev pub listed_as : Side → List Sent → ℤ → Option Noted
 listed_as side ms n = option_map (λ q. (name_of q, is_answered side n ms)) (request_at side n ms)
 
@@ -81,7 +81,7 @@ listed_same side n ms m h g =
     ∙ ap (λ b. option_map {U = Noted} (λ q. (name_of q, b)) (request_at side n (ms ++ m ∷ [])))
     (sym (answered_same side n ms m g))
 
--- with A and its requests, how many of them are open
+-- with A and its requests, the number of requests that have no response
 abbrev pub is_open : Side → (ℤ → Bool) → Sent → Bool
 is_open side a q = is_request q && is_from side q && not (a (seq_of q))
 

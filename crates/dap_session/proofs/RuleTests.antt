@@ -1,5 +1,5 @@
--- What a message that breaks no rule may do.
-use Rattle.std.proofs.Common.{◌≡◌, ℕ, ◌<◌, ℤ, length, drop, get_or, Bool, true, false, cond, not}
+-- The possible effects of a message that breaks no rule.
+use Rattle.std.proofs.Common.{◌≡◌, ℕ, ℤ, Bool, true, false, cond, not}
 use Rattle.std.proofs.Common.{◌&&◌, List, [], ◌∷◌, Option, Some, None, ap, sym, ◌∙◌, subst, refl}
 use Rattle.std.specs.Str.{bytes_eq}
 use Rattle.std.specs.Option.{is_some}
@@ -22,10 +22,9 @@ use Rattle.dap_session.specs.Kept.{Kept, Noted, request_numbered, requests_of}
 use Rattle.dap_session.specs.KeptRules.{first_told, tells, asked_for, request_if_numbered}
 use Rattle.dap_session.specs.KeptRules.{has_answer, has_other_command}
 use Rattle.dap_session.specs.RequestSteps.{FitsRequests}
-use Rattle.dap_session.proofs.FirstBroken.{first_hit}
 use Rattle.dap_session.proofs.Sides.{event_alone, from_side}
 
-none_step : (test : Rule → Bool) (r : Rule) (rs : List Rule) (b : Bool)
+pub none_step : (test : Rule → Bool) (r : Rule) (rs : List Rule) (b : Bool)
     → cond b (Some r) (first_of test rs) ≡ None → (b ≡ false) × (first_of test rs ≡ None)
 none_step test r rs true h = absurd (cc)
 none_step test r rs false h = (refl, h)
@@ -70,17 +69,7 @@ none_each test h =
       | OtherCommand ↦ l.0
     ]
 
--- the first rule that is told after none of those before it
-pub judged_hit : (k : Kept) (m : Sent) (i : ℕ) (d : Rule) → is_output m ≡ false
-    → first_of (λ r. tells r k m) rules ≡ first_of (λ r. tells r k m) (drop i rules)
-    → i < length rules → tells (get_or rules i d) k m ≡ true
-    → Some (get_or rules i d) ≡ first_told k m
-unfolding first_told
-judged_hit k m i d quiet later low hit =
-    sym (ap (λ b. cond b None (first_of (λ r. tells r k m) rules)) quiet ∙ later
-    ∙ first_hit (λ r. tells r k m) rules i d low hit)
-
--- no rule is told of a message that is no `output`
+-- each rule passes, if the message is not an `output` event
 pub told_none : (k : Kept) (m : Sent) → first_told k m ≡ None → is_output m ≡ false → (r : Rule)
     → tells r k m ≡ false
 unfolding first_told
@@ -97,7 +86,7 @@ output_case : (m : Sent) (b : Bool) → is_output m ≡ b → (is_event m ≡ tr
 output_case m true h g = absurd (g (output_event (is_from Adapter m) (is_event m) _ h))
 output_case m false h g = refl
 
--- a request or a response is no `output`
+-- a request or a response is not an `output` event
 pub request_output : (m : Sent) → is_request m ≡ true → is_output m ≡ false
 request_output m h =
     output_case m (is_output m) refl (λ (e : is_event m ≡ true). let k : is_request m

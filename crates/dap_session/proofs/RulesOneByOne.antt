@@ -1,4 +1,4 @@
--- Lists that keep the rules, message by message.
+-- Lists that obey the rules, message by message.
 use Rattle.std.proofs.Common.{◌≡◌, List, [], ◌∷◌, ◌++◌, Option, Some, None, ◌⊎◌, inl, inr, sym, ap}
 use Rattle.std.proofs.Common.{◌∙◌, refl, subst, append_assoc, append-nil}
 use Rattle.dap_message.specs.Message.{Sent}
@@ -66,6 +66,6 @@ from before [] keeps = inl (subst KeepsRules (sym (append-nil before)) keeps)
 from before (m ∷ rest) keeps =
     further before m rest (first_broken before m) refl keeps (from (before ++ m ∷ []) rest)
 
--- every list keeps the rules, or has a first message that breaks one
+-- every list obeys the rules, or has a first message that breaks a rule
 pub keeps_or_breaks : (ms : List Sent) → KeepsRules ms ⊎ Breaks ms
 keeps_or_breaks ms = from [] ms none_keep

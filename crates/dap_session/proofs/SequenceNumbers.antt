@@ -1,4 +1,4 @@
--- The sequence numbers of a typed message are ids of their sides' sorts.
+-- The sequence numbers of a typed message are ids of the kinds of their sides.
 use Rattle.dap_tree.specs.Doc.{Doc, null, boolean, whole, text, list, object, id, get}
 use Rattle.dap_tree.specs.Path.{Step, name}
 use Rattle.dap_tree.specs.declared.side.Side.{Side}
@@ -27,22 +27,22 @@ use Rattle.dap_message.proofs.RowMarks.{asked-mark_row}
 use Rattle.dap_session.specs.Messages.{other}
 use Rattle.dap_session.specs.RenamedLists.{id_sort, seq_sort, IsNumbered}
 
--- ---- what the rows make of a number
+-- ---- how the rows change a number
 
--- a row makes the number an id, and the later rows leave it
+-- a row makes the number an id, and the later rows do not change it
 made_first : (r : ProfileRow) (rs : List ProfileRow) (side : Side) (d : Doc) (p : List Step)
     (s : Sort) (n : ℤ) → made_by r side d p (whole n) ≡ id s n
     → made (r ∷ rs) side d p (whole n) ≡ id s n
 made_first r rs side d p s n h = ap (made rs side d p) h ∙ made-id rs side d p s n
 
--- a row leaves the number
+-- a row does not change the number
 made_later : (r : ProfileRow) (rs : List ProfileRow) (side : Side) (d : Doc) (p : List Step)
     (s : Sort) (n : ℤ) → made_by r side d p (whole n) ≡ whole n
     → made rs side d p (whole n) ≡ id s n
     → made (r ∷ rs) side d p (whole n) ≡ id s n
 made_later r rs side d p s n h later = ap (made rs side d p) h ∙ later
 
--- the rows but the first
+-- the rows except the first
 abbrev later : List ProfileRow → List ProfileRow
 later [] = []
 later (r ∷ rs) = rs
@@ -101,7 +101,7 @@ sort_seen side k d n s there is =
     ∙ ap (λ o. id_sort (option_map (made profile side d (name k ∷ [])) o)) there
     ∙ ap (λ e. id_sort (Some e)) is
 
--- marks keep the kind
+-- marks do not change the kind
 kind_rows : (rs : List ProfileRow) (side : Side) (k : Kind) (d : Doc)
     → is_of_kind k (mark_rows rs side d) ≡ is_of_kind k d
 kind_rows [] side k d = refl

@@ -1,4 +1,4 @@
--- A session stands for one more message.
+-- A session represents one more message.
 use Rattle.std.proofs.Common.{◌≡◌, ℕ, ℤ, Bool, true, false, cond, not, ◌&&◌, ◌||◌, List, [], ◌∷◌}
 use Rattle.std.proofs.Common.{◌++◌, Option, Some, None, option_map, sym, ap, ◌∙◌, refl, subst}
 use Rattle.std.proofs.Common.{arith}
@@ -36,7 +36,7 @@ use Rattle.dap_session.proofs.InitializePhase.{phase_goes}
 use Rattle.dap_session.proofs.RulesOneByOne.{none_keep, keeps_push}
 use Rattle.dap_session.proofs.Sides.{no_response}
 
--- ---- what a session tells is what the list says
+-- ---- the tests of the state agree with the tests of the list
 
 requests_stand : (k : Kept) (ms : List Sent) (side : Side) → Stands k ms
     → AreRequests side (requests_of side k) ms

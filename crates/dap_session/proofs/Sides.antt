@@ -1,4 +1,4 @@
--- A message is of one kind and from one side.
+-- A message has one kind and one side.
 use Rattle.std.proofs.Common.{◌≡◌, true, false, refl}
 use Rattle.dap_tree.specs.Side.{same_side}
 use Rattle.dap_tree.specs.declared.side.Side.{Side}
@@ -10,7 +10,7 @@ use Rattle.dap_message.specs.Message.{Sent}
 use Rattle.dap_session.specs.Messages.{side_of, kind_of, other, same_kind, is_request}
 use Rattle.dap_session.specs.Messages.{is_response, is_event, is_from}
 
--- what is from a side has that side
+-- a message from a side has that side
 pub from_side : (side : Side) (m : Sent) → is_from side m ≡ true → side ≡ side_of m
 from_side side m h = (same_side_decides side (side_of m)).0 h
 

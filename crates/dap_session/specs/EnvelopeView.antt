@@ -1,4 +1,4 @@
--- For private clauses: the message whose envelope was read.
+-- For private clauses: the message that an envelope was read from.
 use Rattle.dap_message.specs.Message.{Sent}
 use Rattle.dap_message.specs.declared.any_message.AnyMessage.{Ghosts as Form}
 use Rattle.dap_session.specs.declared.envelope.Envelope.{Envelope}

@@ -1,5 +1,4 @@
--- What a session keeps, and what it keeps after one more message. Callers see a `Session` as a
--- `Kept`.
+-- The state of a session, and its state after one more message. `Kept` is the model of `Session`.
 use Rattle.std.specs.Prelude.{ℕ, ℤ, Bool, true, false, cond, not, ◌&&◌, ◌||◌, List, Option, Some}
 use Rattle.std.specs.Prelude.{None}
 use Rattle.std.specs.List.{count_by}
@@ -15,11 +14,11 @@ use Rattle.dap_session.specs.Messages.{name_of, seq_of, request_seq_of, other, i
 use Rattle.dap_session.specs.Messages.{is_response, is_from, is_response_to, is_client_initialize}
 use Rattle.dap_session.specs.Messages.{is_configuration_done, is_initialized, is_farewell}
 
--- The command of a request, and whether it is answered.
+-- The command of a request, and whether a response has answered it.
 abbrev pub Noted : Type 0
 Noted = List ℕ × Bool
 
--- The requests of a side with their numbers, which ascend.
+-- The requests of a side with their numbers, in ascending order.
 abbrev pub Requests : Type 0
 Requests = List (ℤ × Noted)
 
@@ -31,16 +30,16 @@ request_numbered n es = lookup (is_at (int_cmp n)) es
 abbrev pub unanswered : Requests → ℕ
 unanswered es = count_by (λ e. not e.1.1) es
 
--- The requests with one more, which is not answered.
+-- The requests with one more request, which no response has answered.
 abbrev pub with_request : ℤ → List ℕ → Requests → Requests
 with_request n command es = insert_entry int_cmp es n (command, false)
 
--- The requests with that of this number answered.
+-- The requests after a response to the request with this number.
 abbrev pub with_answer : ℤ → List ℕ → Requests → Requests
 with_answer n command es = set_value (is_at (int_cmp n)) es (command, true)
 
--- The requests of both sides, how far `initialize` has come, and whether an `initialized` event, a
--- `configurationDone` request and a successful `disconnect` response have come.
+-- The requests of both sides, the phase of the `initialize` request, and whether an `initialized`
+-- event, a `configurationDone` request and a successful `disconnect` response have been received.
 pub record Kept : Type 0 where
   pub client : Requests
   pub adapter : Requests
@@ -54,7 +53,7 @@ abbrev pub requests_of : Side → Kept → Requests
 requests_of Client k = k.client
 requests_of Adapter k = k.adapter
 
--- The requests with that of this number answered, where there is a number.
+-- The requests after a response to the request with this number, if there is a number.
 abbrev pub answered_in : Option ℤ → List ℕ → Requests → Requests
 answered_in None command es = es
 answered_in (Some n) command es = with_answer n command es
@@ -67,18 +66,18 @@ requests_after side es m =
     (cond (is_response m && is_from (other side) m) (answered_in (request_seq_of m) (name_of m) es)
     es)
 
--- The message is the response that the `initialize` request waits for.
+-- The message is the response to the `initialize` request, which has no response so far.
 abbrev pub answers_asked : Phase → Sent → Bool
 answers_asked Waiting m = false
 answers_asked (Asked n) m = is_response_to Client n m
 answers_asked Answered m = false
 
--- How far `initialize` has come after one more message.
+-- The phase of the `initialize` request after one more message.
 abbrev pub phase_after : Phase → Sent → Phase
 phase_after phase m =
     cond (is_client_initialize m) (Asked (seq_of m)) (cond (answers_asked phase m) Answered phase)
 
--- What is kept after one more message.
+-- The state after one more message.
 abbrev pub kept_after : Kept → Sent → Kept
 kept_after k m = record {
   client = requests_after Client k.client m;

@@ -1,6 +1,6 @@
--- For private clauses: the rules as a session tells them, by what it keeps.
+-- For private clauses: the rules as tests of the state of a session.
 use Rattle.std.specs.Prelude.{ℕ, ℤ, Bool, true, false, cond, not, ◌&&◌, List, Option, Some, None}
-use Rattle.std.specs.Prelude.{is_some}
+use Rattle.std.specs.Prelude.{[], ◌∷◌, is_some}
 use Rattle.std.specs.Str.{bytes_eq}
 use Rattle.dap_tree.specs.declared.side.Side.TheVariants.{Client, Adapter}
 use Rattle.dap_message.specs.Message.{Sent}
@@ -18,19 +18,19 @@ use Rattle.dap_session.specs.Messages.{is_client_initialize, is_configuration_do
 use Rattle.dap_session.specs.Rules.{rules, first_of}
 use Rattle.dap_session.specs.Kept.{Kept, Requests, Noted, request_numbered, requests_of}
 
--- No `initialize` request of the client has come.
+-- The client has sent no `initialize` request.
 abbrev pub is_waiting : Phase → Bool
 is_waiting Waiting = true
 is_waiting (Asked n) = false
 is_waiting Answered = false
 
--- One has come, and no response to it.
+-- The client has sent one, and the adapter has not responded to it.
 abbrev pub is_unanswered : Phase → Bool
 is_unanswered Waiting = false
 is_unanswered (Asked n) = true
 is_unanswered Answered = false
 
--- The request with the number, where there is a number.
+-- The request with the number, if there is a number.
 abbrev pub request_if_numbered : Option ℤ → Requests → Option Noted
 request_if_numbered None es = None
 request_if_numbered (Some n) es = request_numbered n es
@@ -39,17 +39,17 @@ request_if_numbered (Some n) es = request_numbered n es
 abbrev pub asked_for : Kept → Sent → Option Noted
 asked_for k m = request_if_numbered (request_seq_of m) (requests_of (other (side_of m)) k)
 
--- There is a request, and it is answered.
+-- There is a request, and a response has answered it.
 abbrev pub has_answer : Option Noted → Bool
 has_answer None = false
 has_answer (Some a) = a.1
 
--- There is a request, and its command is another.
+-- There is a request, and its command is not this name.
 abbrev pub has_other_command : List ℕ → Option Noted → Bool
 has_other_command name None = false
 has_other_command name (Some a) = not (bytes_eq a.0 name)
 
--- The message breaks the rule, by what is kept.
+-- The message breaks the rule in this state.
 unfoldable pub tells : Rule → Kept → Sent → Bool
 tells EventFromClient k m = is_from Client m && is_event m
 tells NotInitialized k m = not (is_client_initialize m) && is_waiting k.phase
@@ -64,6 +64,21 @@ tells NoRequest k m = is_response m && not (is_some (asked_for k m))
 tells AnsweredTwice k m = is_response m && has_answer (asked_for k m)
 tells OtherCommand k m = is_response m && has_other_command (name_of m) (asked_for k m)
 
--- The first rule that the message breaks, by what is kept.
+-- The first rule that the message breaks in this state.
 unfoldable pub first_told : Kept → Sent → Option Rule
 first_told k m = cond (is_output m) None (first_of (λ r. tells r k m) rules)
+
+-- The rules on the client's `initialize` request, the rules that only requests can break, and the
+-- rules that only responses can break. With `EventFromClient` before them, they are all rules.
+abbrev pub start_rules : List Rule
+start_rules = NotInitialized ∷ StillInitializing ∷ InitializeTwice ∷ []
+
+abbrev pub request_rules : List Rule
+request_rules = AfterDisconnect ∷ SeqUsed ∷ ConfiguredEarly ∷ ConfiguredTwice ∷ []
+
+abbrev pub response_rules : List Rule
+response_rules = NoRequest ∷ AnsweredTwice ∷ OtherCommand ∷ []
+
+-- The first of these rules that the message breaks, by what is kept.
+unfoldable pub first_of_told : List Rule → Kept → Sent → Option Rule
+first_of_told rs k m = first_of (λ r. tells r k m) rs

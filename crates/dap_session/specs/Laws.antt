@@ -1,4 +1,4 @@
--- The laws that the functions of `laws` state.
+-- The laws that the functions of `laws` ensure.
 use Rattle.dap_tree.specs.Doc.{Doc}
 use Rattle.dap_tree.specs.Ids.{skeleton}
 use Rattle.dap_tree.specs.declared.side.Side.{Side}
@@ -19,29 +19,29 @@ abbrev pub RulesByPosition : Type 0
 RulesByPosition = (rule : Rule) (before after : List Sent) (m : Sent)
     → Decides (is_broken rule before m) (BreaksAt rule (before ++ m ∷ after) (length before) m)
 
--- What is told of a message is the first rule of the list that it breaks at its position.
+-- `first_broken` is the first rule of the list that the message breaks at its position.
 abbrev pub FirstByPosition : Type 0
 FirstByPosition = (before after : List Sent) (m : Sent) →
     MatchOption (first_broken before m) (BreaksNone (before ++ m ∷ after) (length before) m)
     (λ rule. BreaksFirst rule (before ++ m ∷ after) (length before) m)
 
--- ---- lists that keep the rules
+-- ---- lists that obey the rules
 
--- The empty list keeps the rules.
+-- The empty list obeys the rules.
 abbrev pub NoneKeepRules : Type 0
 NoneKeepRules = KeepsRules []
 
--- A list with one more message keeps the rules exactly where the list does and the message breaks
--- none.
+-- A list with one more message obeys the rules if and only if the list obeys them and the message
+-- breaks no rule.
 abbrev pub KeepsOneMore : Type 0
 KeepsOneMore = (ms : List Sent) (m : Sent) → KeepsRules (ms ++ m ∷ [])
     ↔ (KeepsRules ms × (first_broken ms m ≡ None))
 
--- The front of a list that keeps the rules keeps them too.
+-- Every prefix of a list that obeys the rules obeys them too.
 abbrev pub FrontKeepsRules : Type 0
 FrontKeepsRules = (ms ns : List Sent) → KeepsRules (ms ++ ns) → KeepsRules ms
 
--- Every list keeps the rules, or has a first message that breaks one.
+-- Every list obeys the rules, or has a first message that breaks a rule.
 abbrev pub KeepsOrBreaks : Type 0
 KeepsOrBreaks = (ms : List Sent)
     → KeepsRules ms
@@ -50,37 +50,37 @@ KeepsOrBreaks = (ms : List Sent)
 
 -- ---- renamed messages
 
--- A typed message has numbers of its sides' sorts.
+-- The sequence numbers of a typed message are ids of the kinds of their sides.
 abbrev pub TypedIsNumbered : Type 0
 TypedIsNumbered = (side : Side) (d m : Doc) → IsTyped side d m
     → IsNumbered (record { side = side; doc = m })
 
--- A message that differs from such a one in the numbers of its ids alone has them too.
+-- A message that differs from such a message only in the numbers of its ids has them too.
 abbrev pub RenamedIsNumbered : Type 0
 RenamedIsNumbered = (m n : Sent) → m.side ≡ n.side → skeleton m.doc ≡ skeleton n.doc → IsNumbered m
     → IsNumbered n
 
--- The pairs of a renaming: the number y stands where x of the sort s stood.
+-- The pairs of a renaming: the number y replaces the number x of the kind s.
 abbrev pub Renaming : Type 0
 Renaming = List (Sort × ℤ × ℤ)
 
 abbrev pub Renames : Renaming → Sort → ℤ → ℤ → Type 0
 Renames pairs s x y = Contains pairs (s, x, y)
 
--- A one-to-one renaming breaks the rules that were broken, and no others.
+-- After a one-to-one renaming the message breaks the same first rule, if any.
 abbrev pub RenamingKeepsRules : Type 0
 RenamingKeepsRules = (pairs : Renaming) (ms ns : List Sent) (m n : Sent)
     → IsOneToOne (Renames pairs) → All IsNumbered (ms ++ m ∷ [])
     → DifferInIds (Renames pairs) (ms ++ m ∷ []) (ns ++ n ∷ [])
     → first_broken ms m ≡ first_broken ns n
 
--- It leaves as many requests open.
+-- After a one-to-one renaming the same number of requests has no response.
 abbrev pub RenamingKeepsOpen : Type 0
 RenamingKeepsOpen = (pairs : Renaming) (side : Side) (ms ns : List Sent)
     → IsOneToOne (Renames pairs) → All IsNumbered ms → DifferInIds (Renames pairs) ms ns
     → open_requests side ms ≡ open_requests side ns
 
--- And the renamed list keeps the rules where the list does.
+-- The renamed list obeys the rules if and only if the list obeys them.
 abbrev pub RenamingKeepsKept : Type 0
 RenamingKeepsKept = (pairs : Renaming) (ms ns : List Sent) → IsOneToOne (Renames pairs)
     → All IsNumbered ms → DifferInIds (Renames pairs) ms ns → KeepsRules ms ↔ KeepsRules ns

@@ -1,4 +1,4 @@
--- The names of the rules, as they are written. Source: own.
+-- The names of the rules in output (own).
 use Rattle.std.specs.Prelude.{ℕ, List, codes}
 use Rattle.dap_session.specs.declared.rule.Rule.{Rule}
 use Rattle.dap_session.specs.declared.rule.Rule.TheVariants.{EventFromClient, NotInitialized}

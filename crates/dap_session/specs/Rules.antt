@@ -1,6 +1,5 @@
--- The rules of a session, each as a test of a message and of the list of those before it.
--- `Positions` states them without tests, over the positions of the list; `laws` has that both say
--- the same.
+-- The rules of a session, each as a test of a message and of the messages before it. `Positions`
+-- states the rules without tests, over the positions of a list. `laws` proves that the two agree.
 use Rattle.std.specs.Prelude.{◌≡◌, ◌++◌, ℕ, ℤ, Bool, false, cond, not, ◌&&◌, ◌||◌, List, [], ◌∷◌}
 use Rattle.std.specs.Prelude.{Option, Some, None}
 use Rattle.std.specs.Str.{bytes_eq}
@@ -31,12 +30,12 @@ is_initializing [] = false
 is_initializing (m ∷ ms) =
     (is_client_initialize m && not (is_answered Client (seq_of m) ms)) || is_initializing ms
 
--- There is a number, and p holds of it.
+-- There is a number, and p holds for it.
 abbrev pub at_number : Option ℤ → (ℤ → Bool) → Bool
 at_number None p = false
 at_number (Some n) p = p n
 
--- Events are sent by the adapter (DAP specification, Event).
+-- Only the adapter sends events (DAP specification, Event).
 abbrev pub event_from_client : List Sent → Sent → Bool
 event_from_client ms m = is_from Client m && is_event m
 
@@ -49,23 +48,23 @@ not_initialized ms m = not (is_client_initialize m) && not (list_any is_client_i
 abbrev pub still_initializing : List Sent → Sent → Bool
 still_initializing ms m = is_initializing ms && not (is_from Adapter m && is_response m)
 
--- `initialize` is asked once (DAP specification, InitializeRequest).
+-- `initialize` is requested once (DAP specification, InitializeRequest).
 abbrev pub initialize_twice : List Sent → Sent → Bool
 initialize_twice ms m = is_initialize m && list_any is_client_initialize ms
 
--- The client asks nothing once `disconnect` has succeeded (own).
+-- The client sends no request after a successful `disconnect` response (own).
 abbrev pub after_disconnect : List Sent → Sent → Bool
 after_disconnect ms m = is_from Client m && is_request m && list_any is_farewell ms
 
--- No two requests of a side have one number (DAP specification, ProtocolMessage.seq).
+-- No two requests of a side have the same number (DAP specification, ProtocolMessage.seq).
 abbrev pub seq_used : List Sent → Sent → Bool
 seq_used ms m = is_request m && list_any (λ q. is_request_of (side_of m) (seq_of m) q) ms
 
--- Configuration is done after an `initialized` event only (DAP specification, InitializedEvent).
+-- `configurationDone` follows an `initialized` event (DAP specification, InitializedEvent).
 abbrev pub configured_early : List Sent → Sent → Bool
 configured_early ms m = is_configuration_done m && not (list_any is_initialized ms)
 
--- Configuration is done once (own).
+-- `configurationDone` is sent once (own).
 abbrev pub configured_twice : List Sent → Sent → Bool
 configured_twice ms m = is_configuration_done m && list_any is_configuration_done ms
 
@@ -103,27 +102,27 @@ is_broken NoRequest ms m = no_request ms m
 is_broken AnsweredTwice ms m = answered_twice ms m
 is_broken OtherCommand ms m = other_command ms m
 
--- The rules in the order in which they are told (own).
+-- The rules in the order in which they are tested and reported (own).
 abbrev pub rules : List Rule
 rules = EventFromClient ∷ NotInitialized ∷ StillInitializing ∷ InitializeTwice ∷ AfterDisconnect
     ∷ SeqUsed ∷ ConfiguredEarly ∷ ConfiguredTwice ∷ NoRequest ∷ AnsweredTwice ∷ OtherCommand ∷ []
 
--- The first rule of a list of which the test holds.
+-- The first rule of a list for which the test holds.
 abbrev pub first_of : (Rule → Bool) → List Rule → Option Rule
 first_of test [] = None
 first_of test (r ∷ rs) = cond (test r) (Some r) (first_of test rs)
 
 -- The first rule that the message breaks after these messages. An `output` event of the adapter
--- breaks none: an adapter may log at any time (own).
+-- breaks no rule: an adapter may log at any time (own).
 unfoldable pub first_broken : List Sent → Sent → Option Rule
 first_broken ms m = cond (is_output m) None (first_of (λ r. is_broken r ms m) rules)
 
--- No message of the list breaks a rule after those before it.
+-- No message of the list breaks a rule after the messages before it.
 abbrev pub KeepsRules : List Sent → Type 0
 KeepsRules ms = (before after : List Sent) (m : Sent) → ms ≡ before ++ m ∷ after
     → first_broken before m ≡ None
 
--- How many requests of a side no response of the other side answers (own).
+-- The number of requests of a side that no response of the other side answers (own).
 unfoldable pub open_requests : Side → List Sent → ℕ
 open_requests side ms =
     count_by (λ q. is_request q && is_from side q && not (is_answered side (seq_of q) ms)) ms

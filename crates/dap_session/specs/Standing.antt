@@ -1,4 +1,4 @@
--- The lists of messages that a session stands for.
+-- The lists of messages that a session represents.
 use Rattle.std.specs.Prelude.{◌≡◌, ◌≤◌, ◌++◌, ℤ, true, false, cond, List, [], ◌∷◌, Option, Some}
 use Rattle.std.specs.Prelude.{None, option_map, Result, Ok, Err}
 use Rattle.std.specs.List.{list_any, count_by}
@@ -20,15 +20,15 @@ abbrev pub request_at : Side → ℤ → List Sent → Option Sent
 request_at side n [] = None
 request_at side n (m ∷ ms) = cond (is_request_of side n m) (Some m) (request_at side n ms)
 
--- The requests are those of this side in the list: number, command, answered or not.
+-- The requests are those of this side in the list: number, command, and whether it is answered.
 pub record AreRequests (side : Side) (es : Requests) (ms : List Sent) : Type 0 where
   pub listed : (n : ℤ)
       → request_numbered n es
       ≡ option_map (λ q. (name_of q, is_answered side n ms)) (request_at side n ms)
   pub count : unanswered es ≡ open_requests side ms
-  -- no two of them have one number
+  -- no two of them have the same number
   pub once : (n : ℤ) → count_by (λ q. is_request_of side n q) ms ≤ 1
-  -- each answer has its request
+  -- each response has its request
   pub asked : (n : ℤ) → request_at side n ms ≡ None → is_answered side n ms ≡ false
 
 -- Each `initialize` request of the client has this number.
@@ -36,14 +36,14 @@ abbrev pub HaveNumber : ℤ → List Sent → Type 0
 HaveNumber n [] = Unit {0}
 HaveNumber n (m ∷ ms) = (is_client_initialize m ≡ true → seq_of m ≡ n) × HaveNumber n ms
 
--- The phase tells how far the client's `initialize` request has come in the list.
+-- The phase is that of the client's `initialize` request after the list.
 abbrev pub IsPhase : Phase → List Sent → Type 0
 IsPhase Waiting ms = list_any is_client_initialize ms ≡ false
 IsPhase (Asked n) ms = (list_any is_client_initialize ms ≡ true) × HaveNumber n ms
     × (is_answered Client n ms ≡ false)
 IsPhase Answered ms = (list_any is_client_initialize ms ≡ true) × (is_initializing ms ≡ false)
 
--- The session stands for these messages: they keep the rules, and what it keeps is what they say.
+-- The session represents these messages: they obey the rules, and its state is that after them.
 pub record Stands (k : Kept) (ms : List Sent) : Type 0 where
   pub rules : KeepsRules ms
   pub client : AreRequests Client k.client ms
@@ -53,8 +53,8 @@ pub record Stands (k : Kept) (ms : List Sent) : Type 0 where
   pub configured : k.configured ≡ list_any is_configuration_done ms
   pub disconnected : k.disconnected ≡ list_any is_farewell ms
 
--- What a session that stood for ms says of the message m, and what it is then. Memory that was
--- refused tells nothing.
+-- The result for the message m of a session that represents ms, and the state after it. A failed
+-- allocation says nothing about m.
 abbrev pub Says : List Sent → Sent → Result (Unit {0}) SessionFault → Kept → Kept → Type 0
 Says ms m (Ok u) old new = (first_broken ms m ≡ None) × Stands new (ms ++ m ∷ [])
 Says ms m (Err (Broken rule)) old new = (first_broken ms m ≡ Some rule) × (new ≡ old)

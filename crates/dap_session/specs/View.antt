@@ -1,15 +1,15 @@
--- What the fields of `Requests` keep.
+-- The model of `Requests`.
 use Rattle.std.specs.Prelude.{◌≡◌, ℤ, map}
 use Rattle.std.specs.Rc.{rc_str_bytes}
 use Rattle.dap_session.specs.declared.requests.Request.{Request}
 use Rattle.dap_session.specs.declared.requests.Requests.TheInside.{Inside}
 use Rattle.dap_session.specs.Kept.{Requests, Noted, unanswered}
 
--- What is kept of a request.
+-- The command of a request, and whether it is answered.
 abbrev pub noted_of : Request → Noted
 noted_of r = (rc_str_bytes r.command, r.answered)
 
--- It beside its number.
+-- The same with the number of the request.
 abbrev pub entry_of : ℤ × Request → ℤ × Noted
 entry_of e = (e.0, noted_of e.1)
 
@@ -17,6 +17,6 @@ entry_of e = (e.0, noted_of e.1)
 abbrev pub listed : Inside → Requests
 listed a = map entry_of a.seen.entries
 
--- The counter tells how many of them have no response.
+-- The counter is the number of requests that have no response.
 abbrev pub IsCounted : Inside → Type 0
 IsCounted a = a.open ≡ unanswered (listed a)

@@ -1,10 +1,10 @@
-//! What the rules ask of one message, read once.
+//! The values that the rules read of one message, read once.
 ghost use Rattle.std.specs.Prelude.{◌≡◌};
 ghost use Rattle.dap_session.specs.Messages as words;
 
 use dap_message::{AnyMessage, Kind, Message, Side};
 
-/// What the rules ask of one message.
+/// The values that the rules read of one message.
 #[derive(Drop)]
 pub struct Envelope<'m, M: AnyMessage = Message> {
     pub message: &'m M,
@@ -15,7 +15,7 @@ pub struct Envelope<'m, M: AnyMessage = Message> {
     pub seq: i64,
     /// The number of the request that a response answers.
     pub request_seq: Option<i64>,
-    /// Whether a response tells success.
+    /// Whether a response reports success.
     pub success: Option<bool>,
     ghost side_is: { side ≡ words.side_of (M.sent message.now) },
     ghost kind_is: { kind ≡ words.kind_of (M.sent message.now) },
@@ -25,7 +25,7 @@ pub struct Envelope<'m, M: AnyMessage = Message> {
     ghost success_is: { success ≡ words.success_of (M.sent message.now) },
 }
 
-/// Reads what the rules ask of a message.
+/// Reads the values of a message that the rules need.
 #[tactic(auto, unfolding(crate::specs::Messages::side_of, crate::specs::Messages::kind_of, crate::specs::Messages::name_of, crate::specs::Messages::seq_of, crate::specs::Messages::request_seq_of, crate::specs::Messages::success_of,))]
 pub fn envelope_of<M: AnyMessage>(message: &M) -> Envelope<'_, M>
     ensures { result.message.now ≡ message.now }

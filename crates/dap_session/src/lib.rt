@@ -1,8 +1,8 @@
-//! The rules of a session of the Debug Adapter Protocol, judged message by message.
+//! The rules of a session of the Debug Adapter Protocol, checked message by message.
 //!
-//! A [`Session`] takes the messages of both sides in their order, and names the first [`Rule`]
-//! that one breaks. `specs/` states the rules over the list of messages, and [`laws`] has the
-//! theorems.
+//! A [`Session`] accepts the messages of both sides in their order. It returns the first [`Rule`]
+//! that a message breaks. `specs/` states the rules over the list of messages, and [`laws`] has
+//! the theorems.
 #![tactic(auto)]
 
 pub mod envelope;

@@ -1,4 +1,4 @@
-//! The tests of one message that the rules are made of.
+//! The tests of one message that the rules use.
 ghost use Rattle.dap_session.specs.EnvelopeView.{message_of};
 ghost use Rattle.std.specs.Prelude.{◌≡◌};
 ghost use Rattle.dap_session.specs.Messages as words;
@@ -6,21 +6,21 @@ ghost use Rattle.dap_session.specs.Messages as words;
 use crate::envelope::Envelope;
 use dap_message::{AnyMessage, Kind, Side};
 
-/// The command of a request or response, the name of an event.
+/// Returns the command of a request or response, the name of an event.
 pub fn name_of<'m, M: AnyMessage>(message: &Envelope<'m, M>) -> &'m str
     ensures { result.now ≡ words.name_of (message_of message.now) }
 {
     message.name
 }
 
-/// The number of the message itself.
+/// Returns the sequence number of the message.
 pub fn seq_of<M: AnyMessage>(message: &Envelope<'_, M>) -> i64
     ensures { result ≡ words.seq_of (message_of message.now) }
 {
     message.seq
 }
 
-/// The number of the request that a response answers.
+/// Returns the number of the request that a response answers, or `None` for another message.
 pub fn request_seq_of<M: AnyMessage>(message: &Envelope<'_, M>) -> Option<i64>
     ensures { result ≡ words.request_seq_of (message_of message.now) }
 {
@@ -33,7 +33,7 @@ pub fn side_of<M: AnyMessage>(message: &Envelope<'_, M>) -> Side
     message.side
 }
 
-/// What sort of message it is.
+/// Returns the kind of the message.
 pub fn kind_of<M: AnyMessage>(message: &Envelope<'_, M>) -> Kind
     ensures { result ≡ words.kind_of (message_of message.now) }
 {
@@ -70,6 +70,16 @@ pub fn is_event<M: AnyMessage>(message: &Envelope<'_, M>) -> bool
     kind_of(message) == Kind::Event
 }
 
+/// Returns whether the message is a request of the client or a response to one.
+pub fn is_about_client<M: AnyMessage>(message: &Envelope<'_, M>) -> bool
+    ensures { result ≡ words.is_about_client (message_of message.now) }
+{
+    match side_of(message) {
+        Side::Client => is_request(message),
+        Side::Adapter => is_response(message),
+    }
+}
+
 pub fn is_initialize<M: AnyMessage>(message: &Envelope<'_, M>) -> bool
     ensures { result ≡ words.is_initialize (message_of message.now) }
 {
@@ -94,7 +104,7 @@ pub fn is_initialized<M: AnyMessage>(message: &Envelope<'_, M>) -> bool
     is_event(message) && name_of(message) == "initialized"
 }
 
-/// Whether it is a successful `disconnect` response of the adapter.
+/// Returns whether the message is a successful `disconnect` response of the adapter.
 pub fn is_farewell<M: AnyMessage>(message: &Envelope<'_, M>) -> bool
     ensures { result ≡ words.is_farewell (message_of message.now) }
 {
@@ -104,7 +114,7 @@ pub fn is_farewell<M: AnyMessage>(message: &Envelope<'_, M>) -> bool
         && success_of(message) == Some(true)
 }
 
-/// Whether it is an `output` event of the adapter, which breaks no rule.
+/// Returns whether the message is an `output` event of the adapter, which breaks no rule.
 pub fn is_output<M: AnyMessage>(message: &Envelope<'_, M>) -> bool
     ensures { result ≡ words.is_output (message_of message.now) }
 {

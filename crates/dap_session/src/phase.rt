@@ -1,4 +1,4 @@
-//! How far the client's `initialize` request has come.
+//! The phase of the client's `initialize` request.
 ghost use Rattle.dap_session.specs.EnvelopeView.{message_of};
 ghost use Rattle.std.specs.Prelude.{◌≡◌};
 ghost use Rattle.dap_session.specs.KeptRules as tells;
@@ -8,14 +8,14 @@ use crate::envelope::Envelope;
 use crate::message::{is_client_initialize, is_from, is_response, request_seq_of, seq_of};
 use dap_message::{AnyMessage, Side};
 
-/// How far the client's `initialize` request has come.
+/// The phase of the client's `initialize` request.
 #[derive(Clone, Copy)]
 pub enum Phase {
-    /// It has not come.
+    /// The client has not sent it.
     Waiting,
-    /// It has this number, and no response.
+    /// The client has sent it with this number, and the adapter has not responded.
     Asked(i64),
-    /// The adapter has responded to it.
+    /// The adapter has responded.
     Answered,
 }
 
@@ -32,7 +32,7 @@ impl Phase {
         matches!(self, Phase::Asked(_))
     }
 
-    /// Whether the message answers the request.
+    /// Returns whether the message is the response to the request, which has none so far.
     fn is_answered_by<M: AnyMessage>(&self, message: &Envelope<'_, M>) -> bool
         ensures { result ≡ kept.answers_asked self.now (message_of message.now) }
     {
@@ -46,7 +46,7 @@ impl Phase {
         }
     }
 
-    /// How far it has come after one more message.
+    /// Returns the phase after one more message.
     pub fn after<M: AnyMessage>(&self, message: &Envelope<'_, M>) -> Phase
         ensures { result ≡ kept.phase_after self.now (message_of message.now) }
     {

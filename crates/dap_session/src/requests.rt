@@ -15,18 +15,18 @@ use std::collections::{BTreeMap, BTreeSet};
 use std::marker::Model;
 use std::rc::RcStr;
 
-/// A request that was taken.
+/// A request that was accepted.
 #[derive(Drop)]
 pub struct Request {
     command: RcStr,
     answered: bool,
 }
 
-/// The requests of one side by their numbers, and how many of them have no answer.
+/// The requests of one side by their numbers, and the number of requests without a response.
 #[derive(Drop)]
 pub struct Requests {
     alloc: Global,
-    /// The commands of the requests: each text stands in memory once.
+    /// The commands of the requests. Each string is stored once.
     commands: BTreeSet<RcStr>,
     seen: BTreeMap<i64, Request>,
     open: usize,
@@ -56,14 +56,14 @@ impl Requests {
         }
     }
 
-    /// How many have no answer.
+    /// Returns the number of requests without a response.
     pub fn open(&self) -> usize
         ensures { result ≡ unanswered self.now }
     {
         self.open
     }
 
-    /// The command of the request of this number, and whether it is answered.
+    /// Returns the command of the request with this number, and whether it is answered.
     pub fn find(&self, number: i64) -> Option<(&str, bool)>
         ensures { option_map (λ a. (a.0.now, a.1)) result ≡ request_numbered number self.now }
     {
@@ -73,7 +73,7 @@ impl Requests {
         }
     }
 
-    /// Keeps a request with a new number.
+    /// Adds a request with a new number. After an allocation failure nothing is changed.
     pub fn ask(&mut self, number: i64, command: &str) -> Result<(), AllocError>
         requires { request_numbered number self.old ≡ None }
         ensures ok { OnOk result (self.new ≡ with_request number command.now self.old) }
@@ -92,7 +92,7 @@ impl Requests {
         Ok(())
     }
 
-    /// Marks the request of this number, which has this command and no response, as answered.
+    /// Marks the request with this number, which has this command and no response, as answered.
     fn answer(&mut self, number: i64, command: &str)
         requires { request_numbered number self.old ≡ Some (command.now, false) }
         ensures { self.new ≡ with_answer number command.now self.old }
@@ -103,7 +103,8 @@ impl Requests {
         }
     }
 
-    /// Keeps what a message asks or answers here.
+    /// Adds the message if it is a request of this side. Marks its request as answered if it is a
+    /// response to one.
     pub fn note<M: AnyMessage>(
         &mut self,
         side: Side,
@@ -126,7 +127,7 @@ impl Requests {
     }
 }
 
-/// The text, as it stands in the set; it is put there where it is not.
+/// Returns the string of the set that equals `text`, and adds it first if there is none.
 fn shared_text(texts: &mut BTreeSet<RcStr>, alloc: Global, text: &str) -> Result<RcStr, AllocError>
     ensures { IfOk result (λ shared. rc_str_bytes shared ≡ text.now) }
 {

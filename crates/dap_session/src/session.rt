@@ -1,30 +1,34 @@
-//! A session as its messages come: each is taken or breaks a rule.
+//! A session: each message is accepted, or breaks a rule.
 ghost use Rattle.dap_session.specs.EnvelopeView.{message_of};
 ghost use Rattle.std.specs.Prelude.{◌≡◌, [], List, Some, None, option_map, OnOk, OnErr, true};
-ghost use Rattle.std.specs.Prelude.{false, IsErrOf};
+ghost use Rattle.std.specs.Prelude.{false, ◌&&◌, is_some, IsErrOf};
 ghost use Rattle.dap_message.specs.Message.{Sent, sent};
-ghost use Rattle.dap_session.specs.Messages.{is_request};
+ghost use Rattle.dap_session.specs.Messages.{is_request, is_response, is_event, is_from};
+ghost use Rattle.dap_session.specs.Messages.{seq_of, side_of};
 ghost use Rattle.dap_session.specs.Rules.{first_broken, open_requests};
-ghost use Rattle.dap_session.specs.Kept.{requests_of, kept_after};
-ghost use Rattle.dap_session.specs.KeptRules.{first_told, tells, asked_for};
+ghost use Rattle.dap_session.specs.Kept.{requests_of, request_numbered, kept_after};
+ghost use Rattle.dap_session.specs.KeptRules.{first_told, first_of_told, asked_for};
+ghost use Rattle.dap_session.specs.KeptRules.{start_rules, request_rules, response_rules};
 ghost use Rattle.dap_session.specs.Standing.{Stands, Says};
 
 use crate::envelope::{Envelope, envelope_of};
 use crate::message::{
-    is_client_initialize, is_configuration_done, is_event, is_farewell, is_from, is_initialize,
-    is_initialized, is_output, is_request, is_response, name_of, request_seq_of, seq_of, side_of,
+    is_about_client, is_client_initialize, is_configuration_done, is_event, is_farewell, is_from,
+    is_initialize, is_initialized, is_output, is_request, is_response, kind_of, name_of,
+    request_seq_of, seq_of, side_of,
 };
 use crate::phase::Phase;
 use crate::requests::Requests;
 use crate::rule::{Rule, SessionFault};
-use dap_message::{AnyMessage, Message, Side};
+use dap_message::{AnyMessage, Kind, Message, Side};
 use std::alloc::{AllocError, Global};
 use std::marker::Model;
 
-/// What the rules need to know of the messages so far, of both sides.
+/// What the rules need to know about the messages of both sides so far.
 ///
-/// Of a request it keeps the number, the command and whether it is answered; of all else a few
-/// flags. The time to judge a message grows with the logarithm of the number of requests.
+/// The session stores the number of each request, its command and whether it is answered. For all
+/// other messages it stores a few flags. The time to check a message grows with the logarithm of
+/// the number of requests.
 #[derive(Drop)]
 pub struct Session {
     client: Requests,
@@ -46,7 +50,7 @@ impl Model for Session {
 }
 
 impl Session {
-    /// The session before its first message. Takes no memory.
+    /// Returns a session without messages. Does not allocate.
     pub fn new(alloc: Global) -> Session
         ensures { Stands result [] }
     {
@@ -60,10 +64,14 @@ impl Session {
         }
     }
 
-    /// Takes the message as the next one, or names the first rule that it breaks.
+    /// Accepts the message as the next one, or returns the first rule that it breaks.
     ///
-    /// After a refusal the session is as it was. `Memory` comes only for a request that breaks no
-    /// rule, where a growth was refused.
+    /// # Errors
+    ///
+    /// - `Broken`: the first rule that the message breaks.
+    /// - `Memory`: an allocation failed. The message is a request that breaks no rule.
+    ///
+    /// On an error the session is unchanged.
     pub fn accept(&mut self, message: &Message) -> Result<(), SessionFault>
         ensures says { (ms : List Sent) → Stands self.old ms
             → Says ms (sent message.now) result self.old self.new }
@@ -76,15 +84,15 @@ impl Session {
         self.accept_any(message)
     }
 
-    /// Accepts the message as the next one, as [`accept`](Session::accept) does, whatever form its
-    /// document is held in.
+    /// Accepts the message as the next one, as [`accept`](Session::accept) does. The document of
+    /// the message may have any form.
     ///
     /// # Errors
     ///
     /// - `Broken`: the first rule that the message breaks.
     /// - `Memory`: an allocation failed. The message is a request that breaks no rule.
     ///
-    /// On an error the session is as it was.
+    /// On an error the session is unchanged.
     pub fn accept_any<M: AnyMessage>(&mut self, message: &M) -> Result<(), SessionFault>
         ensures says { (ms : List Sent) → Stands self.old ms
             → Says ms (M.sent message.now) result self.old self.new }
@@ -104,13 +112,14 @@ impl Session {
         }
     }
 
-    /// How many requests of this side have no response so far. Takes no memory.
+    /// Returns the number of requests of this side that have no response so far. Does not allocate.
     pub fn open(&self, side: Side) -> usize
         ensures { (ms : List Sent) → Stands self.now ms → result ≡ open_requests side ms }
     {
         self.requests_of(side).open()
     }
 
+    /// Returns the requests of this side.
     fn requests_of(&self, side: Side) -> &Requests
         ensures { result.now ≡ requests_of side self.now }
     {
@@ -120,7 +129,7 @@ impl Session {
         }
     }
 
-    /// The command of the request that a response answers, and whether it is answered.
+    /// Returns the command of the request that a response answers, and whether it is answered.
     fn asked_for<M: AnyMessage>(&self, message: &Envelope<'_, M>) -> Option<(&str, bool)>
         ensures { option_map (λ a. (a.0.now, a.1)) result
             ≡ asked_for self.now (message_of message.now) }
@@ -134,92 +143,144 @@ impl Session {
         }
     }
 
-    /// Whether the message breaks the rule. `asked` is the request that it answers, as
-    /// [`Self::asked_for`] tells it.
-    #[tactic(auto, unfolding(crate::specs::KeptRules::tells))]
-    fn breaks<M: AnyMessage>(
-        &self,
-        rule: Rule,
-        message: &Envelope<'_, M>,
-        asked: Option<(&str, bool)>,
-    ) -> bool
-        requires { option_map (λ a. (a.0.now, a.1)) asked
-            ≡ asked_for self.now (message_of message.now) }
-        ensures { result ≡ tells rule self.now (message_of message.now) }
+    /// Returns whether an earlier request of the same side has the number of this message.
+    fn has_seq<M: AnyMessage>(&self, message: &Envelope<'_, M>) -> bool
+        ensures { result
+            ≡ is_some (request_numbered (seq_of (message_of message.now))
+            (requests_of (side_of (message_of message.now)) self.now)) }
     {
-        match rule {
-            Rule::EventFromClient => is_from(message, Side::Client) && is_event(message),
-            Rule::NotInitialized => !is_client_initialize(message) && self.phase.is_waiting(),
-            Rule::StillInitializing => {
-                self.phase.is_asked() && !(is_from(message, Side::Adapter) && is_response(message))
-            }
-            Rule::InitializeTwice => is_initialize(message) && !self.phase.is_waiting(),
-            Rule::AfterDisconnect => {
-                is_from(message, Side::Client) && is_request(message) && self.disconnected
-            }
-            Rule::SeqUsed => {
-                is_request(message)
-                    && self
-                        .requests_of(side_of(message))
-                        .find(seq_of(message))
-                        .is_some()
-            }
-            Rule::ConfiguredEarly => is_configuration_done(message) && !self.initialized,
-            Rule::ConfiguredTwice => is_configuration_done(message) && self.configured,
-            Rule::NoRequest => is_response(message) && asked.is_none(),
-            Rule::AnsweredTwice => { is_response(message) && matches!(asked, Some((_, true))) }
-            Rule::OtherCommand => {
-                is_response(message)
-                    && match asked {
-                        Some((command, _)) => command != name_of(message),
-                        None => false,
-                    }
-            }
-        }
+        self.requests_of(side_of(message))
+            .find(seq_of(message))
+            .is_some()
     }
 
-    /// The first rule that the message breaks.
-    #[tactic(auto, unfolding(crate::specs::KeptRules::first_told))]
+    /// Returns the first rule that the message breaks.
     fn broken_by<M: AnyMessage>(&self, message: &Envelope<'_, M>) -> Option<Rule>
         ensures { result ≡ first_told self.now (message_of message.now) }
     {
-        if is_output(message) {
-            return None;
-        }
-        let asked = self.asked_for(message);
-        for rule in [
-            Rule::EventFromClient,
-            Rule::NotInitialized,
-            Rule::StillInitializing,
-            Rule::InitializeTwice,
-            Rule::AfterDisconnect,
-            Rule::SeqUsed,
-            Rule::ConfiguredEarly,
-            Rule::ConfiguredTwice,
-            Rule::NoRequest,
-            Rule::AnsweredTwice,
-            Rule::OtherCommand,
-        ] {
-            if self.breaks(rule, message, asked) {
-                return Some(rule);
+        match kind_of(message) {
+            Kind::Event => self.broken_by_event(message),
+            Kind::Request => {
+                match self.broken_at_start(message) {
+                    Some(rule) => Some(rule),
+                    None => self.broken_by_request(message),
+                }
+            }
+            Kind::Response => {
+                match self.broken_at_start(message) {
+                    Some(rule) => Some(rule),
+                    None => self.broken_by_response(message),
+                }
             }
         }
-        None
     }
 
-    /// Keeps what the rules need to know of a message that breaks none.
+    /// Returns the first rule that an event breaks.
+    fn broken_by_event<M: AnyMessage>(&self, message: &Envelope<'_, M>) -> Option<Rule>
+        requires { is_event (message_of message.now) ≡ true }
+        ensures { result ≡ first_told self.now (message_of message.now) }
+    {
+        if is_from(message, Side::Client) {
+            return Some(Rule::EventFromClient);
+        }
+        match self.broken_at_start(message) {
+            Some(rule) => { if is_output(message) { None } else { Some(rule) } }
+            None => None,
+        }
+    }
+
+    /// Returns the first rule on the `initialize` request that the message breaks.
+    fn broken_at_start<M: AnyMessage>(&self, message: &Envelope<'_, M>) -> Option<Rule>
+        ensures { result ≡ first_of_told start_rules self.now (message_of message.now) }
+    {
+        if self.phase.is_waiting() {
+            if is_client_initialize(message) {
+                None
+            } else {
+                Some(Rule::NotInitialized)
+            }
+        } else if self.phase.is_asked() {
+            if is_from(message, Side::Adapter) && is_response(message) {
+                None
+            } else {
+                Some(Rule::StillInitializing)
+            }
+        } else if is_initialize(message) {
+            Some(Rule::InitializeTwice)
+        } else {
+            None
+        }
+    }
+
+    /// Returns whether the message is from the client, after a successful `disconnect` response.
+    fn is_late<M: AnyMessage>(&self, message: &Envelope<'_, M>) -> bool
+        ensures { result ≡ is_from Side.Client (message_of message.now) && self.now.disconnected }
+    {
+        is_from(message, Side::Client) && self.disconnected
+    }
+
+    /// Returns the first rule on requests that a request breaks.
+    fn broken_by_request<M: AnyMessage>(&self, message: &Envelope<'_, M>) -> Option<Rule>
+        requires { is_request (message_of message.now) ≡ true }
+        ensures { result ≡ first_of_told request_rules self.now (message_of message.now) }
+    {
+        if self.is_late(message) {
+            return Some(Rule::AfterDisconnect);
+        }
+        if self.has_seq(message) {
+            return Some(Rule::SeqUsed);
+        }
+        if !is_configuration_done(message) {
+            None
+        } else if !self.initialized {
+            Some(Rule::ConfiguredEarly)
+        } else if self.configured {
+            Some(Rule::ConfiguredTwice)
+        } else {
+            None
+        }
+    }
+
+    /// Returns the first rule on responses that a response breaks.
+    fn broken_by_response<M: AnyMessage>(&self, message: &Envelope<'_, M>) -> Option<Rule>
+        requires { is_response (message_of message.now) ≡ true }
+        ensures { result ≡ first_of_told response_rules self.now (message_of message.now) }
+    {
+        match self.asked_for(message) {
+            None => Some(Rule::NoRequest),
+            Some((_, true)) => Some(Rule::AnsweredTwice),
+            Some((command, false)) => {
+                if command == name_of(message) {
+                    None
+                } else {
+                    Some(Rule::OtherCommand)
+                }
+            }
+        }
+    }
+
+    /// Stores what the rules need to know about a message that breaks no rule.
+    ///
+    /// An event changes only a flag. A request changes the requests of its own side, and a response
+    /// those of the other side.
     fn keep<M: AnyMessage>(&mut self, message: &Envelope<'_, M>) -> Result<(), AllocError>
         requires { first_told self.old (message_of message.now) ≡ None }
         ensures ok { OnOk result (self.new ≡ kept_after self.old (message_of message.now)) }
         ensures err { OnErr result (self.new ≡ self.old) }
         ensures memory { OnErr result (is_request (message_of message.now) ≡ true) }
     {
-        self.client.note(Side::Client, message)?;
-        self.adapter.note(Side::Adapter, message)?;
-        self.phase = self.phase.after(message);
-        self.initialized = self.initialized || is_initialized(message);
-        self.configured = self.configured || is_configuration_done(message);
-        self.disconnected = self.disconnected || is_farewell(message);
+        if is_event(message) {
+            self.initialized = self.initialized || is_initialized(message);
+            return Ok(());
+        }
+        if is_about_client(message) {
+            self.client.note(Side::Client, message)?;
+            self.phase = self.phase.after(message);
+            self.configured = self.configured || is_configuration_done(message);
+            self.disconnected = self.disconnected || is_farewell(message);
+        } else {
+            self.adapter.note(Side::Adapter, message)?;
+        }
         Ok(())
     }
 }

@@ -1,19 +1,39 @@
-use Rattle.std.proofs.Common.{◌∙◌, sym, arith}
-use Rattle.dap_session.specs.Rules.{rules}
-use Rattle.dap_session.specs.KeptRules.{tells}
-use Rattle.dap_session.proofs.FirstBroken.{first_more}
-use Rattle.dap_session.proofs.RuleTests.{judged_hit}
+use Rattle.std.proofs.Common.{◌∙◌, Option, ap, sym}
+use Rattle.dap_profile.specs.declared.profile.Kind.{Kind}
+use Rattle.dap_profile.specs.declared.profile.Kind.TheVariants.{Request, Response}
 use Rattle.dap_session.specs.EnvelopeView.{message_of}
+use Rattle.dap_session.specs.KeptRules.{first_of_told, request_rules, response_rules}
+use Rattle.dap_session.specs.Messages.{same_kind}
+use Rattle.dap_session.specs.declared.rule.Rule.{Rule}
+use Rattle.dap_session.proofs.RulesByKind.{or_else, of_request, of_response}
 use Rattle.dap_session.proofs.session.Session.broken_by.Goals as goal
 
-pub loop-rule-preserved : goal.loop-rule-preserved
-loop-rule-preserved g c =
-    c.loop-rule.invariant
-    ∙ first_more (λ r. tells r c.args.self.now (message_of c.args.message.now)) rules
-    c.loop-rule.rule-index _ (omega arith) (sym c.breaks.ensures ∙ c.if-breaks.false)
+pub returns-in-Some : goal.returns-in-Some
+returns-in-Some g c =
+    sym (of_request c.args.self.now (message_of c.args.message.now)
+    (ap (λ (k : Kind). same_kind Request k) (sym c.in-Request.ensures))
+    ∙ ap (λ (o : Option Rule). or_else o (first_of_told request_rules c.args.self.now
+    (message_of c.args.message.now))) (sym c.in-Some.ensures))
 
-pub returns-then-breaks : goal.returns-then-breaks
-returns-then-breaks g c =
-    judged_hit c.args.self.now (message_of c.args.message.now) c.loop-rule.rule-index _
-    (sym c.is_output.ensures ∙ c.if-is_output.false) c.loop-rule.invariant (omega arith)
-    (sym c.breaks.ensures ∙ c.if-breaks.true)
+pub returns-in-None : goal.returns-in-None
+returns-in-None g c =
+    c.broken_by_request.ensures
+    ∙ sym (of_request c.args.self.now (message_of c.args.message.now)
+    (ap (λ (k : Kind). same_kind Request k) (sym c.in-Request.ensures))
+    ∙ ap (λ (o : Option Rule). or_else o (first_of_told request_rules c.args.self.now
+    (message_of c.args.message.now))) (sym c.in-None.ensures))
+
+pub returns-in-Some-broken_at_start : goal.returns-in-Some-broken_at_start
+returns-in-Some-broken_at_start g c =
+    sym (of_response c.args.self.now (message_of c.args.message.now)
+    (ap (λ (k : Kind). same_kind Response k) (sym c.in-Response.ensures))
+    ∙ ap (λ (o : Option Rule). or_else o (first_of_told response_rules c.args.self.now
+    (message_of c.args.message.now))) (sym c.in-Some-broken_at_start.ensures))
+
+pub returns-in-None-broken_at_start : goal.returns-in-None-broken_at_start
+returns-in-None-broken_at_start g c =
+    c.broken_by_response.ensures
+    ∙ sym (of_response c.args.self.now (message_of c.args.message.now)
+    (ap (λ (k : Kind). same_kind Response k) (sym c.in-Response.ensures))
+    ∙ ap (λ (o : Option Rule). or_else o (first_of_told response_rules c.args.self.now
+    (message_of c.args.message.now))) (sym c.in-None-broken_at_start.ensures))

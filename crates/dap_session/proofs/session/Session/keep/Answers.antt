@@ -12,8 +12,8 @@ note-requires g c =
     (sym (ap (λ (k : Kept). k.client) c.self.view_is))
     (may_follow c.args.self.now (message_of c.args.message.now) Client c.requires)
 
-pub note-requires-2 : goal.note-requires-2
-note-requires-2 g c =
+pub note-requires-else-is_about_client : goal.note-requires-else-is_about_client
+note-requires-else-is_about_client g c =
     subst (λ (es : Requests). FitsRequests Adapter es (message_of c.args.message.now))
     (sym (ap (λ (k : Kept). k.adapter) c.self.view_is))
     (may_follow c.args.self.now (message_of c.args.message.now) Adapter c.requires)
