@@ -354,7 +354,7 @@ TRACES = {
     ),
 }
 RULES = {
-    "a verb": (b"hide event output\n", "line 1: BadRule", ["line 1 is: hide event output", '"hide" is not a verb: write blank, digits, hex, drop or swap']),
+    "a verb": (b"hide event output\n", "line 1: BadRule", ["line 1 is: hide event output", '"hide" is not a verb: write blank, digits, hex, long, uuid, drop or swap']),
     "no kind": (b"blank\n", "line 1: BadRule", ["line 1 is: blank", "after the verb comes a kind: request, response or event"]),
     "a kind": (
         b"hex event x y\nblank evnt x y\n", "line 2: BadRule",
@@ -413,6 +413,14 @@ RULES = {
         b"# x\nhex event output body.output\ndigits event * body.output\n", "line 3: DigitsBehindHex",
         ["line 3 is: digits event * body.output", "line 2 has a hex rule for the same place", "write the digits rule before the hex rule"],
     ),
+    "uuid after digits": (
+        b"digits event output body.output\nuuid event * body.output\n", "line 2: Clash",
+        [
+            "line 2 is: uuid event * body.output", "line 1 has another action for the same place",
+            "write uuid before long and hex last, and do not join uuid and digits",
+        ],
+    ),
+    "long without a place": (b"long event stopped\n", "line 1: BadRule", ["line 1 is: long event stopped", "after the name comes a place, such as body.reason"]),
     "no UTF-8": (b"\n# \xff\n", "line 2: NotUtf8", ['line 2 is not UTF-8 after 2 bytes: "\\xff"', "save the file as UTF-8"]),
     "too many rules": (
         b"".join(b"drop event e%d\n" % number for number in range(1001)), "line 1001: TooMany",

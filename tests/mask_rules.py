@@ -21,6 +21,18 @@ REFUSED = [
     (b'blank event process body.id\n\nblank event "process" body."i\\u0064" # again\n', "line 3: Repeated"),
     (b"drop event *\r\ndrop event *\r\n", "line 2: Repeated"),
     (b"hex event output body.output\ndigits event * body.output\n", "line 2: DigitsBehindHex"),
+    (b"hex event output body.output\nlong event output body.output\n", "line 2: Clash"),
+    (b"hex event * body.output\n\nuuid event output body.output\n", "line 3: Clash"),
+    (b"digits event output body.output\nuuid event output body.output\n", "line 2: Clash"),
+    (b"uuid event output body.output\ndigits event output body.output\n", "line 2: Clash"),
+    (b"long event output body.output\nuuid event * body.output\n", "line 2: Clash"),
+    # The first of two that clash decides.
+    (b"uuid event a x\nhex event a x\ndigits event a x\n", "line 3: Clash"),
+    (b"hex event a x\nuuid event b x\ndigits event * x\n", "line 3: DigitsBehindHex"),
+    (b"long event stopped", "line 1: BadRule"),
+    (b"uuid event * command", "line 1: BadPlace"),
+    (b"long response * request_seq", "line 1: BadPlace"),
+    (b"uuids event output body.output", "line 1: BadRule"),
     # One line feed too many.
     (b"\n" * 65_537, "line 65537: TooLong"),
     (b"blank event process body.id x", "line 1: BadRule"),
@@ -64,6 +76,12 @@ SWAPS = [
     b"swap event " + b"n" * 30_000 + b" event " + b"m" * 30_000,
 ]
 
+# Pairs of actions that may have one place, in this order.
+TOGETHER = [
+    b"digits hex", b"digits long", b"long digits", b"long hex", b"uuid hex", b"uuid long", b"blank uuid",
+    b"hex blank", b"long blank", b"digits long hex", b"uuid long hex",
+]
+
 RULES = b"""# lldb-dap
 blank  event process body.systemProcessId
 digits response threads body.threads[].name   # OS numbers
@@ -71,6 +89,9 @@ hex    response variables body.variables[].value
 blank  event terminated statistics
 blank  request "launch" arguments."a b"
 drop   event output
+uuid   response evaluate body.result
+long   response evaluate body.result
+hex    response evaluate body.result
 """
 
 # Contents, and the text that each is masked to; an event that is left out has none.
@@ -98,6 +119,18 @@ MASKED = [
     (
         '{"type":"request","command":"launch","arguments":{"a b":true,"a":null}}',
         '{"arguments":{"a":null,"a b":false},"command":"launch","type":"request"}',
+    ),
+    (
+        '{"type":"response","command":"evaluate","body":{"result":"5fa9 12345 abcdef a12345 ghost1a2b3c4"}}',
+        '{"body":{"result":"5fa9 12345 abcdef 0 ghost0"},"command":"evaluate","type":"response"}',
+    ),
+    (
+        '{"type":"response","command":"evaluate","body":{"result":"0x7ffd 0x7ffd5e8a 140723"}}',
+        '{"body":{"result":"0x0 0x0 0"},"command":"evaluate","type":"response"}',
+    ),
+    (
+        '{"type":"response","command":"evaluate","body":{"result":"id 6e8bc430-9c3a-11d9-9669-0800200c9a66."}}',
+        '{"body":{"result":"id 0-0000-0000-0000-0."},"command":"evaluate","type":"response"}',
     ),
     ('{"type":"event","event":"output","body":1.5}', None),
 ]
@@ -140,6 +173,12 @@ def accepted_swaps(report):
         masks(report, f"accepted rules for the order, row {number}", swap, OUTPUT, record('<{"event":"output","type":"event"}'))
 
 
+def actions_together(report):
+    for verbs in TOGETHER:
+        rules = b"".join(verb + b" event output body.output\n" for verb in verbs.split())
+        masks(report, f"actions at one place: {verbs.decode()}", rules, OUTPUT, record('<{"event":"output","type":"event"}'))
+
+
 def refused_rules(report):
     for number, (rules, why) in enumerate(REFUSED, 1):
         masks(report, f"refused rules, row {number}", rules, b"nothing is read of this", b"", f"rules: {why}")
@@ -177,4 +216,4 @@ def masked_recordings(report):
 
 
 if __name__ == "__main__":
-    sys.exit(judged(refused_rules, accepted_swaps, a_thousand_rules, masked_contents, masked_recordings))
+    sys.exit(judged(refused_rules, accepted_swaps, actions_together, a_thousand_rules, masked_contents, masked_recordings))

@@ -1,4 +1,4 @@
--- Lines of explanations joined, and the bytes of their characters.
+-- The concatenation of explanation lines, and the bytes of their characters.
 use Rattle.std.proofs.Common.{◌≡◌, ◌≢◌, ℕ, ◌+◌, ◌/◌, ◌%◌, ◌≤◌, ◌<◌, Bool, true, false, cond, ltb}
 use Rattle.std.proofs.Common.{List, [], ◌∷◌, ◌++◌, All, flat_map, refl, sym, ap, ◌∙◌, subst, arith}
 use Rattle.std.proofs.Common.{append_assoc}
@@ -18,7 +18,7 @@ line_more (line ∷ lines) words =
     append_assoc (line_of line) (flat_map line_of lines) (line_of words)
     ∙ ap (λ rest. line_of line ++ rest) (line_more lines words)
 
--- one more line
+-- One more line.
 pub AreLines-append : (text words : List ℕ) → AreLines text → All IsPrinted words
     → AreLines (text ++ line_of words)
 AreLines-append text words before printed = record {
@@ -27,7 +27,7 @@ AreLines-append text words before printed = record {
   same = ap (λ bytes. bytes ++ line_of words) before.same ∙ line_more before.lines words;
 }
 
--- a byte above ASCII
+-- A byte above ASCII.
 high_printed : (byte : ℕ) (rest : List ℕ) → 128 ≤ byte → All IsPrinted rest
     → All IsPrinted (byte ∷ rest)
 high_printed byte rest high printed =
@@ -37,7 +37,7 @@ cond_holds : {X : Type 0} (P : X → Type 0) (b : Bool) (x y : X) → P x → P 
 cond_holds P true x y p q = p
 cond_holds P false x y p q = q
 
--- the bytes of a character are printed if it is
+-- If a character is printed, so are its bytes.
 pub encode_printed : (c : ℕ) → 32 ≤ c → c ≢ 127 → All IsPrinted (encode c)
 unfolding encode
 encode_printed c low other =

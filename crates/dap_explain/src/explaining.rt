@@ -1,4 +1,4 @@
-//! Refusals explained.
+//! Explains rejections.
 ghost use Rattle.std.specs.Prelude.{IfOk, string_bytes};
 ghost use Rattle.dap_frame.specs.Limits.{IsSound};
 ghost use Rattle.dap_input.specs.declared.limits.Limits.{Limits};
@@ -19,7 +19,7 @@ use dap_input::{Limits, Refused};
 use dap_mask::{MaskRule, MaskRules};
 use std::alloc::{AllocError, Global};
 
-/// Explains a refusal of a record whose bytes are a record.
+/// Explains the rejection of a record whose bytes are a record.
 fn explain_content(
     alloc: Global,
     lines: &mut Lines,
@@ -48,7 +48,7 @@ fn explain_content(
     }
 }
 
-/// Adds the line on the limit of ids.
+/// Adds the line about the limit of ids.
 fn add_id_limit(lines: &mut Lines, limits: Limits) -> Result<(), AllocError> {
     lines.add_words(&[
         Word::Text("the limit is "),
@@ -57,7 +57,7 @@ fn add_id_limit(lines: &mut Lines, limits: Limits) -> Result<(), AllocError> {
     ])
 }
 
-/// Adds the line on the limits of what is written.
+/// Adds the line about the limits of the output.
 fn add_text_limits(lines: &mut Lines, limits: Limits) -> Result<(), AllocError> {
     lines.add_words(&[
         Word::Text("dapnorm writes at most "),
@@ -68,7 +68,7 @@ fn add_text_limits(lines: &mut Lines, limits: Limits) -> Result<(), AllocError> 
     ])
 }
 
-/// Adds the line on an input that is too long.
+/// Adds the line about an input that is too long.
 fn add_input_limit(lines: &mut Lines, limits: Limits) -> Result<(), AllocError> {
     lines.add_words(&[
         Word::Text("the limit of an input is "),
@@ -77,7 +77,7 @@ fn add_input_limit(lines: &mut Lines, limits: Limits) -> Result<(), AllocError> 
     ])
 }
 
-/// Adds the lines on a refusal.
+/// Adds the lines about a rejection.
 fn add_refusal(
     alloc: Global,
     lines: &mut Lines,
@@ -118,15 +118,15 @@ fn add_refusal(
     }
 }
 
-/// Explains a refusal in lines for people.
+/// Explains a rejection in lines for people.
 ///
-/// `input` is the recording, the trace or the frames that were refused, `refused` is the refusal,
-/// and `limits` are those of the call that refused. The input is read again, a record at a time.
-/// The time is proportional to its length, for `Incomplete` with the logarithm of the number of
-/// requests.
+/// `input` is the recording, the trace or the frames that were rejected, `refused` is the
+/// rejection, and `limits` are those of the call that rejected the input. Reads the input again,
+/// record by record. The time is linear in its length, and for `Incomplete` has an additional
+/// factor, the logarithm of the number of requests.
 ///
-/// The text is empty if there is nothing to add, such as after `ReadFault`. If the input does not
-/// have this refusal, the lines say less.
+/// The result is empty if there is nothing to add, for example after `ReadFault`. If the input is
+/// not rejected for this reason, the explanation is shorter.
 ///
 /// # Errors
 ///
@@ -145,8 +145,8 @@ pub fn explain(
     Ok(lines.into_text())
 }
 
-/// Explains a refusal as [`explain`] does, if these rules were applied to the messages of the input
-/// before their numbers were looked at.
+/// Explains a rejection as [`explain`] does, if these rules were applied to the messages of the
+/// input before their numbers were checked.
 ///
 /// # Errors
 ///
@@ -166,7 +166,7 @@ pub fn explain_masked(
     Ok(lines.into_text())
 }
 
-/// Explains that a file cannot be read: its name and the reason that the system returned.
+/// Explains that a file cannot be read: returns its name and the reason that the system returned.
 ///
 /// # Errors
 ///

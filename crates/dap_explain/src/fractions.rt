@@ -1,4 +1,5 @@
-//! Numbers of a message that are not integers of 64 bits, and rules of a mask that blank them.
+//! Finds the numbers of a message that are not integers of 64 bits, and proposes mask rules that
+//! blank them.
 use crate::head::{Head, add_head, kind_word, read_value};
 use crate::lines::Lines;
 use crate::number_text::number_text;
@@ -12,7 +13,7 @@ use serde_json::{Map, Number, Value};
 use std::alloc::{AllocError, Global};
 use std::str;
 
-/// The rules that are applied to a message before its numbers are looked at.
+/// The rules that are applied to a message before its numbers are checked.
 #[derive(Clone, Copy)]
 struct Masking<'r> {
     rules: &'r [MaskRule],
@@ -20,7 +21,7 @@ struct Masking<'r> {
 }
 
 impl Masking<'_> {
-    /// Whether some rule blanks the value at a path, or a value that has it.
+    /// Returns whether a rule blanks the value at a path, or a value that contains it.
     fn blanks(&self, path: &[Step<'_>]) -> bool {
         for rule in self.rules {
             if self.is_applied(rule) && is_within(path, &rule.place) {
@@ -30,7 +31,7 @@ impl Masking<'_> {
         false
     }
 
-    /// Whether a rule blanks values of the message.
+    /// Returns whether a rule blanks values of the message.
     fn is_applied(&self, rule: &MaskRule) -> bool {
         rule.verb == Verb::Blank
             && self.head.kind == Some(rule.kind)
@@ -41,7 +42,7 @@ impl Masking<'_> {
     }
 }
 
-/// Whether a path leads to a place of a rule or further.
+/// Returns whether a path starts with the path of a rule.
 fn is_within(path: &[Step<'_>], place: &[dap_mask::Step]) -> bool {
     if path.len() < place.len() {
         return false;
@@ -54,7 +55,7 @@ fn is_within(path: &[Step<'_>], place: &[dap_mask::Step]) -> bool {
     true
 }
 
-/// Whether a step of a path is one that a step of a rule takes.
+/// Returns whether a step of a path matches a step of a rule.
 fn is_at(step: Step<'_>, rule_step: &dap_mask::Step) -> bool {
     match (step, rule_step) {
         (Step::Member(name), dap_mask::Step::Member(own)) => name == own.as_str(),
@@ -63,18 +64,18 @@ fn is_at(step: Step<'_>, rule_step: &dap_mask::Step) -> bool {
     }
 }
 
-/// The numbers of a message that are not integers of 64 bits, and that no rule blanks.
+/// The numbers of a message that are not integers of 64 bits and that no rule blanks.
 #[derive(Drop)]
 struct Fractions<'m> {
-    /// The path of the first.
+    /// The path of the first number.
     first: Vec<Step<'m>>,
-    /// How many of its steps lead to all of them.
+    /// The number of leading steps of this path that the paths of all these numbers share.
     shared: usize,
     count: u64,
 }
 
 impl<'m> Fractions<'m> {
-    /// The path that leads to all of them, if it is not that of the first.
+    /// Returns the path that all of them share, if it is not the path of the first.
     fn shared_path(&self) -> Option<&[Step<'m>]> {
         if self.shared < self.first.len() {
             self.first.get(..self.shared)
@@ -83,7 +84,7 @@ impl<'m> Fractions<'m> {
         }
     }
 
-    /// Notes a number at a path, if it is not an integer of 64 bits, and no rule blanks it.
+    /// Adds the path of a number, if it is not an integer of 64 bits and no rule blanks it.
     fn note_number(
         &mut self,
         number: &Number,
@@ -97,7 +98,7 @@ impl<'m> Fractions<'m> {
         }
     }
 
-    /// Notes the path of one more.
+    /// Adds the path of one more number.
     fn note(&mut self, path: &[Step<'m>]) -> Result<(), AllocError> {
         if self.count == 0 {
             self.first.extend_from_slice(path)?;
@@ -110,7 +111,8 @@ impl<'m> Fractions<'m> {
     }
 }
 
-/// How many steps two paths share, if all elements of an array are one place.
+/// Returns the number of leading steps that two paths share, counting all elements of an array as
+/// equal.
 fn shared_steps(path: &[Step<'_>], other: &[Step<'_>]) -> usize {
     for shared in 0..path.len().min(other.len()) {
         if !are_one_place(path[shared], other[shared]) {
@@ -120,7 +122,7 @@ fn shared_steps(path: &[Step<'_>], other: &[Step<'_>]) -> usize {
     path.len().min(other.len())
 }
 
-/// Whether two steps are the same, if all elements of an array are one place.
+/// Returns whether two steps are equal, counting all elements of an array as equal.
 fn are_one_place(step: Step<'_>, other: Step<'_>) -> bool {
     match (step, other) {
         (Step::Element(_), Step::Element(_)) => true,
@@ -129,7 +131,7 @@ fn are_one_place(step: Step<'_>, other: Step<'_>) -> bool {
     }
 }
 
-/// Adds the numbers of a value at a path.
+/// Adds the numbers in a value at a path.
 #[cycle(search)]
 fn search<'m>(
     value: &'m Value,
@@ -175,7 +177,7 @@ fn search_members<'m>(
     Ok(())
 }
 
-/// Finds the numbers of a message that are not integers of 64 bits.
+/// Returns the numbers of a message that are not integers of 64 bits.
 fn fractions_of<'m>(
     alloc: Global,
     message: &'m Value,
@@ -193,7 +195,7 @@ fn fractions_of<'m>(
     Ok(found)
 }
 
-/// What is wrong with the text of a number that is not an integer of 64 bits.
+/// Returns why the text of a number is not an integer of 64 bits.
 fn fault_of(text: &str) -> &'static str {
     if text == "-0" {
         "is minus zero"
@@ -206,7 +208,7 @@ fn fault_of(text: &str) -> &'static str {
     }
 }
 
-/// Adds the line on the number that has this text.
+/// Adds the line about the number with this text.
 fn add_text<'a>(lines: &mut Lines, path: &'a [Step<'a>], text: &'a str) -> Result<(), AllocError> {
     lines.add_words(&[
         Word::Path(path),
@@ -218,7 +220,7 @@ fn add_text<'a>(lines: &mut Lines, path: &'a [Step<'a>], text: &'a str) -> Resul
     ])
 }
 
-/// Adds the line that says which number is at a path, and what is wrong with it.
+/// Adds the line that states which number is at a path, and what is wrong with it.
 fn add_number(
     alloc: Global,
     lines: &mut Lines,
@@ -236,7 +238,7 @@ fn add_number(
     }
 }
 
-/// Adds the line that says how many numbers more there are.
+/// Adds the line that states how many more such numbers there are.
 fn add_more(lines: &mut Lines, more: u64) -> Result<(), AllocError> {
     match more {
         0 => Ok(()),
@@ -250,10 +252,10 @@ fn add_more(lines: &mut Lines, more: u64) -> Result<(), AllocError> {
     }
 }
 
-/// How many bytes the line of a rule may have that is proposed.
+/// The maximum number of bytes of a proposed rule.
 const LONGEST_RULE: usize = 500;
 
-/// Returns the line of the rule that blanks the value at a place of a message.
+/// Returns the rule that blanks the value at a path of a message.
 fn rule_line<'a>(
     alloc: Global,
     kind: Kind,
@@ -271,7 +273,7 @@ fn rule_line<'a>(
     joined(alloc, &words)
 }
 
-/// Whether a line is a rule of a mask, and blanks the value at a place of a message.
+/// Returns whether a line is a mask rule that blanks the value at a path of a message.
 fn is_rule_for(
     alloc: Global,
     line: &str,
@@ -294,7 +296,8 @@ fn is_rule_for(
     }
 }
 
-/// Adds the line that says which rule blanks what, if a mask may have it. Returns whether it does.
+/// Adds the line with the rule that blanks `what`, if it is a valid mask rule. Returns whether it
+/// is.
 fn add_rule(
     alloc: Global,
     lines: &mut Lines,
@@ -313,7 +316,7 @@ fn add_rule(
     Ok(is_rule)
 }
 
-/// Adds the line that says which rule blanks what.
+/// Adds the line with the rule that blanks `what`.
 fn add_rule_line<'a>(lines: &mut Lines, what: &'a str, rule: &'a str) -> Result<(), AllocError> {
     lines.add_words(&[
         Word::Text("to blank "),
@@ -323,7 +326,7 @@ fn add_rule_line<'a>(lines: &mut Lines, what: &'a str, rule: &'a str) -> Result<
     ])
 }
 
-/// Adds the lines on the rules that blank the numbers that were found.
+/// Adds the lines about the rules that blank the numbers found.
 fn add_rules(
     alloc: Global,
     lines: &mut Lines,
@@ -342,7 +345,7 @@ fn add_rules(
     })
 }
 
-/// Adds the lines on the numbers that were found in a message.
+/// Adds the lines about the numbers found in a message.
 fn add_found(
     alloc: Global,
     lines: &mut Lines,
@@ -358,7 +361,7 @@ fn add_found(
     add_rules(alloc, lines, head, found)
 }
 
-/// Adds the lines on a message that has a number that is not an integer of 64 bits.
+/// Adds the lines about a message that contains a number that is not an integer of 64 bits.
 fn add_fractions(
     alloc: Global,
     lines: &mut Lines,
@@ -372,7 +375,7 @@ fn add_fractions(
     add_found(alloc, lines, record.content, head, &found)
 }
 
-/// Explains that a number of a record is not an integer of 64 bits, after these rules are applied.
+/// Explains that a number of a record is not an integer of 64 bits after these rules are applied.
 pub(crate) fn explain_fraction(
     alloc: Global,
     lines: &mut Lines,

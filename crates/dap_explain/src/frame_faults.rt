@@ -1,4 +1,4 @@
-//! Frames that are faulty or cut.
+//! Explains frames that are invalid or incomplete.
 use crate::header::{
     KEEP_LINE_ENDS, bad_line, content_len, has_converted_line_end, has_text_before, header_len,
     header_of, length_value,
@@ -8,18 +8,18 @@ use crate::words::Word;
 use dap_frame::{FrameFault, FrameLimits};
 use std::alloc::AllocError;
 
-/// A frame that is faulty or cut.
+/// A frame that is invalid or incomplete.
 #[derive(Clone, Copy)]
 pub(crate) struct BadFrame<'a> {
-    /// What it is called.
+    /// How the explanation names the frame.
     pub(crate) name: Word<'a>,
-    /// Its first bytes: at least those of its header part, as far as they came.
+    /// A prefix of the frame: at least its header part, or as much of it as was received.
     pub(crate) front: &'a [u8],
-    /// How many bytes of it came.
+    /// The number of bytes of the frame that were received.
     pub(crate) len: usize,
 }
 
-/// Adds the lines on a header part with a line that is not a field line.
+/// Adds the lines about a header part with a line that is not a field line.
 fn add_header_line(lines: &mut Lines, frame: BadFrame<'_>) -> Result<(), AllocError> {
     let header = header_of(frame.front);
     match bad_line(header) {
@@ -52,7 +52,7 @@ fn add_printed(lines: &mut Lines, header: &[u8]) -> Result<(), AllocError> {
     lines.add("let it print to standard error, or send output events instead")
 }
 
-/// Adds the line on a frame whose header part is wrong in this way.
+/// Adds the line about a frame whose header part is invalid for this reason.
 fn add_header<'a>(lines: &mut Lines, frame: BadFrame<'a>, what: &'a str) -> Result<(), AllocError> {
     lines.add_words(&[
         Word::Text("the header part of "),
@@ -63,13 +63,13 @@ fn add_header<'a>(lines: &mut Lines, frame: BadFrame<'a>, what: &'a str) -> Resu
     ])
 }
 
-/// Adds the lines on a header part without a length.
+/// Adds the lines about a header part without a length.
 fn add_no_length(lines: &mut Lines, frame: BadFrame<'_>) -> Result<(), AllocError> {
     add_header(lines, frame, " has no Content-Length")?;
     add_printed(lines, header_of(frame.front))
 }
 
-/// Adds the line on a length that is not a number.
+/// Adds the line about a length that is not a number.
 fn add_bad_length(lines: &mut Lines, frame: BadFrame<'_>) -> Result<(), AllocError> {
     lines.add_words(&[
         Word::Text("the Content-Length of "),
@@ -80,7 +80,7 @@ fn add_bad_length(lines: &mut Lines, frame: BadFrame<'_>) -> Result<(), AllocErr
     ])
 }
 
-/// Adds the lines on a content that is too long.
+/// Adds the lines about a content that is too long.
 fn add_content_too_long(
     lines: &mut Lines,
     frame: BadFrame<'_>,
@@ -100,7 +100,7 @@ fn add_content_too_long(
     lines.add("request less at once, such as by start and count of variables")
 }
 
-/// Adds the line on a header part that does not end within its limit.
+/// Adds the line about a header part that does not end within its limit.
 fn add_header_too_long(
     lines: &mut Lines,
     frame: BadFrame<'_>,
@@ -116,7 +116,7 @@ fn add_header_too_long(
     ])
 }
 
-/// Adds the lines on a frame that has not ended.
+/// Adds the lines about an incomplete frame.
 fn add_cut(lines: &mut Lines, frame: BadFrame<'_>) -> Result<(), AllocError> {
     let Some(header) = header_len(frame.front) else {
         return add_cut_header(lines, frame);
@@ -139,7 +139,7 @@ fn add_cut(lines: &mut Lines, frame: BadFrame<'_>) -> Result<(), AllocError> {
     )
 }
 
-/// Adds the lines on a frame whose header part has not ended.
+/// Adds the lines about a frame whose header part is incomplete.
 fn add_cut_header(lines: &mut Lines, frame: BadFrame<'_>) -> Result<(), AllocError> {
     lines.add_words(&[
         Word::Text("the input ends in the header part of "),
@@ -154,7 +154,7 @@ fn add_cut_header(lines: &mut Lines, frame: BadFrame<'_>) -> Result<(), AllocErr
     }
 }
 
-/// Adds the lines on the fault of a frame.
+/// Adds the lines about the error of a frame.
 fn add_fault(
     lines: &mut Lines,
     frame: BadFrame<'_>,
@@ -173,7 +173,7 @@ fn add_fault(
     }
 }
 
-/// Explains that a frame is faulty or cut.
+/// Explains that a frame is invalid or incomplete.
 pub(crate) fn explain_frame(
     lines: &mut Lines,
     frame: BadFrame<'_>,

@@ -1,4 +1,4 @@
-//! The head of a message: who sent it, its kind and its name.
+//! Reads the head of a message: its sender, its kind and its name.
 use crate::lines::Lines;
 use crate::records::RecordPart;
 use crate::words::Word;
@@ -7,18 +7,19 @@ use dap_tree::Side;
 use serde_json::Value;
 use std::alloc::{AllocError, Global};
 
-/// The members that every message of a kind has. One that is absent or has another type is `None`.
+/// The members that every message of a kind has. A member that is absent or has another type is
+/// `None`.
 #[derive(Clone, Copy)]
 pub(crate) struct Head<'m> {
-    /// `None` in frames of one direction.
+    /// The sender. `None` in frames of one direction.
     pub(crate) side: Option<Side>,
     pub(crate) kind: Option<Kind>,
-    /// The command of a request or a response, the name of an event.
+    /// The command of a request or a response, or the name of an event.
     pub(crate) name: Option<&'m str>,
     pub(crate) seq: Option<i64>,
-    /// The number of the request that a response answers.
+    /// The `seq` of the request that a response answers.
     pub(crate) request_seq: Option<i64>,
-    /// Whether it is a successful response.
+    /// Whether the message is a successful response.
     pub(crate) is_success: bool,
 }
 
@@ -44,12 +45,12 @@ impl<'m> Head<'m> {
         }
     }
 
-    /// Whether a side sent it as a message of this kind.
+    /// Returns whether this side sent the message and it has this kind.
     pub(crate) fn is_sent(&self, side: Side, kind: Kind) -> bool {
         self.side == Some(side) && self.kind == Some(kind)
     }
 
-    /// Whether it has this name.
+    /// Returns whether the message has this name.
     pub(crate) fn is_named(&self, name: &str) -> bool {
         match self.name {
             Some(own) => own == name,
@@ -58,7 +59,7 @@ impl<'m> Head<'m> {
     }
 }
 
-/// The kind that the text of a `type` names.
+/// Returns the kind that the string of a `type` names.
 pub(crate) fn kind_named(name: &str) -> Option<Kind> {
     match name {
         "request" => Some(Kind::Request),
@@ -68,7 +69,7 @@ pub(crate) fn kind_named(name: &str) -> Option<Kind> {
     }
 }
 
-/// The word for a kind.
+/// Returns the word for a kind.
 pub(crate) fn kind_word(kind: Kind) -> &'static str {
     match kind {
         Kind::Request => "request",
@@ -77,7 +78,7 @@ pub(crate) fn kind_word(kind: Kind) -> &'static str {
     }
 }
 
-/// The member that has the name of a message of this kind.
+/// Returns the member that contains the name of a message of this kind.
 fn name_key(kind: Option<Kind>) -> &'static str {
     match kind {
         Some(Kind::Event) => "event",
@@ -99,7 +100,7 @@ fn number_at(message: &Value, name: &str) -> Option<i64> {
     }
 }
 
-/// Adds the line that says which message a record has.
+/// Adds the line that states which message a record contains.
 pub(crate) fn add_head(lines: &mut Lines, number: u64, head: &Head<'_>) -> Result<(), AllocError> {
     lines.add_words(&[
         Word::Record(number),
@@ -111,7 +112,7 @@ pub(crate) fn add_head(lines: &mut Lines, number: u64, head: &Head<'_>) -> Resul
     ])
 }
 
-/// The words for the kind of a message.
+/// Returns the words for the kind of a message.
 fn kind_words(kind: Option<Kind>) -> &'static str {
     match kind {
         Some(kind) => kind_word(kind),
@@ -119,7 +120,7 @@ fn kind_words(kind: Option<Kind>) -> &'static str {
     }
 }
 
-/// The marker of a side, with a space after it.
+/// Returns the marker of a side, followed by a space.
 fn marker(side: Option<Side>) -> &'static str {
     match side {
         Some(Side::Client) => "> ",
@@ -128,7 +129,7 @@ fn marker(side: Option<Side>) -> &'static str {
     }
 }
 
-/// Adds the line that says which message a record has, if the message can be read.
+/// Adds the line that states which message a record contains, if the message can be read.
 pub(crate) fn add_message(
     alloc: Global,
     lines: &mut Lines,
@@ -140,7 +141,7 @@ pub(crate) fn add_message(
     }
 }
 
-/// Who has to be fixed, if a message of this side is wrong.
+/// Returns whom to fix if a message of this side is invalid.
 pub(crate) fn sender_words(side: Option<Side>) -> &'static str {
     match side {
         Some(Side::Client) => "the client does not follow the protocol there: fix the client",
@@ -149,7 +150,7 @@ pub(crate) fn sender_words(side: Option<Side>) -> &'static str {
     }
 }
 
-/// Reads a content as a JSON value; `None` if it is not JSON.
+/// Reads a content as a JSON value. Returns `None` if it is not JSON.
 pub(crate) fn read_value(alloc: Global, content: &[u8]) -> Result<Option<Value>, AllocError> {
     match Value::from_slice(alloc, content) {
         Ok(value) => Ok(Some(value)),

@@ -1,14 +1,15 @@
-//! The header part of a frame, looked at for people.
+//! Analyses the header part of a frame for an explanation.
 use crate::likeness::{first_line, is_like_frames, is_number, number_of};
 
-/// How to keep line ends as they are.
+/// How to keep line ends unchanged.
 pub(crate) const KEEP_LINE_ENDS: &str =
     "git keeps line ends if .gitattributes has -text for recordings and traces";
 
-/// The field that each header part has.
+/// The name of the field that every header part has.
 const LENGTH_NAME: &[u8] = b"Content-Length";
 
-/// The length of the header part that bytes begin with, with the CR LF CR LF at its end.
+/// Returns the length of the header part at the start of the bytes, including the final CR LF CR
+/// LF.
 pub(crate) fn header_len(bytes: &[u8]) -> Option<usize> {
     let end = bytes
         .windows(4)
@@ -16,7 +17,7 @@ pub(crate) fn header_len(bytes: &[u8]) -> Option<usize> {
     end.checked_add(4)
 }
 
-/// The header part that bytes begin with; all of them, if it has not ended.
+/// Returns the header part at the start of the bytes, or all bytes if it is incomplete.
 pub(crate) fn header_of(bytes: &[u8]) -> &[u8] {
     match header_len(bytes) {
         Some(len) => bytes.get(..len).unwrap_or(bytes),
@@ -36,7 +37,7 @@ pub(crate) fn bad_line(header: &[u8]) -> Option<&[u8]> {
     None
 }
 
-/// Whether a line, without its line end, is a name, a colon and a value.
+/// Returns whether a line without its line end consists of a name, a colon and a value.
 fn is_field(line: &[u8]) -> bool {
     match name_and_value(line) {
         Some((name, value)) => {
@@ -50,7 +51,7 @@ fn is_field(line: &[u8]) -> bool {
     }
 }
 
-/// What is before the first colon of a line, and what is after it.
+/// Returns the parts of a line before and after its first colon.
 fn name_and_value(line: &[u8]) -> Option<(&[u8], &[u8])> {
     for (index, byte) in line.iter().enumerate() {
         if *byte == b':' {
@@ -60,7 +61,7 @@ fn name_and_value(line: &[u8]) -> Option<(&[u8], &[u8])> {
     None
 }
 
-/// The value of the first field that is named `Content-Length`, without the blanks round it.
+/// Returns the value of the first field named `Content-Length`, without the surrounding blanks.
 pub(crate) fn length_value(header: &[u8]) -> Option<&[u8]> {
     for line in header.split(|byte| *byte == b'\n') {
         if let Some((name, value)) = name_and_value(line) {
@@ -72,7 +73,7 @@ pub(crate) fn length_value(header: &[u8]) -> Option<&[u8]> {
     None
 }
 
-/// The length of the content that a header part has, if it is 1 to 10 digits.
+/// Returns the length of the content that a header part declares, if it is 1 to 10 digits.
 pub(crate) fn content_len(header: &[u8]) -> Option<u64> {
     let digits = length_value(header)?;
     if is_number(digits) {
@@ -82,7 +83,8 @@ pub(crate) fn content_len(header: &[u8]) -> Option<u64> {
     }
 }
 
-/// Whether some line but the first has the name `Content-Length`: text is before the header part.
+/// Returns whether a header part contains the name `Content-Length` but does not start with this
+/// field: other text may precede the header part.
 pub(crate) fn has_text_before(header: &[u8]) -> bool {
     !is_like_frames(header)
         && header
@@ -90,7 +92,7 @@ pub(crate) fn has_text_before(header: &[u8]) -> bool {
             .any(|window| window.eq_ignore_ascii_case(LENGTH_NAME))
 }
 
-/// Whether the first line of a header part ends with LF only, or with CR CR LF.
+/// Returns whether the first line of a header part ends with LF only, or with CR CR LF.
 pub(crate) fn has_converted_line_end(header: &[u8]) -> bool {
     let line = first_line(header);
     is_like_frames(header)

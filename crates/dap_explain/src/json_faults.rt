@@ -1,4 +1,4 @@
-//! Contents that are not JSON.
+//! Explains contents that are not JSON.
 use crate::head::{Head, add_head, kind_named, sender_words};
 use crate::lines::Lines;
 use crate::records::RecordPart;
@@ -9,37 +9,37 @@ use serde_json::{Error, Value};
 use std::alloc::{AllocError, Global};
 use std::str;
 
-/// How deep arrays and objects may nest.
+/// The maximum nesting depth of arrays and objects.
 const MAX_DEPTH: usize = 127;
 
-/// How many bytes are shown before the place of a fault.
+/// The number of bytes that are shown before the position of an error.
 const BEFORE: usize = 20;
 
-/// A fault that the tokens of a text show, though each of them is JSON.
+/// An error that is visible in the tokens, although each token is valid JSON.
 #[derive(Clone, Copy)]
 enum TokenFault<'t> {
-    /// Arrays and objects nest too deep.
+    /// Arrays and objects are nested too deep.
     Depth,
-    /// The number is past the largest 64-bit float.
+    /// The absolute value of the number exceeds the largest 64-bit float.
     Number(&'t str),
 }
 
-/// What the tokens of a text show, up to the first that is not JSON.
+/// The information in the tokens up to the first token that is not JSON.
 #[derive(Clone, Copy)]
 struct Shown<'t> {
     depth: usize,
-    /// The name of the last member outside inner objects.
+    /// The name of the last member that is not inside an inner object.
     member: &'t str,
     kind: Option<Kind>,
     command: Option<&'t str>,
     event: Option<&'t str>,
     request_seq: Option<i64>,
-    /// The first fault.
+    /// The first error.
     fault: Option<TokenFault<'t>>,
 }
 
 impl<'t> Shown<'t> {
-    /// What no tokens show.
+    /// Returns the information in no tokens.
     fn nothing() -> Shown<'t> {
         Shown {
             depth: 0,
@@ -52,7 +52,7 @@ impl<'t> Shown<'t> {
         }
     }
 
-    /// Notes a token.
+    /// Updates the information for a token.
     fn note(&mut self, token: Token<'t>) {
         match token {
             Token::BeginObject | Token::BeginArray => self.enter(),
@@ -64,7 +64,7 @@ impl<'t> Shown<'t> {
         }
     }
 
-    /// Goes into an array or an object.
+    /// Enters an array or an object.
     fn enter(&mut self) {
         self.depth = self.depth.saturating_add(1);
         if self.depth > MAX_DEPTH {
@@ -72,7 +72,7 @@ impl<'t> Shown<'t> {
         }
     }
 
-    /// Notes the string that a member of the message has.
+    /// Stores the string value of a member of the message.
     fn note_text(&mut self, text: &'t str) {
         match self.member {
             "type" => self.kind = kind_named(text),
@@ -82,7 +82,7 @@ impl<'t> Shown<'t> {
         }
     }
 
-    /// Notes a number.
+    /// Updates the information for a number.
     fn note_number(&mut self, text: &'t str) {
         if self.depth == 1 && self.member == "request_seq" {
             self.request_seq = text.parse::<i64>().ok();
@@ -92,14 +92,14 @@ impl<'t> Shown<'t> {
         }
     }
 
-    /// Notes a fault, unless it is a later one.
+    /// Stores an error, unless an earlier one is stored.
     fn note_fault(&mut self, fault: TokenFault<'t>) {
         if self.fault.is_none() {
             self.fault = Some(fault);
         }
     }
 
-    /// The head of the message, if it has a kind.
+    /// Returns the head of the message, if the kind is known.
     fn head(&self, record: RecordPart<'_>) -> Option<Head<'t>> {
         let kind = self.kind?;
         Some(Head {
@@ -119,7 +119,7 @@ impl<'t> Shown<'t> {
     }
 }
 
-/// Whether a number is past the largest 64-bit float.
+/// Returns whether the absolute value of a number exceeds the largest 64-bit float.
 fn is_past_floats(text: &str) -> bool {
     match text.parse::<f64>() {
         Ok(number) => number.is_infinite(),
@@ -127,7 +127,7 @@ fn is_past_floats(text: &str) -> bool {
     }
 }
 
-/// Reads the tokens of a text, up to the first that is not JSON.
+/// Reads the tokens of a string up to the first token that is not JSON.
 fn shown_by<'t>(text: &'t str, scratch: &'t mut Scratch<Global>) -> Result<Shown<'t>, AllocError> {
     let mut reader = Reader::new(text, scratch)?;
     let mut shown = Shown::nothing();
@@ -137,7 +137,7 @@ fn shown_by<'t>(text: &'t str, scratch: &'t mut Scratch<Global>) -> Result<Shown
     Ok(shown)
 }
 
-/// Where in a text an error is, in bytes.
+/// Returns the position of an error in a string, in bytes.
 fn offset_of(text: &str, error: &Error) -> usize {
     let mut left = error.line().saturating_sub(1);
     let mut start = 0usize;
@@ -153,7 +153,7 @@ fn offset_of(text: &str, error: &Error) -> usize {
     start.saturating_add(error.column()).saturating_sub(1)
 }
 
-/// Adds the lines on a text that is not JSON.
+/// Adds the lines about a string that is not JSON.
 fn add_syntax(
     lines: &mut Lines,
     record: RecordPart<'_>,
@@ -168,7 +168,7 @@ fn add_syntax(
     lines.add(sender_words(record.side))
 }
 
-/// Adds the line on a text that ends before its JSON does.
+/// Adds the line about a string that ends before its JSON does.
 fn add_early_end(lines: &mut Lines, record: RecordPart<'_>, text: &str) -> Result<(), AllocError> {
     lines.add_words(&[
         Word::Text("the content of "),
@@ -179,7 +179,7 @@ fn add_early_end(lines: &mut Lines, record: RecordPart<'_>, text: &str) -> Resul
     ])
 }
 
-/// Adds the line on a text that is not JSON near this place.
+/// Adds the line about a string that is not JSON near this position.
 fn add_near(
     lines: &mut Lines,
     record: RecordPart<'_>,
@@ -197,7 +197,7 @@ fn add_near(
     ])
 }
 
-/// Adds the line on arrays and objects that nest too deep.
+/// Adds the line about arrays and objects that are nested too deep.
 fn add_depth(lines: &mut Lines, record: RecordPart<'_>) -> Result<(), AllocError> {
     lines.add_words(&[
         Word::Record(record.number),
@@ -207,7 +207,7 @@ fn add_depth(lines: &mut Lines, record: RecordPart<'_>) -> Result<(), AllocError
     ])
 }
 
-/// Adds the lines on a number that is past the largest 64-bit float.
+/// Adds the lines about a number whose absolute value exceeds the largest 64-bit float.
 fn add_past_floats(
     lines: &mut Lines,
     record: RecordPart<'_>,
@@ -223,7 +223,7 @@ fn add_past_floats(
     lines.add("let the program that sent it write a number of that range")
 }
 
-/// Adds the lines on a text that is not JSON for this error.
+/// Adds the lines about a string that is not JSON because of this error.
 fn add_text(
     alloc: Global,
     lines: &mut Lines,
@@ -236,7 +236,7 @@ fn add_text(
     add_shown(lines, record, text, &shown, error)
 }
 
-/// Adds the lines on a text whose tokens show this.
+/// Adds the lines about a string whose tokens contain this information.
 fn add_shown(
     lines: &mut Lines,
     record: RecordPart<'_>,
@@ -254,7 +254,7 @@ fn add_shown(
     }
 }
 
-/// Adds the lines on a content that is not UTF-8 after this many bytes.
+/// Adds the lines about a content that is not UTF-8 after this many bytes.
 fn add_not_utf8(lines: &mut Lines, record: RecordPart<'_>, valid: usize) -> Result<(), AllocError> {
     lines.add_words(&[
         Word::Text("the content of "),

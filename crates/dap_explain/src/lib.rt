@@ -1,21 +1,23 @@
-//! Explanations of refusals, in lines for people.
+//! Explains rejections, in lines for people.
 //!
-//! A refusal is one line, such as `dapnorm: record 68: Fraction`. [`explain`] looks at the refused
-//! input again and returns the lines that may follow: which message the record has, what is at the
-//! place at fault, what is expected there, and what to do. [`explain_rules`] does the same for a
-//! file of rules, and [`explain_unreadable`] for a file that cannot be read.
+//! A rejection is reported in one line, such as `dapnorm: record 68: Fraction`. [`explain`] reads
+//! the rejected input again and returns the lines that may follow: which message the record
+//! contains, which value is at the position of the error, what is expected there, and what to do.
+//! [`explain_rules`] does the same for a file of rules, and [`explain_unreadable`] for a file that
+//! cannot be read.
 //!
 //! # What is proved
 //!
-//! Each text consists of lines that begin with two spaces and end with LF, and no byte of a line is
-//! a control character of ASCII (`AreLines`). So no part of an input can look like the line of a
-//! refusal, or control a terminal. Each call returns for every input, and does not panic.
+//! Each explanation consists of lines that start with two spaces and end with LF, and no byte of a
+//! line is an ASCII control character (`AreLines`). Therefore no part of an input can look like the
+//! line of a rejection, or control a terminal. Each call returns for every input, and does not
+//! panic.
 //!
 //! # What is only tested
 //!
-//! No clause says which words an explanation has, that it fits the refusal, or that `AllocError` is
-//! returned only after a failed allocation. `tests/explaining.py` has the whole text for each kind
-//! of refusal, but for the limits that only huge inputs reach.
+//! No clause states the words of an explanation, that it fits the rejection, or that `AllocError`
+//! is returned only after a failed allocation. `tests/explaining.py` contains the complete
+//! explanation for each kind of rejection, except for the limits that only huge inputs reach.
 #![tactic(auto)]
 
 mod explaining;

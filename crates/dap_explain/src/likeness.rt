@@ -1,12 +1,12 @@
-//! What an input looks like that is not what a command reads.
+//! Recognises inputs of another format than the one that a command reads.
 use crate::lines::Lines;
 use crate::words::Word;
 use std::alloc::AllocError;
 
-/// The bytes of the mark that some editors put before UTF-8.
+/// The bytes of the byte order mark that some editors write before UTF-8.
 const BYTE_ORDER_MARK: &[u8] = b"\xef\xbb\xbf";
 
-/// What a command reads.
+/// The format that a command reads.
 #[derive(Clone, Copy, PartialEq)]
 pub(crate) enum Expected {
     Recording,
@@ -15,8 +15,8 @@ pub(crate) enum Expected {
     Trace,
 }
 
-/// Returns what an input looks like, and what to do, if it is recognised and is not what is
-/// expected.
+/// Returns which format an input seems to have, and what to do, if the format is recognised and is
+/// not the expected one.
 pub(crate) fn likeness_of(input: &[u8], expected: Expected) -> Option<&'static str> {
     if input.starts_with(BYTE_ORDER_MARK) {
         return Some("the input begins with a UTF-8 byte order mark: save it without one");
@@ -41,7 +41,7 @@ pub(crate) fn likeness_of(input: &[u8], expected: Expected) -> Option<&'static s
     }
 }
 
-/// Adds the lines on an input that looks like something else.
+/// Adds the lines about an input that seems to have another format.
 pub(crate) fn add_likeness(
     lines: &mut Lines,
     input: &[u8],
@@ -51,7 +51,7 @@ pub(crate) fn add_likeness(
     lines.add(likeness)
 }
 
-/// Whether bytes begin as a trace does: a marker, a count and LF.
+/// Returns whether the bytes start like a trace: with a marker, a count and LF.
 fn is_like_trace(bytes: &[u8]) -> bool {
     match bytes {
         [b'>' | b'<', rest @ ..] => count_of(rest).is_some(),
@@ -59,7 +59,7 @@ fn is_like_trace(bytes: &[u8]) -> bool {
     }
 }
 
-/// Whether bytes begin as a recording does: a marker and the name of a field.
+/// Returns whether the bytes start like a recording: with a marker and the name of a field.
 fn is_like_recording(bytes: &[u8]) -> bool {
     match bytes {
         [b'>' | b'<', rest @ ..] => is_like_frames(rest),
@@ -67,7 +67,7 @@ fn is_like_recording(bytes: &[u8]) -> bool {
     }
 }
 
-/// Whether bytes begin as a frame does, by the field that each has.
+/// Returns whether the bytes start like a frame: with the field that every frame has.
 pub(crate) fn is_like_frames(bytes: &[u8]) -> bool {
     match bytes.split_at_checked(15) {
         Some((name, _)) => name.eq_ignore_ascii_case(b"Content-Length:"),
@@ -75,8 +75,8 @@ pub(crate) fn is_like_frames(bytes: &[u8]) -> bool {
     }
 }
 
-/// The digits of the count that bytes begin with, if it is 1 to 10 digits and LF. CR may be before
-/// the LF, since line ends may have been converted.
+/// Returns the digits of the count at the start of the bytes, if it is 1 to 10 digits followed by
+/// LF. CR may precede the LF, because line ends may have been converted.
 pub(crate) fn count_of(bytes: &[u8]) -> Option<&[u8]> {
     let line = first_line(bytes);
     let digits = line.strip_suffix(b"\r").unwrap_or(line);
@@ -87,12 +87,12 @@ pub(crate) fn count_of(bytes: &[u8]) -> Option<&[u8]> {
     }
 }
 
-/// Whether a text is 1 to 10 decimal digits.
+/// Returns whether the bytes are 1 to 10 decimal digits.
 pub(crate) fn is_number(digits: &[u8]) -> bool {
     !digits.is_empty() && digits.len() <= 10 && digits.iter().all(|byte| byte.is_ascii_digit())
 }
 
-/// The number that decimal digits write.
+/// Returns the number that decimal digits represent.
 pub(crate) fn number_of(digits: &[u8]) -> u64 {
     let mut number = 0u64;
     for digit in digits {
@@ -103,7 +103,7 @@ pub(crate) fn number_of(digits: &[u8]) -> u64 {
     number
 }
 
-/// The bytes before the first LF; all, if there is no LF.
+/// Returns the bytes before the first LF, or all bytes if there is no LF.
 pub(crate) fn first_line(bytes: &[u8]) -> &[u8] {
     for (index, byte) in bytes.iter().enumerate() {
         if *byte == b'\n' {

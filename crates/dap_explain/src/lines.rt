@@ -1,4 +1,4 @@
-//! The lines of an explanation: indented, and without control characters.
+//! Builds the lines of an explanation, indented and without control characters.
 ghost use Rattle.std.specs.Prelude.{◌≡◌, ◌≢◌, ◌<◌, ◌≤◌, true, List, ℕ, All, IfOk, OnOk};
 ghost use Rattle.std.specs.Prelude.{string_bytes};
 ghost use Rattle.dap_explain.specs.Lines.{AreLines, IsPrinted, line_of};
@@ -6,7 +6,7 @@ ghost use Rattle.dap_explain.specs.Lines.{AreLines, IsPrinted, line_of};
 use crate::words::{Word, joined};
 use std::alloc::{AllocError, Global};
 
-/// How many characters of a line are written.
+/// The maximum number of characters that are written of a line.
 const LONGEST: usize = 1_000;
 
 /// The lines of an explanation.
@@ -18,7 +18,7 @@ pub(crate) struct Lines {
 }
 
 impl Lines {
-    /// No line. Does not allocate.
+    /// Returns an explanation without lines. Does not allocate.
     pub(crate) fn new(alloc: Global) -> Lines {
         Lines {
             alloc,
@@ -26,20 +26,20 @@ impl Lines {
         }
     }
 
-    /// Appends a line, cut after 1,000 characters. A character that a terminal does not print is
-    /// written as JSON escapes it.
+    /// Appends a line, truncated after 1,000 characters. A character that a terminal does not print
+    /// is written as a JSON escape.
     pub(crate) fn add(&mut self, line: &str) -> Result<(), AllocError> {
         let line = indented(self.alloc, line)?;
         self.text.push_str(line.as_str())
     }
 
-    /// Appends a line of these words, as `add` does.
+    /// Appends a line that consists of these words, as `add` does.
     pub(crate) fn add_words(&mut self, words: &[Word<'_>]) -> Result<(), AllocError> {
         let line = joined(self.alloc, words)?;
         self.add(line.as_str())
     }
 
-    /// The text of the lines.
+    /// Returns the text of the lines.
     pub(crate) fn into_text(self) -> String
         ensures { ∥ AreLines (string_bytes result) ∥₁ }
     {
@@ -47,7 +47,7 @@ impl Lines {
     }
 }
 
-/// Returns the line that these words make.
+/// Returns these words as a line.
 fn indented(alloc: Global, words: &str) -> Result<String, AllocError>
     ensures { IfOk result (λ line. (words : List ℕ) × All IsPrinted words
         × (string_bytes line ≡ line_of words)) }
@@ -59,7 +59,7 @@ fn indented(alloc: Global, words: &str) -> Result<String, AllocError>
     Ok(line)
 }
 
-/// Returns the first characters of a text, each of them escaped that a terminal does not print.
+/// Returns the first characters of a string. Characters that a terminal does not print are escaped.
 fn printed(alloc: Global, text: &str) -> Result<String, AllocError>
     ensures { IfOk result (λ words. All IsPrinted (string_bytes words)) }
 {
@@ -72,7 +72,7 @@ fn printed(alloc: Global, text: &str) -> Result<String, AllocError>
     Ok(words)
 }
 
-/// Appends `...` to a text that was cut.
+/// Appends `...` to a string that was truncated.
 fn push_ellipsis(words: &mut String, is_cut: bool) -> Result<(), AllocError>
     requires { All IsPrinted (string_bytes words.old) }
     ensures { OnOk result (All IsPrinted (string_bytes words.new)) }
@@ -96,8 +96,8 @@ fn push_printed(words: &mut String, character: char) -> Result<(), AllocError>
     }
 }
 
-/// Whether a terminal prints a character: it is no control character of Unicode, no line separator,
-/// and does not turn the direction of a text.
+/// Returns whether a terminal prints a character. This excludes control characters of Unicode, line
+/// separators, and characters that change the direction of text.
 fn is_printed(character: char) -> bool
     ensures { result ≡ true → (32 ≤ character) × (character ≢ 127) }
 {
@@ -111,7 +111,7 @@ fn is_printed(character: char) -> bool
     )
 }
 
-/// Appends a number below 65,536 as JSON escapes it: `\u` and four hexadecimal digits.
+/// Appends a number below 65,536 as a JSON escape: `\u` and four hexadecimal digits.
 fn push_escape(words: &mut String, number: u32) -> Result<(), AllocError>
     requires { All IsPrinted (string_bytes words.old) }
     ensures { OnOk result (All IsPrinted (string_bytes words.new)) }
@@ -123,7 +123,7 @@ fn push_escape(words: &mut String, number: u32) -> Result<(), AllocError>
     push_digit(words, number)
 }
 
-/// Appends the hexadecimal digit that the low four bits of a number are.
+/// Appends the low four bits of a number as a hexadecimal digit.
 fn push_digit(words: &mut String, number: u32) -> Result<(), AllocError>
     requires { All IsPrinted (string_bytes words.old) }
     ensures { OnOk result (All IsPrinted (string_bytes words.new)) }

@@ -1,4 +1,4 @@
-//! Contents that are not messages of the profile.
+//! Explains contents that are not messages of the profile.
 use crate::head::{Head, add_head, read_value, sender_words};
 use crate::lines::Lines;
 use crate::records::RecordPart;
@@ -10,7 +10,7 @@ use dap_tree::Side;
 use serde_json::Value;
 use std::alloc::{AllocError, Global};
 
-/// What a row expects, in words.
+/// Returns the type that a row expects, in words.
 fn want_words(want: Want) -> &'static str {
     match want {
         Want::Bool => "true or false",
@@ -27,7 +27,7 @@ fn want_words(want: Want) -> &'static str {
     }
 }
 
-/// What sort of JSON a value is, in words.
+/// Returns the JSON type of a value, in words.
 fn sort_words(value: &Value) -> &'static str {
     match value {
         Value::Null => "null",
@@ -39,7 +39,7 @@ fn sort_words(value: &Value) -> &'static str {
     }
 }
 
-/// Adds the lines on a content that is not an object.
+/// Adds the lines about a content that is not an object.
 fn add_not_object(
     lines: &mut Lines,
     record: RecordPart<'_>,
@@ -55,7 +55,7 @@ fn add_not_object(
     lines.add(sender_words(record.side))
 }
 
-/// Adds the lines on a message without a type that the protocol knows.
+/// Adds the lines about a message whose type the protocol does not define.
 fn add_unknown_type(
     lines: &mut Lines,
     record: RecordPart<'_>,
@@ -70,7 +70,7 @@ fn add_unknown_type(
     lines.add("record the session of the debug adapter instead")
 }
 
-/// Adds the line on the type that a message has.
+/// Adds the line about the type of a message.
 fn add_type(lines: &mut Lines, number: u64, message: &Value) -> Result<(), AllocError> {
     match message.get("type") {
         None => {
@@ -91,7 +91,7 @@ fn add_type(lines: &mut Lines, number: u64, message: &Value) -> Result<(), Alloc
     }
 }
 
-/// Adds the line on what is at the place of a row.
+/// Adds the line about the value at the path of a row.
 fn add_place(lines: &mut Lines, row: &Row, fault: RowFault<'_>) -> Result<(), AllocError> {
     lines.add_words(&[
         Word::RowPlace(row.place, fault.element),
@@ -108,12 +108,12 @@ fn add_place(lines: &mut Lines, row: &Row, fault: RowFault<'_>) -> Result<(), Al
     ])
 }
 
-/// The row of the profile with this number.
+/// Returns the row of the profile with this number.
 fn row_numbered(number: u16) -> Option<&'static Row> {
     profile_rows().iter().find(|row| row.number == number)
 }
 
-/// Adds the lines on a message that violates the row with this number.
+/// Adds the lines about a message that violates the row with this number.
 fn add_row(
     lines: &mut Lines,
     record: RecordPart<'_>,
@@ -128,7 +128,7 @@ fn add_row(
     }
 }
 
-/// Adds the lines on the place at which a message violates a row.
+/// Adds the lines about the path at which a message violates a row.
 fn add_row_fault(
     lines: &mut Lines,
     side: Option<Side>,
@@ -145,7 +145,7 @@ fn add_row_fault(
     }
 }
 
-/// Adds the lines on a content that is not a message.
+/// Adds the lines about a content that is not a message.
 fn add_fault(
     lines: &mut Lines,
     record: RecordPart<'_>,

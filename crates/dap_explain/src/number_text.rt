@@ -1,23 +1,23 @@
-//! The text of a number as it is in a content.
+//! Finds the text of a number in a content.
 use crate::path::Step;
 use json::{Reader, Token};
 
-/// The way to the next value of a text, compared with a path.
+/// The position of the next value of a JSON text relative to a path.
 #[derive(Clone, Copy)]
 struct Way<'p> {
     path: &'p [Step<'p>],
-    /// How many arrays and objects have begun and not ended.
+    /// The number of arrays and objects that have started and not ended.
     depth: usize,
-    /// To how many of these the path leads: to the first ones.
+    /// The number of these that are on the path: the outermost ones.
     on_path: usize,
-    /// The index of the next element of the last of these, if it is an array.
+    /// The index of the next element of the innermost one on the path, if it is an array.
     element: usize,
-    /// Whether the path leads to the next value, if the last that began is one of these.
+    /// Whether the path leads to the next value, if the innermost array or object is on the path.
     is_next: bool,
 }
 
 impl<'p> Way<'p> {
-    /// The way to the value that a text is.
+    /// Returns the position of the outermost value of a JSON text.
     fn new(path: &'p [Step<'p>]) -> Way<'p> {
         Way {
             path,
@@ -28,22 +28,22 @@ impl<'p> Way<'p> {
         }
     }
 
-    /// Whether the path leads to the next value.
+    /// Returns whether the path leads to the next value.
     fn is_next_on_path(&self) -> bool {
         self.is_next && self.depth == self.on_path
     }
 
-    /// Whether the path ends at the next value.
+    /// Returns whether the path ends at the next value.
     fn is_at_end(&self) -> bool {
         self.is_next_on_path() && self.depth == self.path.len()
     }
 
-    /// The step of the path into the last array or object that began.
+    /// Returns the step of the path into the innermost array or object.
     fn step(&self) -> Option<&'p Step<'p>> {
         self.path.get(self.depth.saturating_sub(1))
     }
 
-    /// Goes into an array or an object.
+    /// Enters an array or an object.
     fn enter(&mut self) {
         let is_on_path = self.is_next_on_path();
         self.depth = self.depth.saturating_add(1);
@@ -54,8 +54,8 @@ impl<'p> Way<'p> {
         }
     }
 
-    /// Goes out of an array or an object, which was a value. No later element of an array is on a
-    /// path that leads into this one.
+    /// Leaves an array or an object, which was a value. If it was on the path, no later element of
+    /// the array that contains it is.
     fn leave(&mut self) {
         if self.depth == self.on_path {
             self.on_path = self.on_path.saturating_sub(1);
@@ -65,7 +65,7 @@ impl<'p> Way<'p> {
         self.pass();
     }
 
-    /// Passes a value.
+    /// Moves past a value.
     fn pass(&mut self) {
         if self.depth == self.on_path {
             self.element = self.element.saturating_add(1);
@@ -73,7 +73,7 @@ impl<'p> Way<'p> {
         }
     }
 
-    /// Passes the name of a member.
+    /// Moves past the name of a member.
     fn pass_name(&mut self, name: &str) {
         if self.depth == self.on_path {
             self.is_next = is_member(self.step(), name);
@@ -81,7 +81,7 @@ impl<'p> Way<'p> {
     }
 }
 
-/// Whether a step is one to the element at this index.
+/// Returns whether a step leads to the element with this index.
 fn is_element(step: Option<&Step<'_>>, index: usize) -> bool {
     match step {
         Some(Step::Element(own)) => *own == index,
@@ -89,7 +89,7 @@ fn is_element(step: Option<&Step<'_>>, index: usize) -> bool {
     }
 }
 
-/// Whether a step is one to the member of this name.
+/// Returns whether a step leads to the member with this name.
 fn is_member(step: Option<&Step<'_>>, name: &str) -> bool {
     match step {
         Some(Step::Member(own)) => *own == name,
@@ -97,8 +97,8 @@ fn is_member(step: Option<&Step<'_>>, name: &str) -> bool {
     }
 }
 
-/// Returns the text of the number at a path of a JSON text, as it is there. If a member name occurs
-/// twice in an object, the last one counts.
+/// Returns the unchanged text of the number at a path of a JSON text. If a member name occurs twice
+/// in an object, the last one counts.
 pub(crate) fn number_text<'t>(reader: &mut Reader<'t>, path: &[Step<'_>]) -> Option<&'t str> {
     let mut way = Way::new(path);
     let mut found = None;

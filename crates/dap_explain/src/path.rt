@@ -1,4 +1,4 @@
-//! Paths into a JSON value, and the places of masks that they are at.
+//! Formats paths into a JSON value, and the corresponding paths of mask rules.
 use crate::words::push_quoted;
 use dap_profile::Place;
 use std::alloc::AllocError;
@@ -6,9 +6,9 @@ use std::alloc::AllocError;
 /// A step into a JSON value.
 #[derive(Clone, Copy)]
 pub(crate) enum Step<'a> {
-    /// To the member of that name of an object.
+    /// To the member of an object with this name.
     Member(&'a str),
-    /// To the element at that index of an array, counted from 0.
+    /// To the element of an array with this index, counted from 0.
     Element(usize),
 }
 
@@ -26,7 +26,7 @@ pub(crate) fn push_path(text: &mut String, path: &[Step<'_>]) -> Result<(), Allo
     Ok(())
 }
 
-/// Appends a place of a row of the profile, with the index of the element that it is in.
+/// Appends the path of a row of the profile, with the index of the array element.
 pub(crate) fn push_row_place(
     text: &mut String,
     place: Place,
@@ -49,7 +49,7 @@ pub(crate) fn push_row_place(
     }
 }
 
-/// Appends the place of a mask that a path is at.
+/// Appends the path of a mask rule that matches a path.
 pub(crate) fn push_place(text: &mut String, path: &[Step<'_>]) -> Result<(), AllocError> {
     for (index, step) in path.iter().enumerate() {
         match step {
@@ -60,7 +60,7 @@ pub(crate) fn push_place(text: &mut String, path: &[Step<'_>]) -> Result<(), All
     Ok(())
 }
 
-/// Appends the step to a member, with a dot before it unless it is the first.
+/// Appends the step to a member, preceded by a dot unless it is the first step.
 fn push_member(text: &mut String, name: &str, is_first: bool) -> Result<(), AllocError> {
     if !is_first {
         text.push('.')?;
@@ -68,7 +68,7 @@ fn push_member(text: &mut String, name: &str, is_first: bool) -> Result<(), Allo
     push_name(text, name)
 }
 
-/// Appends a name as paths and rules have it.
+/// Appends a name in the notation of paths and rules.
 pub(crate) fn push_name(text: &mut String, name: &str) -> Result<(), AllocError> {
     if is_plain(name) {
         text.push_str(name)
@@ -77,7 +77,7 @@ pub(crate) fn push_name(text: &mut String, name: &str) -> Result<(), AllocError>
     }
 }
 
-/// Whether a name has one or more letters, digits, `_`, `-` and `$` only.
+/// Returns whether a name consists of one or more letters, digits, `_`, `-` and `$`.
 fn is_plain(name: &str) -> bool {
     !name.is_empty()
         && name.bytes().all(|byte| byte.is_ascii_alphanumeric()

@@ -1,9 +1,9 @@
-//! The pieces of a trace, as parts of its bytes.
+//! Splits a trace into its pieces, as parts of its bytes.
 ghost use Rattle.std.specs.Prelude.{length};
 
 use dap_recording::{TracePart, TraceReader};
 
-/// A piece of a trace. The last may be cut.
+/// A piece of a trace. The last one may be incomplete.
 #[derive(Clone, Copy)]
 pub(crate) struct PiecePart<'a> {
     pub(crate) part: TracePart<'a>,
@@ -11,7 +11,7 @@ pub(crate) struct PiecePart<'a> {
     pub(crate) rest: &'a [u8],
 }
 
-/// The pieces of a trace one by one, up to the first bytes that are not a piece.
+/// An iterator over the pieces of a trace, up to the first bytes that are not a piece.
 #[derive(Drop)]
 pub(crate) struct PieceParts<'a> {
     reader: TraceReader,
@@ -19,7 +19,7 @@ pub(crate) struct PieceParts<'a> {
 }
 
 impl<'a> PieceParts<'a> {
-    /// The pieces of a trace.
+    /// Returns the pieces of a trace.
     pub(crate) fn new(trace: &'a [u8]) -> PieceParts<'a> {
         PieceParts {
             reader: TraceReader::new(),
@@ -49,7 +49,7 @@ impl<'a> Iterator for PieceParts<'a> {
     }
 }
 
-/// Returns the bytes from the piece with this number on, if the pieces before it are there.
+/// Returns the bytes from the piece with this number on, if the pieces before it exist.
 pub(crate) fn bytes_from(trace: &[u8], number: u64) -> Option<&[u8]> {
     if number == 1 {
         return Some(trace);

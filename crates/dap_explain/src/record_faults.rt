@@ -1,4 +1,4 @@
-//! Bytes that are not a record.
+//! Explains bytes that are not a record.
 ghost use Rattle.dap_frame.specs.Limits.{IsSound};
 
 use crate::frame_faults::{BadFrame, explain_frame};
@@ -12,7 +12,7 @@ use dap_frame::{FrameFault, FrameLimits, Framer};
 use dap_recording::{RecordCause, RecordReader};
 use std::alloc::{AllocError, Global};
 
-/// Whether the first record of some bytes is refused for this cause.
+/// Returns whether the first record of the bytes is rejected for this reason.
 fn is_refused(
     alloc: Global,
     form: Form,
@@ -33,7 +33,7 @@ fn is_refused(
     }
 }
 
-/// Why the first record of some bytes is refused.
+/// Returns why the first record of the bytes is rejected.
 fn record_cause(alloc: Global, bytes: &[u8], limits: FrameLimits) -> Option<RecordCause>
     requires { IsSound limits }
 {
@@ -48,7 +48,7 @@ fn record_cause(alloc: Global, bytes: &[u8], limits: FrameLimits) -> Option<Reco
     }
 }
 
-/// Why the first frame of some bytes is refused.
+/// Returns why the first frame of the bytes is rejected.
 fn frame_cause(alloc: Global, bytes: &[u8], limits: FrameLimits) -> Option<RecordCause>
     requires { IsSound limits }
 {
@@ -64,7 +64,7 @@ fn frame_cause(alloc: Global, bytes: &[u8], limits: FrameLimits) -> Option<Recor
     }
 }
 
-/// Adds the lines on a record that does not begin with a marker.
+/// Adds the lines about a record that does not start with a marker.
 fn add_bad_marker(lines: &mut Lines, number: u64, bytes: &[u8]) -> Result<(), AllocError> {
     lines.add_words(&[
         Word::Record(number),
@@ -74,7 +74,7 @@ fn add_bad_marker(lines: &mut Lines, number: u64, bytes: &[u8]) -> Result<(), Al
     lines.add("a record begins with > (client) or < (adapter), and nothing is between two records")
 }
 
-/// Adds the lines on a record whose frame is not followed by LF.
+/// Adds the lines about a record whose frame is not followed by LF.
 fn add_no_line_end(
     alloc: Global,
     lines: &mut Lines,
@@ -90,7 +90,7 @@ fn add_no_line_end(
     }
 }
 
-/// Splits bytes after the frame that they begin with, if it is whole.
+/// Splits the bytes after their first frame, if it is complete.
 fn whole_and_after<'a>(
     alloc: Global,
     bytes: &'a [u8],
@@ -102,7 +102,7 @@ fn whole_and_after<'a>(
     bytes.split_at_checked(used)
 }
 
-/// Adds the lines on the bytes after a frame that do not begin with LF.
+/// Adds the lines about the bytes after a frame that do not start with LF.
 fn add_after(
     alloc: Global,
     lines: &mut Lines,
@@ -126,8 +126,7 @@ fn add_after(
     }
 }
 
-/// Adds a line if the content of a frame is JSON only with the bytes after it, to the end of the
-/// line.
+/// Adds a line if the content of a frame is JSON only when extended to the end of the line.
 fn add_length(
     alloc: Global,
     lines: &mut Lines,
@@ -148,12 +147,12 @@ fn add_length(
     add_lengths(lines, content.len(), text.len())
 }
 
-/// Whether some bytes are JSON.
+/// Returns whether the bytes are JSON.
 fn is_json(alloc: Global, bytes: &[u8]) -> Result<bool, AllocError> {
     Ok(read_value(alloc, bytes)?.is_some())
 }
 
-/// Adds the lines on the length of a content that is not that of its JSON text.
+/// Adds the lines about a content whose length is not that of its JSON text.
 fn add_lengths(lines: &mut Lines, len: usize, text_len: usize) -> Result<(), AllocError> {
     lines.add_words(&[
         Word::Text("Content-Length is "),
@@ -165,7 +164,7 @@ fn add_lengths(lines: &mut Lines, len: usize, text_len: usize) -> Result<(), All
     lines.add("Content-Length counts bytes of UTF-8: the sender may have counted characters")
 }
 
-/// Adds the lines on a record that has not ended.
+/// Adds the lines about an incomplete record.
 fn add_cut(
     alloc: Global,
     lines: &mut Lines,
@@ -187,7 +186,7 @@ fn add_cut(
     }
 }
 
-/// Explains the fault of the first record of some bytes.
+/// Explains the error of the first record of the bytes.
 fn explain_bytes(
     alloc: Global,
     lines: &mut Lines,
@@ -217,8 +216,8 @@ fn explain_bytes(
     }
 }
 
-/// Explains that the bytes of a record are not a record, if they are so when the input is read in
-/// this form. Returns whether they are.
+/// Explains that the bytes of a record are not a record, if this is the case when the input is read
+/// in this form. Returns whether it is.
 fn explain_in_form(
     alloc: Global,
     lines: &mut Lines,
@@ -240,8 +239,8 @@ fn explain_in_form(
     Ok(is_found)
 }
 
-/// Explains the fault of the first record of some bytes, or what an input looks like that has no
-/// record.
+/// Explains the error of the first record of the bytes, or which other format the input seems to
+/// have.
 fn explain_found(
     alloc: Global,
     lines: &mut Lines,

@@ -1,4 +1,4 @@
-//! The records of an input, as parts of its bytes.
+//! Splits an input into its records, as parts of its bytes.
 ghost use Rattle.std.specs.Prelude.{◌≤◌, length, IfSome};
 ghost use Rattle.dap_frame.specs.Limits.{IsSound};
 
@@ -7,17 +7,17 @@ use dap_frame::{FrameLimits, Framer};
 use dap_tree::Side;
 use std::alloc::Global;
 
-/// What an input consists of.
+/// The format of an input.
 #[derive(Clone, Copy)]
 pub(crate) enum Form {
-    /// Records: a marker, a frame and LF each.
+    /// Records, each of which is a marker, a frame and LF.
     Recording,
     /// Frames of one direction only, as `compact` reads them.
     Frames,
 }
 
 impl Form {
-    /// The form that the first byte of an input shows.
+    /// Returns the format that the first byte of an input indicates.
     pub(crate) fn of(input: &[u8]) -> Form {
         match input {
             [] | [b'>' | b'<', ..] => Form::Recording,
@@ -25,7 +25,7 @@ impl Form {
         }
     }
 
-    /// Splits what is before the frame of a record from the bytes after it.
+    /// Splits the start of a record from the bytes of its frame and after it.
     fn split_start(self, bytes: &[u8]) -> Option<(Option<Side>, &[u8])>
         ensures { IfSome result (λ start. length start.1.now ≤ length bytes.now) }
     {
@@ -37,7 +37,7 @@ impl Form {
         }
     }
 
-    /// The bytes after the end of a record whose frame is before these.
+    /// Returns the bytes after the end of a record. `bytes` are those after its frame.
     fn after_end(self, bytes: &[u8]) -> Option<&[u8]>
         ensures { IfSome result (λ rest. length rest.now ≤ length bytes.now) }
     {
@@ -52,16 +52,16 @@ impl Form {
 /// A record of an input.
 #[derive(Clone, Copy)]
 pub(crate) struct RecordPart<'a> {
-    /// Counted from 1.
+    /// The number of the record, counted from 1.
     pub(crate) number: u64,
-    /// `None` in frames of one direction.
+    /// The sender. `None` in frames of one direction.
     pub(crate) side: Option<Side>,
     pub(crate) content: &'a [u8],
     /// The bytes after the record.
     pub(crate) rest: &'a [u8],
 }
 
-/// The records of an input one by one, up to the first bytes that are not a record.
+/// An iterator over the records of an input, up to the first bytes that are not a record.
 #[derive(Drop)]
 pub(crate) struct RecordParts<'a> {
     framer: Framer,
@@ -71,7 +71,7 @@ pub(crate) struct RecordParts<'a> {
 }
 
 impl<'a> RecordParts<'a> {
-    /// The records of an input. Does not allocate.
+    /// Returns the records of an input. Does not allocate.
     pub(crate) fn new(
         alloc: Global,
         form: Form,
@@ -115,7 +115,7 @@ impl<'a> Iterator for RecordParts<'a> {
     }
 }
 
-/// The content of a whole frame.
+/// Returns the content of a complete frame.
 fn content_of(frame: &[u8]) -> &[u8] {
     match header_len(frame) {
         Some(len) => frame.get(len..).unwrap_or(&[]),
@@ -123,7 +123,7 @@ fn content_of(frame: &[u8]) -> &[u8] {
     }
 }
 
-/// Returns the record with this number, if the input has it.
+/// Returns the record with this number, if the input contains it.
 pub(crate) fn record_numbered<'a>(
     alloc: Global,
     input: &'a [u8],
@@ -140,7 +140,7 @@ pub(crate) fn record_numbered<'a>(
     None
 }
 
-/// Returns the bytes from the record with this number on, if the records before it are there.
+/// Returns the bytes from the record with this number on, if the records before it exist.
 pub(crate) fn bytes_from<'a>(
     alloc: Global,
     form: Form,

@@ -1,13 +1,14 @@
-//! The place at which a message violates a row of the profile.
+//! Finds the path at which a message violates a row of the profile.
 use dap_profile::{Place, Row, Want};
 use serde_json::Value;
 
-/// A violation of a row: at the place of the row, or at one of its places.
+/// A violation of a row, at its path or at one of its paths.
 #[derive(Clone, Copy)]
 pub(crate) struct RowFault<'m> {
-    /// The index of the element of the array, if the row is on the elements of an array; else 0.
+    /// The index of the array element, if the row applies to the elements of an array, and
+    /// otherwise 0.
     pub(crate) element: usize,
-    /// What is at the place; `None` if it is absent.
+    /// The value at the path, or `None` if it is absent.
     pub(crate) value: Option<&'m Value>,
 }
 
@@ -26,7 +27,7 @@ pub(crate) fn row_fault<'m>(row: &Row, message: &'m Value) -> Option<RowFault<'m
     }
 }
 
-/// Whether what is at a place, or its absence, violates a row.
+/// Returns whether the value at a path, or its absence, violates a row.
 fn is_violated(row: &Row, found: Option<&Value>) -> bool {
     match found {
         None => row.needed,
@@ -35,7 +36,7 @@ fn is_violated(row: &Row, found: Option<&Value>) -> bool {
     }
 }
 
-/// Whether a value is what a row expects.
+/// Returns whether a value has the expected type of a row.
 fn has_type(value: &Value, want: Want) -> bool {
     match (want, value) {
         (Want::Bool, Value::Bool(_)) => true,
@@ -48,7 +49,8 @@ fn has_type(value: &Value, want: Want) -> bool {
     }
 }
 
-/// The violation by a member of an object. A parent that is not an object has none.
+/// Returns the violation by a member of an object. If the parent is not an object, there is no
+/// violation.
 fn fault_of_member<'m>(row: &Row, parent: Option<&'m Value>, name: &str) -> Option<RowFault<'m>> {
     match parent {
         Some(Value::Object(members)) => fault_at(row, 0, members.get(name)),
@@ -56,7 +58,7 @@ fn fault_of_member<'m>(row: &Row, parent: Option<&'m Value>, name: &str) -> Opti
     }
 }
 
-/// The violation by what is at a place of the row, or by its absence.
+/// Returns the violation by the value at a path of the row, or by its absence.
 fn fault_at<'m>(row: &Row, element: usize, value: Option<&'m Value>) -> Option<RowFault<'m>> {
     if is_violated(row, value) {
         Some(RowFault { element, value })
@@ -65,12 +67,13 @@ fn fault_at<'m>(row: &Row, element: usize, value: Option<&'m Value>) -> Option<R
     }
 }
 
-/// What is at a member of a member.
+/// Returns the value of a member of a member.
 fn value_at<'m>(message: &'m Value, outer: &str, name: &str) -> Option<&'m Value> {
     message.get(outer)?.get(name)
 }
 
-/// The elements of an array that is a member of a member; none, if there is no array.
+/// Returns the elements of an array that is a member of a member, or no elements if there is no
+/// array.
 fn elements_at<'m>(message: &'m Value, outer: &str, list: &str) -> &'m [Value] {
     match value_at(message, outer, list) {
         Some(Value::Array(elements)) => elements.as_slice(),
@@ -78,7 +81,7 @@ fn elements_at<'m>(message: &'m Value, outer: &str, list: &str) -> &'m [Value] {
     }
 }
 
-/// The violation by the first element that violates the row.
+/// Returns the violation by the first element that violates the row.
 fn fault_of_element<'m>(row: &Row, elements: &'m [Value]) -> Option<RowFault<'m>> {
     for (index, element) in elements.iter().enumerate() {
         let fault = fault_at(row, index, Some(element));
@@ -89,7 +92,7 @@ fn fault_of_element<'m>(row: &Row, elements: &'m [Value]) -> Option<RowFault<'m>
     None
 }
 
-/// The violation by the first element whose member violates the row.
+/// Returns the violation by the first element whose member violates the row.
 fn fault_of_part<'m>(row: &Row, elements: &'m [Value], name: &str) -> Option<RowFault<'m>> {
     for (index, element) in elements.iter().enumerate() {
         if let Value::Object(members) = element {

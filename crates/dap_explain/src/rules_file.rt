@@ -1,4 +1,4 @@
-//! Refused files of rules, explained.
+//! Explains rejected files of rules.
 ghost use Rattle.std.specs.Prelude.{IfOk, string_bytes};
 ghost use Rattle.dap_explain.specs.Lines.{AreLines};
 
@@ -9,7 +9,7 @@ use dap_mask::{MaskRules, RulesCause, RulesFault};
 use std::alloc::{AllocError, Global};
 use std::str;
 
-/// The line with this number of a file, counted from 1, without its LF.
+/// Returns the line of a file with this number, counted from 1, without its LF.
 fn line_of(rules: &[u8], number: usize) -> &[u8] {
     rules
         .split(|byte| *byte == b'\n')
@@ -17,7 +17,7 @@ fn line_of(rules: &[u8], number: usize) -> &[u8] {
         .unwrap_or(&[])
 }
 
-/// Adds a line as it is in the file.
+/// Adds a line of the file, unchanged.
 fn add_line(lines: &mut Lines, number: usize, line: &[u8]) -> Result<(), AllocError> {
     let number = Word::Number(number as u64);
     match str::from_utf8(line) {
@@ -43,7 +43,7 @@ fn add_line(lines: &mut Lines, number: usize, line: &[u8]) -> Result<(), AllocEr
     }
 }
 
-/// Adds the line on a line that is not a rule.
+/// Adds the line about a line that is not a rule.
 fn add_bad_rule(lines: &mut Lines, line: &[u8]) -> Result<(), AllocError> {
     let Err(fault) = place_of(line) else {
         return lines.add(
@@ -56,7 +56,7 @@ fn add_bad_rule(lines: &mut Lines, line: &[u8]) -> Result<(), AllocError> {
     }
 }
 
-/// Adds the lines on a rule with a place that no rule changes.
+/// Adds the lines about a rule with a path that no rule may change.
 fn add_bad_place(lines: &mut Lines, line: &[u8]) -> Result<(), AllocError> {
     lines.add(match place_of(line) {
         Ok(place) if is_head_member(place) => {
@@ -69,7 +69,7 @@ fn add_bad_place(lines: &mut Lines, line: &[u8]) -> Result<(), AllocError> {
     })
 }
 
-/// Whether a place is a member by which messages are recognised.
+/// Returns whether a path is a member by which messages are recognised.
 fn is_head_member(place: &[u8]) -> bool {
     place == b"type".as_slice()
         || place == b"command".as_slice()
@@ -77,7 +77,7 @@ fn is_head_member(place: &[u8]) -> bool {
         || place == b"success".as_slice()
 }
 
-/// Returns the number of the first line before this one after which it is refused for this cause.
+/// Returns the number of the first earlier line after which this line is rejected for this reason.
 fn earlier_line(
     alloc: Global,
     rules: &[u8],
@@ -97,7 +97,7 @@ fn earlier_line(
     Ok(None)
 }
 
-/// Whether a line is refused for this cause after another line.
+/// Returns whether a line is rejected for this reason after another line.
 fn is_refused_after(
     alloc: Global,
     earlier: &[u8],
@@ -108,7 +108,7 @@ fn is_refused_after(
     is_second_refused(alloc, both.as_slice(), cause)
 }
 
-/// Whether the second line of a file is the first that is refused, for this cause.
+/// Returns whether the second line of a file is the first one that is rejected, for this reason.
 fn is_second_refused(alloc: Global, rules: &[u8], cause: RulesCause) -> Result<bool, AllocError> {
     match MaskRules::read(alloc, rules) {
         Ok(_) => Ok(false),
@@ -125,7 +125,8 @@ fn two_lines(alloc: Global, first: &[u8], second: &[u8]) -> Result<Vec<u8>, Allo
     Ok(both)
 }
 
-/// Adds the line that says which earlier line has the same rule, or the rule that comes too early.
+/// Adds the line about the earlier line that contains the same rule, or a rule that must come
+/// later.
 fn add_earlier(
     alloc: Global,
     lines: &mut Lines,
@@ -145,7 +146,7 @@ fn add_earlier(
     }
 }
 
-/// Adds the lines on why a line is refused.
+/// Adds the lines about why a line is rejected.
 fn add_cause(
     alloc: Global,
     lines: &mut Lines,
@@ -172,12 +173,22 @@ fn add_cause(
             )?;
             lines.add("write the digits rule before the hex rule")
         }
+        RulesCause::Clash => {
+            add_earlier(
+                alloc,
+                lines,
+                rules,
+                fault,
+                " has another action for the same place",
+            )?;
+            lines.add("write uuid before long and hex last, and do not join uuid and digits")
+        }
         RulesCause::NotUtf8 => lines.add("save the file as UTF-8"),
         RulesCause::TooLong | RulesCause::Memory => Ok(()),
     }
 }
 
-/// Adds the lines on a file of rules that is refused.
+/// Adds the lines about a rejected file of rules.
 fn add_fault(
     alloc: Global,
     lines: &mut Lines,
@@ -200,9 +211,10 @@ fn add_fault(
     }
 }
 
-/// Explains why a file of rules is refused: the line, what is wrong with it, and what may be there.
+/// Explains why a file of rules is rejected: the line, what is wrong with it, and what is allowed
+/// there.
 ///
-/// `rules` is the file that was refused, and `fault` its refusal. The text is empty after `Memory`.
+/// `rules` is the rejected file, and `fault` is the reason. The result is empty after `Memory`.
 ///
 /// # Errors
 ///

@@ -1,20 +1,20 @@
-//! What is wrong with a line of a file of rules that is not a rule.
+//! Finds what is wrong with a line of a file of rules that is not a rule.
 
-/// What is wrong with a line that is not a rule, with the bytes of it that are wrong.
+/// What is wrong with a line that is not a rule, with the bytes that are wrong.
 #[derive(Clone, Copy)]
 pub(crate) enum LineFault<'l> {
     Verb(&'l [u8]),
     NoKind,
-    /// A rule for the order has only one half.
+    /// A rule for the order has only its first half.
     NoHalf,
     Kind(&'l [u8]),
     NoName,
     Name(&'l [u8]),
-    /// The rule leaves out messages that are not events.
+    /// The rule drops messages that are not events.
     Dropped(&'l [u8]),
     NoPlace,
     Place(&'l [u8]),
-    /// After the rule comes more.
+    /// The rule is followed by further text.
     More(&'l [u8]),
 }
 
@@ -25,7 +25,7 @@ impl<'l> LineFault<'l> {
             LineFault::Verb(word) => {
                 (
                     Some(word),
-                    " is not a verb: write blank, digits, hex, drop or swap",
+                    " is not a verb: write blank, digits, hex, long, uuid, drop or swap",
                 )
             }
             LineFault::NoKind => (
@@ -77,7 +77,7 @@ impl<'l> LineFault<'l> {
 enum ByteClass {
     /// Spaces, tabs, and the CR of a line end.
     Blank,
-    /// What a name without quotes has: letters, digits, `_`, `-` and `$`.
+    /// The bytes of a name without quotes: letters, digits, `_`, `-` and `$`.
     Plain,
     /// All bytes that are not blank.
     Word,
@@ -95,7 +95,7 @@ impl ByteClass {
     }
 }
 
-/// Splits bytes before the first that is not of a class.
+/// Splits the bytes before the first one that is not in a class.
 fn split_run(bytes: &[u8], class: ByteClass) -> (&[u8], &[u8]) {
     for (index, byte) in bytes.iter().enumerate() {
         if !class.has(*byte) {
@@ -105,22 +105,22 @@ fn split_run(bytes: &[u8], class: ByteClass) -> (&[u8], &[u8]) {
     (bytes, &[])
 }
 
-/// The bytes after the blanks that these begin with.
+/// Returns the bytes after the leading blanks.
 fn after_blanks(bytes: &[u8]) -> &[u8] {
     split_run(bytes, ByteClass::Blank).1
 }
 
-/// The bytes up to the first blank.
+/// Returns the bytes up to the first blank.
 fn first_word(bytes: &[u8]) -> &[u8] {
     split_run(bytes, ByteClass::Word).0
 }
 
-/// Whether nothing comes but blanks and a comment.
+/// Returns whether only blanks and a comment follow.
 pub(crate) fn is_end(bytes: &[u8]) -> bool {
     matches!(after_blanks(bytes), [] | [b'#', ..])
 }
 
-/// The bytes after the name of a member; `None` if there is no name.
+/// Returns the bytes after the name of a member, or `None` if there is no name.
 fn after_member(bytes: &[u8]) -> Option<&[u8]> {
     match bytes {
         [b'"', inside @ ..] => after_quote(inside),
@@ -131,7 +131,7 @@ fn after_member(bytes: &[u8]) -> Option<&[u8]> {
     }
 }
 
-/// The bytes after the quote that closes a string; `None` if there is none.
+/// Returns the bytes after the quote that closes a string, or `None` if there is none.
 fn after_quote(inside: &[u8]) -> Option<&[u8]> {
     let mut is_escaped = false;
     for (index, byte) in inside.iter().enumerate() {
@@ -143,7 +143,7 @@ fn after_quote(inside: &[u8]) -> Option<&[u8]> {
     None
 }
 
-/// The bytes after the name of a message, which may be `*`; `None` if there is no name.
+/// Returns the bytes after the name of a message, which may be `*`, or `None` if there is no name.
 fn after_name(bytes: &[u8]) -> Option<&[u8]> {
     match bytes {
         [b'*', rest @ ..] => Some(rest),
@@ -151,10 +151,10 @@ fn after_name(bytes: &[u8]) -> Option<&[u8]> {
     }
 }
 
-/// The bytes after a place; `None` if there is no place.
+/// Returns the bytes after a path, or `None` if there is no path.
 fn after_place(bytes: &[u8]) -> Option<&[u8]> {
     let mut rest = after_member(bytes)?;
-    // A place has no more steps than its text has bytes.
+    // A path has at most as many steps as its text has bytes.
     for _ in 0..bytes.len() {
         match after_step(rest) {
             Some(next) => rest = next,
@@ -164,7 +164,7 @@ fn after_place(bytes: &[u8]) -> Option<&[u8]> {
     Some(rest)
 }
 
-/// The bytes after a further step of a place; `None` if there is no further step.
+/// Returns the bytes after a further step of a path, or `None` if there is no further step.
 fn after_step(bytes: &[u8]) -> Option<&[u8]> {
     match bytes {
         [b'.', rest @ ..] => after_member(rest),
@@ -173,8 +173,8 @@ fn after_step(bytes: &[u8]) -> Option<&[u8]> {
     }
 }
 
-/// Returns the place of a rule, which is empty if it drops or swaps messages; or what is wrong with a line
-/// that is not a rule, if it is recognised.
+/// Returns the path of a rule, which is empty if the rule drops or swaps messages. For a line that
+/// is not a rule, returns what is wrong with it, if that is recognised.
 pub(crate) fn place_of(line: &[u8]) -> Result<&[u8], LineFault<'_>> {
     let (verb, rest) = split_run(after_blanks(line), ByteClass::Word);
     if verb == b"swap".as_slice() {
@@ -197,7 +197,8 @@ pub(crate) fn place_of(line: &[u8]) -> Result<&[u8], LineFault<'_>> {
     place_after_kind(after_blanks(rest), is_drop)
 }
 
-/// Returns no bytes if these are the two halves of a rule for the order, and otherwise what is wrong.
+/// Returns no bytes if these are the two halves of a rule for the order, and otherwise what is
+/// wrong.
 fn after_halves(text: &[u8]) -> Result<&[u8], LineFault<'_>> {
     let rest = after_half(text, LineFault::NoKind)?;
     let rest = after_half(rest, LineFault::NoHalf)?;
@@ -208,7 +209,8 @@ fn after_halves(text: &[u8]) -> Result<&[u8], LineFault<'_>> {
     }
 }
 
-/// Returns the bytes after a kind and a name, or what is wrong there: `none`, if nothing is.
+/// Returns the bytes after a kind and a name, or what is wrong there. `none` is returned if nothing
+/// is there.
 fn after_half<'l>(text: &'l [u8], none: LineFault<'l>) -> Result<&'l [u8], LineFault<'l>> {
     if is_end(text) {
         return Err(none);
@@ -227,17 +229,21 @@ fn after_half<'l>(text: &'l [u8], none: LineFault<'l>) -> Result<&'l [u8], LineF
     }
 }
 
-/// Whether a word is the verb of a rule that changes values.
+/// Returns whether a word is the verb of a rule that changes values.
 fn is_change(word: &[u8]) -> bool {
-    word == b"blank".as_slice() || word == b"digits".as_slice() || word == b"hex".as_slice()
+    word == b"blank".as_slice()
+        || word == b"digits".as_slice()
+        || word == b"hex".as_slice()
+        || word == b"long".as_slice()
+        || word == b"uuid".as_slice()
 }
 
-/// Whether a word is a kind of message.
+/// Returns whether a word is a kind of message.
 fn is_kind(word: &[u8]) -> bool {
     word == b"request".as_slice() || word == b"response".as_slice() || word == b"event".as_slice()
 }
 
-/// Returns the place of a rule after its kind, or what is wrong there.
+/// Returns the path of a rule after its kind, or what is wrong there.
 fn place_after_kind(text: &[u8], is_drop: bool) -> Result<&[u8], LineFault<'_>> {
     if is_end(text) {
         return Err(LineFault::NoName);
@@ -262,7 +268,7 @@ fn place_after_kind(text: &[u8], is_drop: bool) -> Result<&[u8], LineFault<'_>> 
     place_at(place)
 }
 
-/// Returns the place of a rule, or what is wrong with it or after it.
+/// Returns the path of a rule, or what is wrong with it or after it.
 fn place_at(text: &[u8]) -> Result<&[u8], LineFault<'_>> {
     let Some(rest) = after_place(text) else {
         return Err(LineFault::Place(first_word(text)));

@@ -1,4 +1,4 @@
-//! Messages that violate a rule of their session.
+//! Explains messages that violate a session rule.
 ghost use Rattle.dap_frame.specs.Limits.{IsSound};
 
 use crate::head::{Head, add_head, read_value};
@@ -11,12 +11,12 @@ use dap_session::Rule;
 use dap_tree::Side;
 use std::alloc::{AllocError, Global};
 
-/// A message that is looked for among those before the refused one.
+/// A message to search for among the messages before the rejected one.
 #[derive(Clone, Copy)]
 enum Sought {
     /// The request of this side with this `seq`.
     Request(Side, i64),
-    /// A response of this side to this request of the other.
+    /// A response of this side to the request of the other side with this `seq`.
     Response(Side, i64),
     /// The client's request with this command.
     Command(&'static str),
@@ -25,7 +25,7 @@ enum Sought {
 }
 
 impl Sought {
-    /// Whether a message is one that is looked for.
+    /// Returns whether a message matches.
     fn is_met_by(self, head: &Head<'_>) -> bool {
         match self {
             Sought::Request(side, seq) => {
@@ -46,7 +46,7 @@ impl Sought {
     }
 }
 
-/// What is looked through: the records of an input before one of them.
+/// The records of an input before one of them, to be searched.
 #[derive(Clone, Copy)]
 struct Earlier<'a> {
     input: &'a [u8],
@@ -55,7 +55,7 @@ struct Earlier<'a> {
     limits: FrameLimits,
 }
 
-/// Returns the record of the first of the earlier messages that is looked for.
+/// Returns the record of the first matching message.
 fn find<'a>(
     alloc: Global,
     earlier: Earlier<'a>,
@@ -74,7 +74,7 @@ fn find<'a>(
     Ok(None)
 }
 
-/// Whether the message of a record is one that is looked for.
+/// Returns whether the message of a record matches.
 fn is_sought(alloc: Global, record: RecordPart<'_>, sought: Sought) -> Result<bool, AllocError> {
     match read_value(alloc, record.content)? {
         Some(message) => Ok(sought.is_met_by(&Head::of(record.side, &message))),
@@ -82,7 +82,7 @@ fn is_sought(alloc: Global, record: RecordPart<'_>, sought: Sought) -> Result<bo
     }
 }
 
-/// The other side.
+/// Returns the other side.
 fn other(side: Option<Side>) -> Option<Side> {
     match side {
         Some(Side::Client) => Some(Side::Adapter),
@@ -91,7 +91,7 @@ fn other(side: Option<Side>) -> Option<Side> {
     }
 }
 
-/// Adds what a rule is, in a sentence.
+/// Adds the meaning of a rule, in a sentence.
 fn add_rule(lines: &mut Lines, rule: Rule) -> Result<(), AllocError> {
     lines.add(match rule {
         Rule::EventFromClient => "only the adapter sends events",
@@ -136,8 +136,7 @@ fn add_advice(lines: &mut Lines, rule: Rule) -> Result<(), AllocError> {
     })
 }
 
-/// Adds a line on the first of the earlier messages that is looked for, with these words and the
-/// number of its record.
+/// Adds a line about the first matching message, with these words and the number of its record.
 fn add_found(
     alloc: Global,
     lines: &mut Lines,
@@ -153,7 +152,7 @@ fn add_found(
     }
 }
 
-/// Adds a line on the earlier request of a side that has a `seq`.
+/// Adds a line about the earlier request of a side with this `seq`.
 fn add_request(
     alloc: Global,
     lines: &mut Lines,
@@ -172,7 +171,7 @@ fn add_request(
     }
 }
 
-/// Adds the line on a request that is not there.
+/// Adds the line about a request that does not exist.
 fn add_no_request(lines: &mut Lines, side: Side, seq: i64) -> Result<(), AllocError> {
     lines.add_words(&[
         Word::Text("the "),
@@ -183,7 +182,7 @@ fn add_no_request(lines: &mut Lines, side: Side, seq: i64) -> Result<(), AllocEr
     ])
 }
 
-/// Adds the line on a request that was found.
+/// Adds the line about a request that was found.
 fn add_named(
     alloc: Global,
     lines: &mut Lines,
@@ -200,7 +199,7 @@ fn add_named(
     }
 }
 
-/// Adds the line that says which request has a `seq`.
+/// Adds the line that states which request has this `seq`.
 fn add_request_line(
     lines: &mut Lines,
     number: u64,
@@ -220,7 +219,7 @@ fn add_request_line(
     ])
 }
 
-/// Adds a line on the first response to the request that a response answers.
+/// Adds a line about the first response to the request that a response answers.
 fn add_response(
     alloc: Global,
     lines: &mut Lines,
@@ -243,7 +242,7 @@ fn add_response(
     }
 }
 
-/// Adds the lines on the earlier messages that a rule speaks of.
+/// Adds the lines about the earlier messages that are relevant for a rule.
 fn add_earlier(
     alloc: Global,
     lines: &mut Lines,
@@ -279,7 +278,7 @@ fn add_earlier(
     }
 }
 
-/// Adds the lines on a message that violates a rule of its session.
+/// Adds the lines about a message that violates a session rule.
 fn add_violation(
     alloc: Global,
     lines: &mut Lines,
@@ -295,7 +294,7 @@ fn add_violation(
     add_advice(lines, rule)
 }
 
-/// Explains that the message of a record violates a rule of its session.
+/// Explains that the message of a record violates a session rule.
 pub(crate) fn explain_rule(
     alloc: Global,
     lines: &mut Lines,

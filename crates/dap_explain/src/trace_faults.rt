@@ -1,4 +1,4 @@
-//! Bytes that are not a piece of a trace, and faulty frames in its pieces.
+//! Explains bytes that are not a piece of a trace, and invalid frames in its pieces.
 ghost use Rattle.std.specs.Prelude.{◌≡◌};
 ghost use Rattle.dap_frame.specs.Limits.{IsSound};
 
@@ -13,7 +13,7 @@ use dap_recording::{RecorderFault, TraceCause, TraceReader};
 use dap_tree::Side;
 use std::alloc::{AllocError, Global};
 
-/// Whether the first piece of some bytes is refused for this cause.
+/// Returns whether the first piece of the bytes is rejected for this reason.
 fn is_refused(bytes: &[u8], cause: TraceCause) -> bool {
     let mut reader = TraceReader::new();
     match reader.feed(bytes) {
@@ -25,7 +25,7 @@ fn is_refused(bytes: &[u8], cause: TraceCause) -> bool {
     }
 }
 
-/// Adds the lines on a piece that does not begin as a piece does.
+/// Adds the lines about a piece that starts incorrectly.
 fn add_bad_piece(lines: &mut Lines, number: u64, bytes: &[u8]) -> Result<(), AllocError> {
     lines.add_words(&[
         Word::Text("piece "),
@@ -36,7 +36,7 @@ fn add_bad_piece(lines: &mut Lines, number: u64, bytes: &[u8]) -> Result<(), All
     lines.add("a piece begins with > or <, its length in decimal digits without leading 0, and LF")
 }
 
-/// Adds the lines on a piece that does not begin with a marker.
+/// Adds the lines about a piece that does not start with a marker.
 fn add_bad_marker(lines: &mut Lines, number: u64, bytes: &[u8]) -> Result<(), AllocError> {
     add_bad_piece(lines, number, bytes)?;
     if number > 1 {
@@ -46,7 +46,7 @@ fn add_bad_marker(lines: &mut Lines, number: u64, bytes: &[u8]) -> Result<(), Al
     }
 }
 
-/// Adds the lines on a piece whose length is not a number.
+/// Adds the lines about a piece whose length is not a number.
 fn add_bad_count(lines: &mut Lines, number: u64, bytes: &[u8]) -> Result<(), AllocError> {
     add_bad_piece(lines, number, bytes)?;
     if first_line(bytes).ends_with(b"\r") {
@@ -57,7 +57,7 @@ fn add_bad_count(lines: &mut Lines, number: u64, bytes: &[u8]) -> Result<(), All
     }
 }
 
-/// Adds the lines on a piece that has not ended.
+/// Adds the lines about an incomplete piece.
 fn add_cut(lines: &mut Lines, number: u64, bytes: &[u8]) -> Result<(), AllocError> {
     let after = match bytes {
         [_, after @ ..] => after,
@@ -83,7 +83,7 @@ fn add_cut(lines: &mut Lines, number: u64, bytes: &[u8]) -> Result<(), AllocErro
     lines.add("the program that wrote the input may have been stopped early")
 }
 
-/// Adds the lines on a piece whose length has not ended.
+/// Adds the lines about a piece whose length is incomplete.
 fn add_cut_length(lines: &mut Lines, number: u64, bytes: &[u8]) -> Result<(), AllocError> {
     lines.add_words(&[
         Word::Text("the trace ends in the length of piece "),
@@ -112,7 +112,7 @@ pub(crate) fn explain_piece(
     }
 }
 
-/// Adds the lines on the cause for which a piece is refused.
+/// Adds the lines about why a piece is rejected.
 fn add_cause(
     lines: &mut Lines,
     number: u64,
@@ -126,18 +126,18 @@ fn add_cause(
     }
 }
 
-/// The last frame of a side, as its pieces come.
+/// The last frame of a side, while its pieces are read.
 #[derive(Drop)]
 struct LastFrame {
     framer: Framer,
-    /// How many of its first bytes are kept.
+    /// The maximum number of its first bytes that are stored.
     limit: usize,
     front: Vec<u8>,
     len: usize,
 }
 
 impl LastFrame {
-    /// Takes bytes of the frame, or of the frames after it.
+    /// Reads bytes of the frame, or of the frames after it.
     fn take(&mut self, piece: &[u8]) -> Result<(), AllocError> {
         let mut rest = piece;
         'frames: while !rest.is_empty() {
@@ -154,7 +154,7 @@ impl LastFrame {
         Ok(())
     }
 
-    /// Keeps bytes of the frame.
+    /// Stores bytes of the frame.
     fn keep(&mut self, bytes: &[u8]) -> Result<(), AllocError> {
         let room = self.limit.saturating_sub(self.front.len());
         self.front
@@ -164,7 +164,7 @@ impl LastFrame {
     }
 }
 
-/// Returns the frame that a side sends in the piece with this number.
+/// Returns the last frame that a side has started by the end of the piece with this number.
 fn frame_in_piece(
     alloc: Global,
     trace: &[u8],
@@ -191,7 +191,7 @@ fn frame_in_piece(
     Ok(frame)
 }
 
-/// Explains that a frame of a side is faulty in the piece with this number, or has not ended.
+/// Explains that a frame of a side is invalid in the piece with this number, or is incomplete.
 pub(crate) fn explain_recorder(
     alloc: Global,
     lines: &mut Lines,

@@ -1,4 +1,4 @@
-//! Requests without a response.
+//! Explains requests without a response.
 ghost use Rattle.dap_frame.specs.Limits.{IsSound};
 
 use crate::head::{Head, read_value};
@@ -11,10 +11,10 @@ use dap_tree::Side;
 use std::alloc::{AllocError, Global};
 use std::collections::BTreeSet;
 
-/// How many requests are named.
+/// The maximum number of requests that are named.
 const NAMED: usize = 5;
 
-/// The numbers of the requests of each side that have a response.
+/// The sequence numbers of the requests of each side that have a response.
 #[derive(Drop)]
 struct Answered {
     client: BTreeSet<i64>,
@@ -22,7 +22,7 @@ struct Answered {
 }
 
 impl Answered {
-    /// Notes the request that a message answers.
+    /// Adds the request that a message answers.
     fn note(&mut self, head: &Head<'_>) -> Result<(), AllocError> {
         match (head.side, head.request_seq) {
             (Some(Side::Client), Some(seq)) => drop(self.adapter.insert(seq)?),
@@ -32,7 +32,7 @@ impl Answered {
         Ok(())
     }
 
-    /// Whether a request of a side has a response.
+    /// Returns whether a request of a side has a response.
     fn has(&self, side: Side, seq: i64) -> bool {
         match side {
             Side::Client => self.client.contains(&seq),
@@ -41,7 +41,7 @@ impl Answered {
     }
 }
 
-/// Notes the request that the message of a record answers.
+/// Adds the request that the message of a record answers.
 fn note_message(
     alloc: Global,
     answered: &mut Answered,
@@ -53,7 +53,7 @@ fn note_message(
     }
 }
 
-/// Notes the requests of a recording that have a response.
+/// Adds the requests of a recording that have a response.
 fn note_messages(
     alloc: Global,
     answered: &mut Answered,
@@ -68,7 +68,7 @@ fn note_messages(
     Ok(())
 }
 
-/// Adds a line on the request of a record, if it has no response. Returns whether it did.
+/// Adds a line about the request of a record, if it has no response. Returns whether it did.
 fn add_unanswered(
     alloc: Global,
     lines: &mut Lines,
@@ -84,7 +84,7 @@ fn add_unanswered(
     }
 }
 
-/// Adds a line on a message, if it is a request that has no response. Returns whether it did.
+/// Adds a line about a message, if it is a request without a response. Returns whether it did.
 fn add_if_unanswered(
     lines: &mut Lines,
     number: u64,
@@ -111,7 +111,7 @@ fn add_if_unanswered(
     Ok(true)
 }
 
-/// Adds lines on the first five requests without a response. Returns how many lines it added.
+/// Adds lines about the first five requests without a response. Returns the number of lines added.
 fn add_first(
     alloc: Global,
     lines: &mut Lines,
@@ -133,7 +133,7 @@ fn add_first(
     Ok(named)
 }
 
-/// Explains that requests have no response: names the first five, of this many.
+/// Explains that `count` requests have no response, and names the first five of them.
 pub(crate) fn explain_incomplete(
     alloc: Global,
     lines: &mut Lines,
@@ -152,7 +152,7 @@ pub(crate) fn explain_incomplete(
     add_end(lines, named, count)
 }
 
-/// Adds the lines after the requests that are named: how many more there are, and what to do.
+/// Adds the lines after the named requests: the number of further requests, and what to do.
 fn add_end(lines: &mut Lines, named: usize, count: usize) -> Result<(), AllocError> {
     let more = count.saturating_sub(named);
     if named == NAMED && more > 0 {

@@ -1,5 +1,4 @@
-//! The words of a line: fixed text, numbers, and parts of an input in the form in which an
-//! explanation shows them.
+//! Formats the words of a line: fixed text, numbers, and parts of an input.
 use crate::lines::hex_digit;
 use crate::path::{Step, push_name, push_path, push_place, push_row_place};
 use dap_profile::Place;
@@ -7,16 +6,16 @@ use dap_tree::Side;
 use serde_json::Value;
 use std::alloc::{AllocError, Global};
 
-/// How many bytes are shown of a place at fault.
+/// The number of bytes that are shown at the position of an error.
 const SHOWN_BYTES: usize = 40;
 
-/// How many characters are shown of a value.
+/// The number of characters that are shown of a value.
 const SHOWN_CHARACTERS: usize = 60;
 
 /// A part of a line.
 #[derive(Clone, Copy)]
 pub(crate) enum Word<'a> {
-    /// A text as it is.
+    /// A string, unchanged.
     Text(&'a str),
     /// `record` and a number.
     Record(u64),
@@ -25,33 +24,33 @@ pub(crate) enum Word<'a> {
     /// `client` or `adapter`.
     Side(Side),
     Number(u64),
-    /// A number of a message.
+    /// A number from a message.
     Seq(i64),
-    /// A string as JSON text, in quotes.
+    /// A string as JSON, in quotes.
     Quoted(&'a str),
-    /// A space and a string as JSON text; nothing, if there is no string.
+    /// A space and a string as JSON, or nothing if there is no string.
     Named(Option<&'a str>),
-    /// Which request a response answers; nothing, if there is no number.
+    /// The request that a response answers, or nothing if there is no number.
     Answering(Option<i64>),
-    /// The first 40 bytes of these, in quotes, with `...` if there are more. A byte that is not
-    /// printable ASCII is escaped as in a byte string of Rust.
+    /// The first 40 bytes of these, in quotes, followed by `...` if there are more. A byte that is
+    /// not printable ASCII is escaped as in a byte string of Rust.
     Bytes(&'a [u8]),
-    /// The first 60 characters of a text, with `...` if there are more.
+    /// The first 60 characters of a string, followed by `...` if there are more.
     Cut(&'a str),
-    /// The first 60 characters of a value as JSON text, with `...` if there are more.
+    /// The first 60 characters of a value as JSON, followed by `...` if there are more.
     Json(&'a Value),
     /// A path in the notation of `diff`, such as `body.stackFrames[2].line`.
     Path(&'a [Step<'a>]),
-    /// The place of a mask that a path is at, such as `body.stackFrames[].line`.
+    /// The path of a mask rule that matches a path, such as `body.stackFrames[].line`.
     Place(&'a [Step<'a>]),
-    /// A place of a row of the profile, with the index of the element of an array that it is in, in
-    /// the notation of `diff`.
+    /// The path of a row of the profile, with the index of the array element, in the notation of
+    /// `diff`.
     RowPlace(Place, usize),
-    /// A name as paths and rules have it: as it is, or as a JSON string.
+    /// A name in the notation of paths and rules: unchanged, or as a JSON string.
     Name(&'a str),
 }
 
-/// Returns the text that words make.
+/// Returns the concatenation of the words.
 pub(crate) fn joined(alloc: Global, words: &[Word<'_>]) -> Result<String, AllocError> {
     let mut text = String::new(alloc);
     for word in words {
@@ -87,7 +86,7 @@ fn push_number(text: &mut String, words: &str, number: u64) -> Result<(), AllocE
     write!(text, "{words}{number}")
 }
 
-/// Appends words and a number of a message.
+/// Appends words and a number from a message.
 fn push_seq(text: &mut String, words: &str, number: i64) -> Result<(), AllocError> {
     write!(text, "{words}{number}")
 }
@@ -112,7 +111,7 @@ fn push_named(text: &mut String, name: Option<&str>) -> Result<(), AllocError> {
     }
 }
 
-/// Appends which request a response answers, if it is known.
+/// Appends the request that a response answers, if it is known.
 fn push_answering(text: &mut String, number: Option<i64>) -> Result<(), AllocError> {
     match number {
         Some(number) => push_seq(text, ", to request ", number),
@@ -120,7 +119,7 @@ fn push_answering(text: &mut String, number: Option<i64>) -> Result<(), AllocErr
     }
 }
 
-/// Appends a string as JSON text, in quotes.
+/// Appends a string as JSON, in quotes.
 pub(crate) fn push_quoted(text: &mut String, words: &str) -> Result<(), AllocError> {
     text.push('"')?;
     for character in words.chars() {
@@ -129,7 +128,7 @@ pub(crate) fn push_quoted(text: &mut String, words: &str) -> Result<(), AllocErr
     text.push('"')
 }
 
-/// Appends a character as it is in a JSON string.
+/// Appends a character as in a JSON string.
 fn push_escaped(text: &mut String, character: char) -> Result<(), AllocError> {
     match character {
         '"' => text.push_str("\\\""),
@@ -162,7 +161,7 @@ fn push_bytes(text: &mut String, bytes: &[u8]) -> Result<(), AllocError> {
     })
 }
 
-/// Appends a byte as it is in a byte string of Rust.
+/// Appends a byte as in a byte string of Rust.
 fn push_byte(text: &mut String, byte: u8) -> Result<(), AllocError> {
     match byte {
         b'"' => text.push_str("\\\""),
@@ -175,7 +174,7 @@ fn push_byte(text: &mut String, byte: u8) -> Result<(), AllocError> {
     }
 }
 
-/// Appends the first characters of a text.
+/// Appends the first characters of a string.
 fn push_cut(text: &mut String, words: &str) -> Result<(), AllocError> {
     let mut characters = words.chars();
     for character in characters.by_ref().take(SHOWN_CHARACTERS) {
@@ -188,7 +187,7 @@ fn push_cut(text: &mut String, words: &str) -> Result<(), AllocError> {
     })
 }
 
-/// Appends the first characters of a value as JSON text.
+/// Appends the first characters of a value as JSON.
 fn push_json(alloc: Global, text: &mut String, value: &Value) -> Result<(), AllocError> {
     let words = value.to_string(alloc)?;
     push_cut(text, words.as_str())

@@ -61,7 +61,7 @@ not_zero n = by_bool (suc n == 0)
 
 -- ---- bytes
 
--- a byte that passes a test is none that does not
+-- a byte that passes a test differs from a byte that does not pass it
 pub differs : (test : ℕ → Bool) (b c : ℕ) → test b ≡ true → test c ≡ false → (b == c) ≡ false
 differs test b c h k = by_bool (b == c)
     (λ e. absurd (true≢false (sym h ∙ ap test (eqb-true b c e) ∙ k))) (λ e. e)
@@ -96,7 +96,7 @@ gap_read (b ∷ g) s h e =
     ap₂ gap_by (front_run is_blank (b ∷ g) s h.1 e) (behind_run is_blank (b ∷ g) s h.1 e)
     ∙ ap (none_or s) (not_zero (length g))
 
--- the gap at the front, and the rest of the text
+-- the gap with which the text starts, and the rest of the text
 pub record HasGap (s rest : List ℕ) : Type 0 where
   pub blanks : List ℕ
   pub whole : s ≡ blanks ++ rest
@@ -141,7 +141,7 @@ end_found s h = (
   comment_found (behind is_blank s) h,
 )
 
--- ---- what follows a word
+-- ---- the text after a word
 
 -- neither a blank nor `#` passes the test
 pub record NoEnd (test : ℕ → Bool) : Type 0 where

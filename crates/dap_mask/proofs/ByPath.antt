@@ -1,4 +1,4 @@
--- The changes of all rules make the masked document.
+-- The changes of all rules, path by path, determine the masked document.
 use Rattle.std.proofs.Common.{◌≡◌, ℕ, Bool, true, false, cond, not, ◌&&◌, ◌||◌, List, [], ◌∷◌}
 use Rattle.std.proofs.Common.{Option, Some, None, option_map, codes, refl, sym}
 use Rattle.std.proofs.Common.{◌∙◌, ap, ap₂, bytes_eq, true≢false}
@@ -21,21 +21,23 @@ use Rattle.dap_profile.specs.declared.profile.Kind.TheVariants.{Request, Respons
 use Rattle.dap_message.proofs.Edits.{Alike, by_bool}
 use Rattle.dap_message.proofs.RowMarks.{text-top, one_step}
 use Rattle.dap_message.proofs.OneMarking.{told}
-use Rattle.dap_mask.specs.Rules.{Rule, of_verb, takes_parts, has_name, speaks_of, is_event_of}
+use Rattle.dap_mask.specs.Rules.{Rule, change_text, of_verb, takes_parts, has_name, speaks_of}
+use Rattle.dap_mask.specs.Rules.{is_event_of}
 use Rattle.dap_mask.specs.Rules.{is_dropped, is_telling, is_telling_place, are_safe}
 use Rattle.dap_mask.specs.Masked.{is_below, left_at, left_by, left, IsMasked, AgreeBut, is_apart}
 use Rattle.dap_mask.specs.Masked.{mask_by, masked}
 use Rattle.dap_mask.specs.declared.rules.Verb.{Verb}
-use Rattle.dap_mask.specs.declared.rules.Verb.TheVariants.{Blank, Digits, Hex}
+use Rattle.dap_mask.specs.declared.rules.Verb.TheVariants.{Blank, Digits, Hex, Long, Uuid}
 use Rattle.dap_mask.proofs.Edited.{top-verb, at-edit, left-none}
 
--- ---- a rule speaks of a masked document as of the one before
+-- ---- a rule applies to a masked document if and only if it applies to the original document
 
 not_true : (b : Bool) → not b ≡ true → b ≡ false
 not_true true h = cc
 not_true false h = refl
 
--- a place other than that of a telling member says nothing of it
+-- a place that rules may have neither matches the path of `type`, `command`, `event` or `success`
+-- nor a prefix of it
 apart_from : (k : List ℕ) → is_telling k ≡ true → (ps : List PlaceStep) → is_telling_place ps
     ≡ false → (fits_place ps (name k ∷ []) ≡ false) × (is_below ps (name k ∷ []) ≡ false)
 apart_from k t [] h = cc
@@ -48,7 +50,7 @@ apart_from k t (named j ∷ each ∷ ps) h = by_bool (bytes_eq j k) (λ e. (rw e
     (λ e. (rw e refl, rw e refl))
 apart_from k t (each ∷ ps) h = (refl, refl)
 
--- so a change at it leaves the member, seen from above
+-- a change at this place does not change the top of the member
 child-edit : (v : Verb) (ps : List PlaceStep) (k : List ℕ) (d : Doc) → is_telling k ≡ true
     → is_telling_place ps ≡ false → Alike (get k (edit ps (of_verb v) d)) (get k d)
 child-edit v ps k d t h =
@@ -127,7 +129,7 @@ dropped-masked [] ns d h = refl
 dropped-masked (r ∷ rs) ns d h = dropped-masked rs ns (mask_by r d) (rest_safe r rs h)
     ∙ dropped-mask_by r ns d (first_safe r rs h)
 
--- ---- what rules leave, of documents that they speak of alike
+-- ---- the values after rules, for documents to which the same rules apply
 
 pub left-same : (rs : List Rule) (d e : Doc) → ((q : Rule) → speaks_of q e ≡ speaks_of q d)
     → (p : List Step) (o : Option Doc) → left rs e p o ≡ left rs d p o
@@ -165,7 +167,7 @@ pub top-left : (rs : List Rule) (d : Doc) (p : List Step) (o : Option Doc)
 top-left [] d p o = refl
 top-left (r ∷ rs) d p o = top-left rs d p (left_by r d p o) ∙ ap (left rs d p) (top-left_by r d p o)
 
--- what is left of what looks alike looks alike
+-- rules preserve that two values have the same top
 pub left-alike : (rs : List Rule) (d : Doc) (p : List Step) (a b : Option Doc) → Alike a b
     → Alike (left rs d p a) (left rs d p b)
 left-alike rs d p a b h = top-left rs d p a ∙ ap (left rs d p) h ∙ sym (top-left rs d p b)
@@ -193,7 +195,7 @@ pub masked_by_path : (rs : List Rule) (d : Doc) → are_safe rs ≡ true → IsM
 unfolding IsMasked
 masked_by_path rs d h p = at-masked rs d h p
 
--- ---- apart from the places
+-- ---- at paths that the rules do not affect
 
 left_apart : (rs : List Rule) (d : Doc) (p : List Step) (o : Option Doc) → is_apart rs d p ≡ true
     → left rs d p o ≡ o
@@ -291,6 +293,15 @@ items_kept f (item d ds) keeps h =
     and_both _ _ (keeps d (and_left (is_ordered d) (items_ordered ds) h))
     (items_kept f ds keeps (and_right (is_ordered d) (items_ordered ds) h))
 
+ordered-text : (f : List ℕ → List ℕ) → KeepsOrdered (change_text f)
+ordered-text f null h = refl
+ordered-text f (boolean b) h = refl
+ordered-text f (whole z) h = refl
+ordered-text f (text s) h = refl
+ordered-text f (list ds) h = h
+ordered-text f (object ms) h = h
+ordered-text f (id s z) h = refl
+
 ordered-verb : (v : Verb) → KeepsOrdered (of_verb v)
 ordered-verb Blank null h = refl
 ordered-verb Blank (boolean b) h = refl
@@ -299,20 +310,10 @@ ordered-verb Blank (text s) h = refl
 ordered-verb Blank (list ds) h = refl
 ordered-verb Blank (object ms) h = refl
 ordered-verb Blank (id s z) h = refl
-ordered-verb Digits null h = refl
-ordered-verb Digits (boolean b) h = refl
-ordered-verb Digits (whole z) h = refl
-ordered-verb Digits (text s) h = refl
-ordered-verb Digits (list ds) h = h
-ordered-verb Digits (object ms) h = h
-ordered-verb Digits (id s z) h = refl
-ordered-verb Hex null h = refl
-ordered-verb Hex (boolean b) h = refl
-ordered-verb Hex (whole z) h = refl
-ordered-verb Hex (text s) h = refl
-ordered-verb Hex (list ds) h = h
-ordered-verb Hex (object ms) h = h
-ordered-verb Hex (id s z) h = refl
+ordered-verb Digits d h = ordered-text _ d h
+ordered-verb Hex d h = ordered-text _ d h
+ordered-verb Long d h = ordered-text _ d h
+ordered-verb Uuid d h = ordered-text _ d h
 
 ordered-child : (k : List ℕ) (f : Doc → Doc) → KeepsOrdered f → KeepsOrdered (change_child k f)
 ordered-child k f keeps null h = refl
@@ -346,7 +347,7 @@ ordered-masked (r ∷ rs) d h = ordered-masked rs (mask_by r d) (go (speaks_of r
     go true = ordered-edit r.verb r.place d h
     go false = h
 
--- ---- what stands at the paths tells the document
+-- ---- the values at all paths determine the document
 
 some_top : (d e : Doc) → Some (top d) ≡ Some (top e) → top d ≡ top e
 some_top d e h = cc

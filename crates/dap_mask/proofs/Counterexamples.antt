@@ -1,4 +1,4 @@
--- Why rules must be settled and safe: with these a document that is masked again is another.
+-- Why rules must be settled and safe: with these rules, masking a document again changes it.
 use Rattle.std.proofs.Common.{◌≡◌, ℕ, List, [], ◌∷◌, Some, None, refl}
 use Rattle.std.specs.Prelude.{codes}
 use Rattle.dap_tree.specs.Doc.{Doc, text, object, no_members, member}
@@ -16,7 +16,7 @@ hex_then_digits = refl
 hex_then_digits_again : digits (hex (codes "0xA")) ≡ codes "0x0"
 hex_then_digits_again = refl
 
--- the other order: done at once
+-- in the other order, one application suffices
 digits_then_hex : hex (digits (codes "1xA")) ≡ codes "0x0"
 digits_then_hex = refl
 
@@ -24,7 +24,7 @@ abbrev event : List ℕ → List ℕ → Doc
 event name body = object (member (codes "body") (text body) (member (codes "event") (text name)
     (member (codes "type") (text (codes "event")) no_members)))
 
--- a place by which a message is told
+-- two rules, of which the second changes the name of events
 abbrev unsafe : List Rule
 unsafe =
     record { verb = Blank; kind = Event; name = Some []; place = named (codes "body") ∷ [] }

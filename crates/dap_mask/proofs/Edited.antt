@@ -1,4 +1,4 @@
--- What a change at a place does to a document, path by path.
+-- The effect of a change at a place of a document, path by path.
 use Rattle.std.proofs.Common.{◌≡◌, ℕ, Bool, true, false, cond, ◌&&◌, List, [], ◌∷◌, Option}
 use Rattle.std.proofs.Common.{Some, None, option_map, option_and_then, refl, sym, ◌∙◌, ap, bytes_eq}
 use Rattle.std.proofs.Common.{true≢false}
@@ -14,7 +14,7 @@ use Rattle.dap_message.proofs.Edits.{Alike, top-change, top-items}
 use Rattle.dap_mask.specs.Rules.{of_verb, blank, change_text, takes_parts}
 use Rattle.dap_mask.specs.Masked.{is_below, left_at}
 use Rattle.dap_mask.specs.declared.rules.Verb.{Verb}
-use Rattle.dap_mask.specs.declared.rules.Verb.TheVariants.{Blank, Digits, Hex}
+use Rattle.dap_mask.specs.declared.rules.Verb.TheVariants.{Blank, Digits, Hex, Long, Uuid}
 
 -- ---- one value
 
@@ -49,6 +49,17 @@ step-verb : (v : Verb) (st : Step) (d : Doc) → step st (of_verb v d)
 step-verb Blank st d = step-blank st d
 step-verb Digits st d = step-text _ st d
 step-verb Hex st d = step-text _ st d
+step-verb Long st d = step-text _ st d
+step-verb Uuid st d = step-text _ st d
+
+top-text : (f : List ℕ → List ℕ) (d : Doc) → top (change_text f d) ≡ change_text f (top d)
+top-text f (text s) = refl
+top-text f null = refl
+top-text f (boolean b) = refl
+top-text f (whole z) = refl
+top-text f (list ds) = refl
+top-text f (object ms) = refl
+top-text f (id s z) = refl
 
 pub top-verb : (v : Verb) (d : Doc) → top (of_verb v d) ≡ of_verb v (top d)
 top-verb Blank null = refl
@@ -58,20 +69,10 @@ top-verb Blank (text s) = refl
 top-verb Blank (list ds) = refl
 top-verb Blank (object ms) = refl
 top-verb Blank (id s z) = refl
-top-verb Digits null = refl
-top-verb Digits (boolean b) = refl
-top-verb Digits (whole z) = refl
-top-verb Digits (text s) = refl
-top-verb Digits (list ds) = refl
-top-verb Digits (object ms) = refl
-top-verb Digits (id s z) = refl
-top-verb Hex null = refl
-top-verb Hex (boolean b) = refl
-top-verb Hex (whole z) = refl
-top-verb Hex (text s) = refl
-top-verb Hex (list ds) = refl
-top-verb Hex (object ms) = refl
-top-verb Hex (id s z) = refl
+top-verb Digits d = top-text _ d
+top-verb Hex d = top-text _ d
+top-verb Long d = top-text _ d
+top-verb Uuid d = top-text _ d
 
 -- ---- at a place
 

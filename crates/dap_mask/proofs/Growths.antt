@@ -1,4 +1,4 @@
--- A file without rules needs no memory: each line that needs some adds a rule, or is refused.
+-- A file without rules needs no allocation: each line that needs one adds a rule or is rejected.
 use Rattle.std.proofs.Common.{◌≡◌, ◌≢◌, ◌⊎◌, inl, inr, ℕ, suc, ◌≤◌, ◌<◌, Bool, true, false}
 use Rattle.std.proofs.Common.{cond, List, [], ◌∷◌, length, Option, Some, None, Result, Ok, Err}
 use Rattle.std.proofs.Common.{IfErr, take, refl, sym, ap, ◌∙◌, subst, arith}
@@ -17,7 +17,7 @@ use Rattle.dap_mask.specs.declared.fault.RulesFault.{RulesFault}
 use Rattle.dap_mask.specs.declared.runs.ByteClass.TheVariants.{InLine}
 use Rattle.dap_mask.proofs.Lines.{lines_behind, lines_then}
 
--- ---- a line that says something
+-- ---- a line with a rule or an error
 
 told_something : (o : Option Statement) → told o ≡ nothing → ⊥
 told_something None h = cc
@@ -28,7 +28,7 @@ says_something l e h =
     told_something (statement_at (behind is_blank l))
     (sym (ap (λ b. cond b nothing (told (statement_at (behind is_blank l)))) e) ∙ h)
 
--- ---- how many rules there are
+-- ---- the number of rules
 
 one_more : (m : Mask) (st : Statement) → rule_count (with_rule m st) ≡ suc (rule_count m)
 one_more m (change r) = let more = length_push m.changes r in omega arith
@@ -41,7 +41,7 @@ same_mask m k h = cc
 no_mask : (c : RulesCause) (k : Mask) → ◌≡◌ {A = Result Mask RulesCause} (Err c) (Ok k) → ⊥
 no_mask c k h = cc
 
--- a line that is not refused says nothing, or adds a rule
+-- a line that is not rejected contains no rule, or adds one
 abbrev Adds : Mask → Mask → Line → Type 0
 Adds m k l = ((l ≡ nothing) × (m ≡ k)) ⊎ (rule_count k ≡ suc (rule_count m))
 
@@ -81,7 +81,7 @@ same_rules m k h = cc
 no_rules_said : (f : RulesFault) (k : Mask) → ◌≡◌ {A = Result Mask RulesFault} (Err f) (Ok k) → ⊥
 no_rules_said f k h = cc
 
--- what follows a line, where it leads to no fewer rules
+-- if the lines after a line do not reduce the number of rules, nor does the line with them
 then_no_less : (m k : Mask) (n : ℕ) (l : List ℕ) (more : Mask → Result Mask RulesFault)
     → ((j : Mask) → more j ≡ Ok k → rule_count j ≤ rule_count k)
     → (o : Result Mask RulesCause) → line_outcome m l ≡ o → outcome_then n more o ≡ Ok k
@@ -99,7 +99,7 @@ lines_no_less m k n (l ∷ ls) h =
     then_no_less m k n l (λ j. rules_from j (suc n) ls) (λ j e. lines_no_less j k (suc n) ls e)
     (line_outcome m l) refl h
 
--- ---- a file that needs memory
+-- ---- a file that needs an allocation
 
 then_more : (m k : Mask) (n : ℕ) (l : List ℕ) (more : Mask → Result Mask RulesFault)
     → ((j : Mask) → more j ≡ Ok k → rule_count j ≤ rule_count k) → line_said l ≢ nothing
@@ -111,7 +111,7 @@ then_more m k n l more less some (Ok j) e h =
     omega arith
 then_more m k n l more less some (Err c) e h = absurd (no_rules_said _ k h)
 
--- where a line says something, the text says other rules than those before it
+-- if a line contains a rule or an error, the text does not result in the rules before the line
 pub other_rules : (m first : Mask) (n : ℕ) (s line : List ℕ) → rule_count first ≤ rule_count m
     → line ≡ front (has_class InLine) s → line_said line ≢ nothing
     → rules_from m n (lines_of s) ≢ Ok first
@@ -122,7 +122,7 @@ other_rules m first n s line grown is some h =
     (sym (lines_then m n s line (line_outcome m line) is refl) ∙ h) in
     omega arith
 
--- a file that says rules is none without
+-- a file with rules is not a file without rules
 pub some_rules : (m : Mask) (said : Result Mask RulesFault) → said ≡ Ok m → 0 < length m.changes
     → said ≢ Ok no_rules
 some_rules m said e l h =
@@ -147,7 +147,7 @@ said_if s long =
     cond long (Err (record { line = last_line (take 65536 s); cause = TooLong }))
     (rules_from no_rules 1 (lines_of s))
 
--- what the lines of a file say is what the file says
+-- the meaning of a file is that of its lines
 pub said_other : (s : List ℕ) (m : Mask) → m ≡ no_rules → length s ≤ 65536
     → rules_from m 1 (lines_of s) ≢ Ok m → rules_said s ≢ Ok no_rules
 unfolding rules_said

@@ -1,4 +1,4 @@
--- The rules that an index finds for a message are those that speak of it.
+-- Masking by the rules that an index finds for a message is masking by all rules.
 use Rattle.std.proofs.Common.{◌≡◌, ℕ, zero, suc, Bool, true, false, cond, ◌&&◌, List, [], ◌∷◌, ◌++◌}
 use Rattle.std.proofs.Common.{length, drop, Option, Some, None, unwrap_or, bytes_eq, refl, sym}
 use Rattle.std.proofs.Common.{◌∙◌, ap, ap₂, subst, true≢false, append_assoc, option_map}
@@ -27,7 +27,7 @@ use Rattle.dap_mask.specs.declared.rules.MaskRule.{MaskRule}
 use Rattle.dap_mask.proofs.ByPath.{first_safe, rest_safe, spoken-mask_by}
 use Rattle.dap_mask.proofs.Settled.{kind_alike}
 
--- ---- names for which no rule asks
+-- ---- names that no rule contains
 
 same_positions : (k : Kind) (n : List ℕ) (i : ℕ) (rs : List Rule)
     → AllByRecursion (AsksNot k n) rs → positions_from k (Some n) i rs ≡ positions_from k None i rs
@@ -35,7 +35,7 @@ same_positions k n i [] h = refl
 same_positions k n i (r ∷ rs) h =
     ap₂ (λ b ps. cond b (i ∷ ps) ps) h.0 (same_positions k n (suc i) rs h.1)
 
--- ---- an index has the places of the rules that may speak
+-- ---- an index has the positions of the rules that may apply
 
 pub index_made : (k : Kind) (rs : List Rule) (x : KindRules) → AreRight k rs x.named
     → HasAsked k rs x.named → x.any.items ≡ positions k None rs → IsIndex k rs x
@@ -47,7 +47,7 @@ index_made k rs x right asked any (Some n) = found (kept_for x.named n) refl
     found (Some places) is = right n places is
     found None is = any ∙ sym (same_positions k n 0 rs (asked n is))
 
--- ---- a rule's name is added
+-- ---- adding the name of a rule
 
 pub nothing_kept : (names : NamePlaces) → IsEmpty names → (n : List ℕ) → kept_for names n ≡ None
 nothing_kept names empty n =
@@ -58,7 +58,7 @@ asks_for_other : (k : Kind) (r : Rule) (m n : List ℕ) → r.name ≡ Some m �
     → AsksNot k n r
 asks_for_other k r m n name other = rw (name, other) refl
 
--- the name is put in
+-- the name is inserted
 module _ (k : Kind) (rs : List Rule) (m : List ℕ) (old new : NamePlaces)
     (places : Vec ℕ Global) (put : (n : List ℕ)
     → get_by_text new n ≡ cond (bytes_eq m n) (Some places) (get_by_text old n)) where
@@ -93,7 +93,7 @@ module _ (k : Kind) (rs : List Rule) (m : List ℕ) (old new : NamePlaces)
       by_test true same h = cc
       by_test false other h = (h, asks_for_other k r m n name other)
 
--- ---- the rules at those places
+-- ---- the rules at these positions
 
 get_at : (front : List Rule) (r : Rule) (rs : List Rule)
     → slice_get (front ++ r ∷ rs) (length front) ≡ Some r
@@ -206,7 +206,7 @@ spoken-may d k r h = by_bool (is_of_kind r.kind d) is_kind is_other
         ∙ sym (not_both (same_kind r.kind k) (asks_for r.name (told_name k d))
         (by_bool (same_kind r.kind k) (differs p) (λ s. s)))
 
--- ---- masking by the rules that speak
+-- ---- masking by the rules that may apply
 
 unspoken : (r : Rule) (d : Doc) → speaks_of r d ≡ false → mask_by r d ≡ d
 unspoken r d h = rw h refl
@@ -268,7 +268,7 @@ no_rule_found [] i h = refl
 no_rule_found (x ∷ xs) zero h = absurd (omega arith)
 no_rule_found (x ∷ xs) (suc i) h = no_rule_found xs i (omega arith)
 
--- the rules that are left behind one
+-- the rules after a rule
 pub left_rules : (xs : List MaskRule) (i : ℕ) (r : MaskRule) → i < length xs
     → r ≡ slice_index_or xs i r → rules_of (drop i xs) ≡ rule_of r ∷ rules_of (drop (suc i) xs)
 left_rules [] i r h e = absurd (omega arith)

@@ -1,7 +1,7 @@
--- A masked document can be written where the document can.
+-- If a document is serialisable, so is the masked document.
 use Rattle.std.proofs.Common.{◌≡◌, ℕ, ◌≤◌, max, Bool, true, false, cond, not, ◌&&◌, ◌||◌, List, []}
 use Rattle.std.proofs.Common.{◌∷◌, leb, Ordering, Less, Equal, Greater, nat_cmp}
-use Rattle.std.proofs.Common.{refl, sym, ap, ◌∙◌, arith}
+use Rattle.std.proofs.Common.{IsUtf8, refl, sym, ap, ◌∙◌, arith}
 use Rattle.std.proofs.lemmas.Bool.{leb-true, le-leb}
 use Rattle.std.proofs.lemmas.Str.{IsUtf8-from_is_utf8, is_utf8-from_IsUtf8, IsUtf8-nil}
 use Rattle.std.specs.Cmp.Lexicographic.{slice_cmp}
@@ -15,11 +15,14 @@ use Rattle.dap_tree.specs.Doc.{change_items, has_id, items_have_id, members_have
 use Rattle.dap_tree.proofs.Booleans.{and_left, and_right, and_both}
 use Rattle.dap_profile.specs.PlaceSteps.{PlaceStep, named, each}
 use Rattle.dap_message.specs.Marks.{edit}
-use Rattle.dap_mask.specs.Rules.{Rule, of_verb, speaks_of}
+use Rattle.dap_mask.specs.Rules.{Rule, change_text, of_verb, speaks_of}
 use Rattle.dap_mask.specs.Masked.{mask_by, masked}
 use Rattle.dap_mask.specs.Texts.{digits, hex}
+use Rattle.dap_texts.specs.Long.{long}
+use Rattle.dap_texts.specs.Uuids.{uuid}
+use Rattle.dap_texts.proofs.Utf8.{long_utf8, uuid_utf8}
 use Rattle.dap_mask.specs.declared.rules.Verb.{Verb}
-use Rattle.dap_mask.specs.declared.rules.Verb.TheVariants.{Blank, Digits, Hex}
+use Rattle.dap_mask.specs.declared.rules.Verb.TheVariants.{Blank, Digits, Hex, Long, Uuid}
 use Rattle.dap_mask.proofs.Utf8.{digits_utf8, hex_utf8}
 
 -- ---- depth
@@ -45,6 +48,15 @@ items_shallow : (f : Doc → Doc) → Shallow f → (ds : Items) → items_depth
 items_shallow f h no_items = omega arith
 items_shallow f h (item d ds) = let a = h d in let b = items_shallow f h ds in omega (arith, a, b)
 
+text_shallow : (f : List ℕ → List ℕ) → Shallow (change_text f)
+text_shallow f (text s) = omega arith
+text_shallow f null = omega arith
+text_shallow f (boolean b) = omega arith
+text_shallow f (whole z) = omega arith
+text_shallow f (list ds) = omega arith
+text_shallow f (object ms) = omega arith
+text_shallow f (id s z) = omega arith
+
 verb_shallow : (v : Verb) → Shallow (of_verb v)
 verb_shallow Blank null = omega arith
 verb_shallow Blank (boolean b) = omega arith
@@ -53,20 +65,10 @@ verb_shallow Blank (text s) = omega arith
 verb_shallow Blank (list ds) = omega arith
 verb_shallow Blank (object ms) = omega arith
 verb_shallow Blank (id s z) = omega arith
-verb_shallow Digits (text s) = omega arith
-verb_shallow Digits null = omega arith
-verb_shallow Digits (boolean b) = omega arith
-verb_shallow Digits (whole z) = omega arith
-verb_shallow Digits (list ds) = omega arith
-verb_shallow Digits (object ms) = omega arith
-verb_shallow Digits (id s z) = omega arith
-verb_shallow Hex (text s) = omega arith
-verb_shallow Hex null = omega arith
-verb_shallow Hex (boolean b) = omega arith
-verb_shallow Hex (whole z) = omega arith
-verb_shallow Hex (list ds) = omega arith
-verb_shallow Hex (object ms) = omega arith
-verb_shallow Hex (id s z) = omega arith
+verb_shallow Digits d = text_shallow _ d
+verb_shallow Hex d = text_shallow _ d
+verb_shallow Long d = text_shallow _ d
+verb_shallow Uuid d = text_shallow _ d
 
 child_shallow : (k : List ℕ) (f : Doc → Doc) → Shallow f → Shallow (change_child k f)
 child_shallow k f h null = omega arith
@@ -96,7 +98,7 @@ edit_shallow v (each ∷ ps) = list_shallow (edit ps (of_verb v)) (edit_shallow 
 abbrev Keeps : (Doc → Bool) → (Doc → Doc) → Type 0
 Keeps T f = (d : Doc) → T d ≡ true → T (f d) ≡ true
 
--- a test that asks each name, and each part
+-- a test that checks each name and each part
 pub record Test : Type 0 where
   pub doc : Doc → Bool
   pub many : Items → Bool
@@ -210,6 +212,15 @@ utf8_test = record {
   of_object = λ ms. refl;
 }
 
+range_text : (f : List ℕ → List ℕ) → Keeps all_in_range (change_text f)
+range_text f (text s) g = g
+range_text f null g = g
+range_text f (boolean b) g = g
+range_text f (whole z) g = g
+range_text f (list ds) g = g
+range_text f (object ms) g = g
+range_text f (id s z) g = g
+
 range_verb : (v : Verb) → Keeps all_in_range (of_verb v)
 range_verb Blank null g = g
 range_verb Blank (boolean b) g = g
@@ -218,20 +229,20 @@ range_verb Blank (text s) g = g
 range_verb Blank (list ds) g = refl
 range_verb Blank (object ms) g = refl
 range_verb Blank (id s z) g = g
-range_verb Digits (text s) g = g
-range_verb Digits null g = g
-range_verb Digits (boolean b) g = g
-range_verb Digits (whole z) g = g
-range_verb Digits (list ds) g = g
-range_verb Digits (object ms) g = g
-range_verb Digits (id s z) g = g
-range_verb Hex (text s) g = g
-range_verb Hex null g = g
-range_verb Hex (boolean b) g = g
-range_verb Hex (whole z) g = g
-range_verb Hex (list ds) g = g
-range_verb Hex (object ms) g = g
-range_verb Hex (id s z) g = g
+range_verb Digits d g = range_text _ d g
+range_verb Hex d g = range_text _ d g
+range_verb Long d g = range_text _ d g
+range_verb Uuid d g = range_text _ d g
+
+utf8_text : (f : List ℕ → List ℕ) → ((s : List ℕ) → IsUtf8 s → IsUtf8 (f s))
+    → Keeps all_utf8 (change_text f)
+utf8_text f k (text s) g = is_utf8-from_IsUtf8 (f s) (k s (IsUtf8-from_is_utf8 s g))
+utf8_text f k null g = g
+utf8_text f k (boolean b) g = g
+utf8_text f k (whole z) g = g
+utf8_text f k (list ds) g = g
+utf8_text f k (object ms) g = g
+utf8_text f k (id s z) g = g
 
 utf8_verb : (v : Verb) → Keeps all_utf8 (of_verb v)
 utf8_verb Blank null g = g
@@ -241,21 +252,10 @@ utf8_verb Blank (text s) g = is_utf8-from_IsUtf8 [] IsUtf8-nil
 utf8_verb Blank (list ds) g = refl
 utf8_verb Blank (object ms) g = refl
 utf8_verb Blank (id s z) g = g
-utf8_verb Digits (text s) g =
-    is_utf8-from_IsUtf8 (digits s) (digits_utf8 s (IsUtf8-from_is_utf8 s g))
-utf8_verb Digits null g = g
-utf8_verb Digits (boolean b) g = g
-utf8_verb Digits (whole z) g = g
-utf8_verb Digits (list ds) g = g
-utf8_verb Digits (object ms) g = g
-utf8_verb Digits (id s z) g = g
-utf8_verb Hex (text s) g = is_utf8-from_IsUtf8 (hex s) (hex_utf8 s (IsUtf8-from_is_utf8 s g))
-utf8_verb Hex null g = g
-utf8_verb Hex (boolean b) g = g
-utf8_verb Hex (whole z) g = g
-utf8_verb Hex (list ds) g = g
-utf8_verb Hex (object ms) g = g
-utf8_verb Hex (id s z) g = g
+utf8_verb Digits d g = utf8_text digits digits_utf8 d g
+utf8_verb Hex d g = utf8_text hex hex_utf8 d g
+utf8_verb Long d g = utf8_text long long_utf8 d g
+utf8_verb Uuid d g = utf8_text uuid uuid_utf8 d g
 
 masked_shallow : (rs : List Rule) → Shallow (masked rs)
 masked_shallow [] d = omega arith
@@ -276,7 +276,7 @@ sound_masked rs d h =
 pub utf8_masked : (rs : List Rule) (d : Doc) → all_utf8 d ≡ true → all_utf8 (masked rs d) ≡ true
 utf8_masked rs d h = masked_keeps utf8_test utf8_verb rs d h
 
--- ---- no id comes in
+-- ---- masking adds no id
 
 not_either : (a b : Bool) → not (a || b) ≡ (not a && not b)
 not_either true b = refl
@@ -294,6 +294,15 @@ no_id_test = record {
   of_object = λ ms. refl;
 }
 
+no_id_text : (f : List ℕ → List ℕ) → Keeps (λ d. not (has_id d)) (change_text f)
+no_id_text f (text s) g = g
+no_id_text f null g = g
+no_id_text f (boolean b) g = g
+no_id_text f (whole z) g = g
+no_id_text f (list ds) g = g
+no_id_text f (object ms) g = g
+no_id_text f (id s z) g = g
+
 no_id_verb : (v : Verb) → Keeps (λ d. not (has_id d)) (of_verb v)
 no_id_verb Blank null g = g
 no_id_verb Blank (boolean b) g = g
@@ -302,20 +311,10 @@ no_id_verb Blank (text s) g = g
 no_id_verb Blank (list ds) g = refl
 no_id_verb Blank (object ms) g = refl
 no_id_verb Blank (id s z) g = g
-no_id_verb Digits (text s) g = g
-no_id_verb Digits null g = g
-no_id_verb Digits (boolean b) g = g
-no_id_verb Digits (whole z) g = g
-no_id_verb Digits (list ds) g = g
-no_id_verb Digits (object ms) g = g
-no_id_verb Digits (id s z) g = g
-no_id_verb Hex (text s) g = g
-no_id_verb Hex null g = g
-no_id_verb Hex (boolean b) g = g
-no_id_verb Hex (whole z) g = g
-no_id_verb Hex (list ds) g = g
-no_id_verb Hex (object ms) g = g
-no_id_verb Hex (id s z) g = g
+no_id_verb Digits d g = no_id_text _ d g
+no_id_verb Hex d g = no_id_text _ d g
+no_id_verb Long d g = no_id_text _ d g
+no_id_verb Uuid d g = no_id_text _ d g
 
 pub no_id_masked : (rs : List Rule) (d : Doc) → has_id d ≡ false → has_id (masked rs d) ≡ false
 no_id_masked rs d h = false_from (has_id (masked rs d))

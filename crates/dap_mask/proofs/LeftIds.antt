@@ -1,4 +1,4 @@
--- Rules that leave ids.
+-- Rules that do not change ids.
 use Rattle.std.proofs.Common.{◌≡◌, ◌⊎◌, inl, inr, ℕ, Bool, true, false, cond, not, ◌&&◌, List}
 use Rattle.std.proofs.Common.{[], ◌∷◌, Option, Some, None, option_map, refl, sym, ◌∙◌, ap}
 use Rattle.std.proofs.Common.{subst, true≢false}
@@ -23,7 +23,7 @@ use Rattle.std.specs.List.{slice_index_or}
 use Rattle.dap_mask.proofs.ByPath.{left_nothing, at-masked, none_from}
 use Rattle.dap_mask.proofs.Settled.{fits_same, kind_alike, name_alike}
 
--- a rule and a row that are both of the document meet
+-- if a rule and a row both apply to a document, they may apply to the same message
 both_meet : (r : Rule) (k : Option Kind) (n : Option (List ℕ)) (d : Doc) → speaks_of r d ≡ true
     → is_asked k n d ≡ true → meets r k n ≡ true
 both_meet r None n d h g = refl
@@ -43,7 +43,8 @@ both_meet r (Some k) (Some n) d h g =
     (has_name r.kind r.name d) h) (subst (λ j. has_name j (Some n) d ≡ true) (sym kinds.1)
     row_name))
 
--- so a rule that does not take the row's id leaves it, or what it stood in is gone
+-- a rule that does not take the id of a row keeps the id, or removes it with a value that contains
+-- it
 one_left : (r : Rule) (row : ProfileRow) (d : Doc) (p : List Step) (o : Option Doc) → takes_id r row
     ≡ false → wants_id row.want ≡ true → is_asked row.kind row.name d ≡ true
     → fits_place row.place p ≡ true
@@ -79,7 +80,7 @@ leaves_row (r ∷ rs) d p o row h wants asked fits =
       | inr e ↦ (inr (ap (left rs d p) e ∙ left_nothing rs d p))
     ]
 
--- ---- rules that take no id of the profile take none of one of its rows
+-- ---- rules without the place of an id of the profile, for each row
 
 takes_none_at : (r : Rule) (rows : List ProfileRow) (k : ℕ) (row : ProfileRow)
     → takes_id_of r rows ≡ false → k < length rows → takes_id r (slice_index_or rows k row) ≡ false

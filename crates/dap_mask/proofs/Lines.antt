@@ -1,4 +1,4 @@
--- Lines, names and steps, as the reader of a rules file takes them.
+-- Lines, names and steps, as the reader of a rules file processes them.
 use Rattle.std.proofs.Common.{◌≡◌, ℕ, suc, ◌+◌, ◌<◌, ◌≤◌, Bool, true, false, cond, not, ◌==◌}
 use Rattle.std.proofs.Common.{List, [], ◌∷◌, ◌++◌, length, refl, sym, ap, ap₂, ◌∙◌, arith, IsUtf8}
 use Rattle.std.proofs.lemmas.Str.{IsUtf8-nil, IsUtf8-append}
@@ -17,14 +17,14 @@ use Rattle.dap_mask.specs.RulesFile.{line_outcome, outcome_then, rules_from}
 use Rattle.dap_mask.specs.declared.fault.RulesCause.{RulesCause}
 use Rattle.dap_message.proofs.Edits.{by_bool}
 use Rattle.dap_profile.specs.PlaceSteps.{PlaceStep}
-use Rattle.dap_mask.proofs.Utf8.{ascii_one}
+use Rattle.dap_texts.proofs.Utf8.{ascii_one}
 use Rattle.dap_mask.specs.RuleText.{text_in, string_of, next_step, steps_from, step_then}
 use Rattle.dap_mask.specs.Rules.{step_of, place_of}
 use Rattle.dap_mask.specs.declared.rules.Step.{Step}
 use Rattle.dap_mask.specs.Runs.{has_class, is_plain, front, behind, lines_of, onto}
 use Rattle.dap_mask.specs.declared.runs.ByteClass.TheVariants.{InLine}
 
--- the lines behind the first one, from its line feed on
+-- the lines after the first line, given the text from its line feed on
 abbrev pub lines_behind : List ℕ → List (List ℕ)
 lines_behind [] = []
 lines_behind (b ∷ s) = lines_of s
@@ -53,7 +53,7 @@ behind_shorter class (b ∷ s) = go (class b) (behind_shorter class s)
 
 -- ---- names
 
--- plain bytes are text
+-- plain bytes are UTF-8
 plain_low : (b : ℕ) → is_plain b ≡ true → b < 128
 plain_low b h = grind (arith, h)
 
@@ -69,7 +69,7 @@ plain_utf8 (b ∷ s) = by_bool (is_plain b)
 abbrev pub Steps : Type 0
 Steps = List PlaceStep × List ℕ
 
--- steps in front of those that are left
+-- adds steps before the remaining steps
 abbrev pub with_steps : List PlaceStep → Steps → Steps
 with_steps ps r = (ps ++ r.0, r.1)
 
@@ -88,7 +88,7 @@ all_pushed : (steps : List Step) (step : Step) (o : Option Steps)
 all_pushed steps step None = refl
 all_pushed steps step (Some r) = ap Some (pushed steps step r)
 
--- the steps so far and those that are left, at one step more
+-- the steps so far and the remaining steps, after one more step
 pub steps_on : (steps : List Step) (step : Step) (n : ℕ) (rest behind : List ℕ) (p : PlaceStep
     × List ℕ)
     → next_step rest ≡ Some p → p.0 ≡ step_of step → p.1 ≡ behind
@@ -103,7 +103,7 @@ steps_on steps step n rest behind p e f g =
 abbrev steps_pair : List PlaceStep → List ℕ → Steps
 steps_pair ps s = (ps, s)
 
--- and where no step is left
+-- the same if no step remains
 pub steps_end : (steps : List Step) (n : ℕ) (rest : List ℕ) → next_step rest ≡ None
     → Some (steps_pair (place_of steps) rest)
     ≡ option_map (with_steps (place_of steps)) (steps_from (suc n) rest)
@@ -113,7 +113,7 @@ steps_end steps n rest e =
 
 -- ---- strings
 
--- what JSON text of a value is
+-- the string of a text, if the text is read as a JSON value
 pub string_is : (token : List ℕ) (d : json.Data) → IsUtf8 token → read token ≡ Some d
     → string_of token ≡ text_in (Some d)
 unfolding string_of
@@ -130,7 +130,7 @@ no_string token h = by_bool (is_utf8 token)
 pub quiet : {M : Type 0} (b : Bool) → ((b ≡ true → M) × (M → b ≡ true)) → b ≡ false → M → ⊥
 quiet b h e m = true≢false (sym (h.1 m) ∙ e)
 
--- ---- what lines say
+-- ---- the meaning of lines
 
 pub done_ok : {U : Type 0} (P : Type 0) (r : Result U RulesCause)
     → ((c : RulesCause) → r ≡ Err c → ⊥) → OnOk r P → P
@@ -146,13 +146,13 @@ lines_then m n s line o f e =
     ∙ ap (outcome_then n (λ k. rules_from k (suc n) (lines_behind (behind (has_class InLine) s))))
     (ap (line_outcome m) (sym f) ∙ e)
 
--- the first of them is refused
+-- the first line is rejected
 pub lines_err : (m : Mask) (n : ℕ) (s line : List ℕ) (c : RulesCause)
     → line ≡ front (has_class InLine) s → line_outcome m line ≡ Err c
     → rules_from m n (lines_of s) ≡ Err (record { line = n; cause = c })
 lines_err m n s line c f e = lines_then m n s line (Err c) f e
 
--- it is the last
+-- the first line is the last line
 pub lines_end : (m k : Mask) (n : ℕ) (s line b : List ℕ) → line ≡ front (has_class InLine) s
     → b ≡ behind (has_class InLine) s → length b < 1 → line_outcome m line ≡ Ok k
     → rules_from m n (lines_of s) ≡ Ok k
@@ -170,7 +170,7 @@ tail_is (x ∷ t) l =
     let e : length (x ∷ t) - 1 ≡ length t = omega arith in
     ap (λ i. take i t) e ∙ take-length t
 
--- others follow
+-- other lines follow
 pub lines_on : (m k : Mask) (n : ℕ) (s line b : List ℕ) → line ≡ front (has_class InLine) s
     → b ≡ behind (has_class InLine) s → 1 ≤ length b → line_outcome m line ≡ Ok k
     → rules_from k (n + 1) (lines_of (take (length b - 1) (drop 1 b)))
@@ -192,7 +192,7 @@ tail_shorter b r h l =
     let d = length-drop 1 b in
     omega (arith, t, d, h, l)
 
--- a front of so many bytes
+-- the length of a prefix of n bytes
 pub taken_len : (n : ℕ) (s : List ℕ) → n < length s → n ≡ length (take n s)
 taken_len n s h = let t = length-take n s in omega (arith, t, h)
 

@@ -1,5 +1,5 @@
--- What is read loosely: it is one document, in order, of UTF-8 and without ids; and what is left of
--- it is read from its own text.
+-- A content read loosely: the document is unique, in order, in UTF-8 and without ids. The text of
+-- the masked document is read as the same document.
 use Rattle.std.proofs.Common.{◌≡◌, ◌⊎◌, inl, inr, ℕ, true, false, ◌&&◌, List, Some, refl, sym}
 use Rattle.std.proofs.Common.{ap, ap₂, ◌∙◌, subst, nat_cmp}
 use Rattle.std.specs.Cmp.Lexicographic.{slice_cmp}
@@ -98,7 +98,7 @@ pub loosely_ordered : (bytes : List ℕ) (d : Doc) → IsReadLoosely bytes d →
 loosely_ordered bytes d (v, reads, is) =
     ap is_ordered is ∙ ordered_loose v ∙ ordered_read bytes v reads.1
 
--- Each content is read so, or is no JSON text.
+-- Each content is read loosely, or is not JSON text.
 pub some_loose_reading : (bytes : List ℕ) → ((d : Doc) × IsReadLoosely bytes d)
     ⊎ HasNoReading bytes
 some_loose_reading bytes = by_outcome (some_outcome bytes).0 (some_outcome bytes).1
@@ -116,7 +116,7 @@ loosely_utf8 bytes d (v, reads, is) =
 loosely_no_id : (bytes : List ℕ) (d : Doc) → IsReadLoosely bytes d → has_id d ≡ false
 loosely_no_id bytes d (v, reads, is) = ap has_id is ∙ no_id_loose v
 
--- ---- what is left of a content
+-- ---- the result of masking a content
 
 mutual
   ranged_no_id : (d : Doc) → has_id d ≡ false → ids_in_range d ≡ true
@@ -154,7 +154,7 @@ left_is_read mask bytes e (d, read, (kept, is, sound)) =
     subst (IsRead (text_of e)) (without_no_id e no_id)
     (text_is_read e sound (ranged_no_id e no_id) ordered utf8)
 
--- ---- all that is promised
+-- ---- all guarantees
 
 pub content_masked : (rules : List Rule) (bytes : List ℕ) (d : Doc) → are_safe rules ≡ true
     → are_settled rules ≡ true → leave_ids rules ≡ true → IsReadLoosely bytes d

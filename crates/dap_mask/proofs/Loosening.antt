@@ -1,4 +1,4 @@
--- A content without rules is what it is read as.
+-- Without rules, the result is the document that the content represents.
 use Rattle.std.proofs.Common.{◌≡◌, ◌∙◌, ℕ, ℤ, pos, negsuc, true, false, not}
 use Rattle.std.proofs.Common.{Bool, List, [], ◌&&◌, Some, nat_le, refl, sym, ap, ap₂, subst}
 use Rattle.std.proofs.Common.{◌∷◌, ◌++◌, string_bytes, string_cmp, nat_cmp}
@@ -33,7 +33,7 @@ use Rattle.dap_mask.specs.Rules.{is_dropped}
 use Rattle.dap_message.specs.Rows.{is_of_kind}
 use Rattle.dap_profile.specs.declared.profile.Kind.TheVariants.{Event}
 
--- ---- what a document is written as is it again
+-- ---- the JSON value of a document represents this document
 
 loose_integer : (z : ℤ) → loose_number (of_integer z) ≡ z
 loose_integer (pos n) = refl
@@ -61,7 +61,7 @@ mutual
       ap₂ (member k) (loose_data d (or_left _ _ h))
       (loose_members_data ms (or_right (has_id d) _ h))
 
--- ---- a value whose document is in range is written from it
+-- ---- a value whose document is in range is the JSON value of this document
 
 data_number : (n : Num) → is_kept n ≡ true → all_in_range (whole (loose_number n)) ≡ true
     → of_integer (loose_number n) ≡ n
@@ -138,7 +138,7 @@ unmasked_is_read bytes d = (to, from)
       (none_dropped d, refl, and_left (is_sound d) (not (has_id d)) (read_is_plain bytes d r)),
     )
 
--- ---- a value as it is read: one more item, and one more member
+-- ---- a value during parsing: one more element, and one more member
 
 abbrev snoc : Items → Doc → Items
 snoc no_items d = item d no_items
@@ -184,6 +184,6 @@ loose_insert done p left es t ordered before one =
 
 -- ---- contents
 
--- what is read as it is, is read loosely as it is
+-- a content that is read as a document is read loosely as the same document
 pub read_loose : (bytes : List ℕ) (d : Doc) → IsRead bytes d → IsReadLoosely bytes d
 read_loose bytes d r = (data_of d, r.0, sym (loose_data d r.1))

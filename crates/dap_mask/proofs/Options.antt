@@ -1,4 +1,4 @@
--- What an option says of its parts.
+-- Lemmas about options.
 use Rattle.std.proofs.Common.{◌≡◌, Bool, true, false, cond, Option, Some, None, option_map}
 use Rattle.std.proofs.Common.{option_and_then, refl}
 use Rattle.std.proofs.lemmas.Option.{none-some, same_Some}

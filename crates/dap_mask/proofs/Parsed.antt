@@ -1,4 +1,5 @@
--- What a line is parsed as is what the grammar reads in it, and the parser and the grammar agree.
+-- The result of the parser for a line is correct by the grammar. With the converse, the parser and
+-- the grammar agree.
 use Rattle.std.proofs.Common.{◌≡◌, ℕ, suc, Bool, true, false, cond, ◌==◌, ◌&&◌, List, [], ◌∷◌}
 use Rattle.std.proofs.Common.{◌++◌, length, Option, Some, None, option_map, option_and_then, refl}
 use Rattle.std.proofs.Common.{sym, ap, ap₂, ◌∙◌, subst, true≢false, append_assoc, bytes_eq}
@@ -23,7 +24,7 @@ use Rattle.dap_mask.specs.Rules.{Rule, same_kind}
 use Rattle.dap_mask.specs.Runs.{is_blank, is_plain, front, behind, gap, is_end}
 use Rattle.dap_mask.specs.Swaps.{Half, SwapRule}
 use Rattle.dap_mask.specs.declared.rules.Verb.{Verb}
-use Rattle.dap_mask.specs.declared.rules.Verb.TheVariants.{Blank, Digits, Hex}
+use Rattle.dap_mask.specs.declared.rules.Verb.TheVariants.{Blank, Digits, Hex, Long, Uuid}
 use Rattle.dap_mask.proofs.Blanks.{run_split, run_all, run_begins, gap_found, end_read, end_found}
 use Rattle.dap_mask.proofs.Lines.{Steps}
 use Rattle.dap_mask.proofs.Options.{mapped, bound, if_true, if_false}
@@ -31,7 +32,7 @@ use Rattle.dap_mask.proofs.Parsing.{any_by, place_on, then_step, with_kind, kind
 use Rattle.dap_mask.proofs.Parsing.{leave_out_on, half_on, swap_on, rule_read}
 use Rattle.dap_mask.proofs.Quoted.{quoted_found}
 
--- what was read, and the rest
+-- the result of a parser, and the rest of the text
 abbrev NameRest : Type 0
 NameRest = List ℕ × List ℕ
 
@@ -118,7 +119,7 @@ each_found (b ∷ s) step rest h =
       ap₂ (λ x t. x ∷ t) (eqb-true b 93 i.0) (ap (λ (q : StepRest). q.1) p),
     )
 
--- a first step, in front of further ones
+-- a first step, before further steps
 member_found : (s : List ℕ) (step : PlaceStep) (next more rest : List ℕ) (steps : List PlaceStep)
     → option_map member_step (name_at s) ≡ Some (step, next) → next ≡ more ++ rest
     → AreSteps more steps → HasSteps (46 ∷ s) (step ∷ steps) rest
@@ -229,23 +230,40 @@ kind_found : (w : List ℕ) (k : Kind) → kind_named w ≡ Some k → w ≡ kin
 kind_found w k h = kind_is w k (bytes_eq w (codes "request")) (bytes_eq w (codes "response"))
     (bytes_eq w (codes "event")) refl refl refl h
 
-abbrev verb_if : Bool → Bool → Bool → Option Verb
-verb_if a b c = cond a (Some Blank) (cond b (Some Digits) (cond c (Some Hex) None))
+abbrev verb_if : Bool → Bool → Bool → Bool → Bool → Option Verb
+verb_if a b c d e = cond a (Some Blank) (cond b (Some Digits) (cond c (Some Hex)
+    (cond d (Some Long) (cond e (Some Uuid) None))))
 
-verb_is : (w : List ℕ) (v : Verb) (a b c : Bool) → bytes_eq w (codes "blank") ≡ a
-    → bytes_eq w (codes "digits") ≡ b → bytes_eq w (codes "hex") ≡ c
-    → verb_if a b c ≡ Some v → w ≡ verb_word v
-verb_is w v true b c e f g h =
-    same_word w (codes "blank") e ∙ ap verb_word (same_Some Blank v h)
-verb_is w v false true c e f g h =
-    same_word w (codes "digits") f ∙ ap verb_word (same_Some Digits v h)
-verb_is w v false false true e f g h =
-    same_word w (codes "hex") g ∙ ap verb_word (same_Some Hex v h)
-verb_is w v false false false e f g h = absurd (none-some v h)
+pub record VerbTests (w : List ℕ) (a b c d e : Bool) : Type 0 where
+  pub blank : bytes_eq w (codes "blank") ≡ a
+  pub digits : bytes_eq w (codes "digits") ≡ b
+  pub hex : bytes_eq w (codes "hex") ≡ c
+  pub long : bytes_eq w (codes "long") ≡ d
+  pub uuid : bytes_eq w (codes "uuid") ≡ e
+
+verb_is : (w : List ℕ) (v : Verb) (a b c d e : Bool) → VerbTests w a b c d e
+    → verb_if a b c d e ≡ Some v → w ≡ verb_word v
+verb_is w v true b c d e t h =
+    same_word w (codes "blank") t.blank ∙ ap verb_word (same_Some Blank v h)
+verb_is w v false true c d e t h =
+    same_word w (codes "digits") t.digits ∙ ap verb_word (same_Some Digits v h)
+verb_is w v false false true d e t h =
+    same_word w (codes "hex") t.hex ∙ ap verb_word (same_Some Hex v h)
+verb_is w v false false false true e t h =
+    same_word w (codes "long") t.long ∙ ap verb_word (same_Some Long v h)
+verb_is w v false false false false true t h =
+    same_word w (codes "uuid") t.uuid ∙ ap verb_word (same_Some Uuid v h)
+verb_is w v false false false false false t h = absurd (none-some v h)
 
 verb_found : (w : List ℕ) (v : Verb) → verb_named w ≡ Some v → w ≡ verb_word v
 verb_found w v h = verb_is w v (bytes_eq w (codes "blank")) (bytes_eq w (codes "digits"))
-    (bytes_eq w (codes "hex")) refl refl refl h
+    (bytes_eq w (codes "hex")) (bytes_eq w (codes "long")) (bytes_eq w (codes "uuid")) (record {
+      blank = refl;
+      digits = refl;
+      hex = refl;
+      long = refl;
+      uuid = refl;
+    }) h
 
 -- the words of a head, with the gaps before them
 abbrev HasHead : List ℕ → Head → Type 0
@@ -279,7 +297,7 @@ head_found s u e =
     ) in
     subst (HasHead s) m.2 found
 
--- the words of a head in front of others
+-- the words of a head, before other words
 head_goes : (s : List ℕ) (u : Head) (ws : List (List ℕ)) (f : HasHead s u) → GoesOn ws u.2
     → GoesOn (kind_word u.0 ∷ f.2 ∷ ws) s
 head_goes s u ws f on =
@@ -287,7 +305,7 @@ head_goes s u ws f on =
 
 -- ---- rules
 
--- the words behind the first one, of a rule
+-- the words of a rule after its first word
 abbrev HasRule : List ℕ → List ℕ → Statement → Type 0
 HasRule w s st = (ws : List (List ℕ)) × GoesOn ws s × AreWordsOf (w ∷ ws) st
 

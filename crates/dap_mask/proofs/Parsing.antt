@@ -1,4 +1,4 @@
--- A line that the grammar reads as something is parsed as it.
+-- The parser returns the meaning that the grammar gives a line.
 use Rattle.std.proofs.Common.{◌≡◌, ℕ, suc, ◌<◌, Bool, true, false, cond, ◌==◌, ◌&&◌}
 use Rattle.std.proofs.Common.{◌||◌, List, [], ◌∷◌, ◌++◌, length, Option, Some, None, option_map}
 use Rattle.std.proofs.Common.{option_and_then, refl, sym, ap, ap₂, ◌∙◌, subst, true≢false, arith}
@@ -24,7 +24,7 @@ use Rattle.dap_mask.specs.Runs.{is_blank, is_plain, behind, gap, is_over, is_end
 use Rattle.dap_mask.specs.Swaps.{Half, SwapRule}
 use Rattle.dap_mask.specs.Texts.{all_of, begins_with}
 use Rattle.dap_mask.specs.declared.rules.Verb.{Verb}
-use Rattle.dap_mask.specs.declared.rules.Verb.TheVariants.{Blank, Digits, Hex}
+use Rattle.dap_mask.specs.declared.rules.Verb.TheVariants.{Blank, Digits, Hex, Long, Uuid}
 use Rattle.dap_mask.proofs.Blanks.{front_run, behind_run, not_zero, differs, NoBlank, blank_fails}
 use Rattle.dap_mask.proofs.Blanks.{gap_stops, gap_read, end_read, NoEnd, end_stops, words_stop}
 use Rattle.dap_mask.proofs.Lines.{Steps}
@@ -32,7 +32,7 @@ use Rattle.dap_mask.proofs.Quoted.{quoted_read}
 
 -- ---- names
 
--- a byte with which a name begins
+-- a byte with which a name starts
 abbrev pub is_opening : ℕ → Bool
 is_opening b = is_plain b || (b == 34)
 
@@ -109,7 +109,7 @@ any_not_blank n (Some k) rest c =
 
 -- ---- places
 
--- a byte with which a place may go on
+-- a byte with which a place may continue
 abbrev goes_on : ℕ → Bool
 goes_on b = is_plain b || ((b == 46) || (b == 91))
 
@@ -197,7 +197,7 @@ place_opens (each ∷ steps) p c = absurd c
 place_opens (named name ∷ steps) p (n, more, is, c, on) =
     ap (begins_with is_opening) is ∙ opens_longer n more (name_opens c)
 
--- ---- words that are fixed
+-- ---- fixed words
 
 kind_plain : (k : Kind) → all_of is_plain (kind_word k) ≡ true
 kind_plain Request = refl
@@ -218,11 +218,15 @@ verb_plain : (v : Verb) → all_of is_plain (verb_word v) ≡ true
 verb_plain Blank = refl
 verb_plain Digits = refl
 verb_plain Hex = refl
+verb_plain Long = refl
+verb_plain Uuid = refl
 
 verb_begins : (v : Verb) → begins_with is_plain (verb_word v) ≡ true
 verb_begins Blank = refl
 verb_begins Digits = refl
 verb_begins Hex = refl
+verb_begins Long = refl
+verb_begins Uuid = refl
 
 -- ---- heads
 
@@ -235,7 +239,7 @@ kind_on rest k = option_and_then (name_behind k) (gap rest)
 abbrev pub kind_by : List ℕ → List ℕ → Option Head
 kind_by word rest = option_and_then (kind_on rest) (kind_named word)
 
--- what follows the name, where the head of a rule comes
+-- the text after the name, if the text starts with the head of a rule
 pub record HeadRead (k : Kind) (name : Option (List ℕ)) (ws : List (List ℕ))
     (s : List ℕ) : Type 0 where
   pub rest : List ℕ
@@ -329,7 +333,7 @@ not_over : (w s : List ℕ) → begins_with is_plain w ≡ true → is_over (w +
 not_over [] s b = absurd (true≢false (sym b))
 not_over (x ∷ w) s b = differs is_plain x 35 b refl
 
--- a line that begins with such a word, by what follows the word
+-- a line that starts with a plain word, by the text after the word
 words_read : (l w : List ℕ) (ws : List (List ℕ)) (st : Statement) (on : HasWords (w ∷ ws) l)
     → begins_with is_plain w ≡ true → all_of is_plain w ≡ true
     → statement_by w on.1 ≡ Some st → line_said l ≡ rule st
@@ -345,6 +349,8 @@ verb_read : (v : Verb) (s : List ℕ) → statement_by (verb_word v) s ≡ chang
 verb_read Blank s = refl
 verb_read Digits s = refl
 verb_read Hex s = refl
+verb_read Long s = refl
+verb_read Uuid s = refl
 
 says_words : (l : List ℕ) (st : Statement) (ws : List (List ℕ)) → AreWordsOf ws st
     → HasWords ws l → line_said l ≡ rule st

@@ -1,4 +1,4 @@
--- Where a JSON string at the front of a text ends.
+-- The end of a JSON string with which a text starts.
 use Rattle.std.proofs.Common.{◌≡◌, ℕ, suc, Bool, true, false, cond, ◌==◌, ◌&&◌, List, []}
 use Rattle.std.proofs.Common.{◌∷◌, ◌++◌, length, take, drop, Option, Some, None, option_map, refl}
 use Rattle.std.proofs.Common.{sym, ap, ap₂, ◌∙◌, subst, append_assoc, true≢false}
@@ -32,7 +32,7 @@ ClosedIn true s = Closed (92 ∷ s)
 abbrev closed_if : Bool → Bool → List ℕ → Bool
 closed_if quote backslash s = cond (quote && true) true (is_closed (backslash && true) s)
 
--- by the first byte, which no backslash escapes
+-- by cases of the first byte, which no backslash escapes
 closed_byte : (b : ℕ) (s : List ℕ) (q e : Bool) → (b == 34) ≡ q → (b == 92) ≡ e
     → closed_if q e s ≡ true → (is_closed true s ≡ true → Closed (92 ∷ s))
     → (is_closed false s ≡ true → Closed s) → Closed (b ∷ s)
@@ -83,7 +83,7 @@ inside_closed (other {b} {s} q e i) rest =
     ap₂ (λ p c. closed_if p c ((s ++ 34 ∷ []) ++ rest)) (ne_eqb b 34 q) (ne_eqb b 92 e)
     ∙ inside_closed i rest
 
--- a string with such a text behind its first quote, and what follows it
+-- the string with this content after its opening quote, and the rest of the text
 abbrev with_rest : List ℕ → List ℕ → List ℕ × List ℕ
 with_rest rest name = (name, rest)
 
@@ -111,7 +111,7 @@ quoted_read {inside} i name rest r =
     ∙ ap (option_map (with_rest rest))
     (string_is (34 ∷ (inside ++ 34 ∷ [])) (json.string name) r.0 r.1)
 
--- ---- a string at the front
+-- ---- a string at the start of a text
 
 text_is : (o : Option json.Data) (name : List ℕ) → text_in o ≡ Some name
     → o ≡ Some (json.string name)

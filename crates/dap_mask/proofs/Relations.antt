@@ -1,4 +1,4 @@
--- What is said of `digits` and `hex` in the subject's words is what the functions make.
+-- The relations for `digits` and `hex` agree with the functions.
 use Rattle.std.proofs.Common.{◌≡◌, ℕ, ◌==◌, true, false, List, [], ◌∷◌, ◌++◌}
 use Rattle.std.proofs.Common.{refl, sym, ap, ap₂, ◌∙◌, subst, true≢false}
 use Rattle.std.specs.Char.{is_ascii_digit, is_ascii_hexdigit}
@@ -11,7 +11,7 @@ use Rattle.dap_mask.proofs.Squeezed.{begins_zero}
 
 -- ---- digits
 
--- behind a digit, what does not begin with one is squeezed as anywhere
+-- after a digit, the result for a text that does not start with a digit is the usual one
 outside_here : (s : List ℕ) → begins_with is_ascii_digit s ≡ false → digits_from true s
     ≡ digits_from false s
 outside_here [] h = refl
@@ -36,7 +36,7 @@ digits_from_said (other {b} {s} {t} h r) = rw h (ap (λ u. b ∷ u) (digits_from
 digits_from_said (run {u} {s} {t} ds e h r) = ap (λ x. 48 ∷ x) (digits_from_said r)
     ∙ sym (run_squeezed ds s h) ∙ ap digits (sym e)
 
--- where the run that goes on ends, and what is said of the rest
+-- the end of the current run, and the relation for the rest
 pub record DigitsEnd (s t : List ℕ) : Type 0 where
   pub digits : List ℕ
   pub rest : List ℕ
@@ -105,7 +105,7 @@ begins_no : (b : ℕ) (s : List ℕ) → is_ascii_hexdigit b ≡ false → begin
 begins_no b s h = by_bool (begins_hex b s)
     (λ k. absurd (true≢false (ap is_ascii_hexdigit (sym (begins_zero b s k)) ∙ h))) (λ k. k)
 
--- behind a number, what does not go on with it is as anywhere
+-- after a number, the result for a text that does not continue the number is the usual one
 outside_number : (s : List ℕ) → begins_with is_ascii_hexdigit s ≡ false → in_number s ≡ hex s
 outside_number [] h = refl
 outside_number (b ∷ s) h = rw (h, begins_no b s h) refl
@@ -124,7 +124,7 @@ hex_from_said (other {b} {s} {t} h r) = rw h (ap (λ u. b ∷ u) (hex_from_said 
 hex_from_said (number {u} {s} {t} x ds e k h r) = ap (λ y. 48 ∷ 120 ∷ 48 ∷ y) (hex_from_said r)
     ∙ sym (hex_squeezed x ds s k h) ∙ ap hex (sym e)
 
--- where the number that goes on ends, and what is said of the rest
+-- the end of the current number, and the relation for the rest
 pub record NumberEnd (s t : List ℕ) : Type 0 where
   pub digits : List ℕ
   pub rest : List ℕ

@@ -1,4 +1,4 @@
--- Rules with one more behind them.
+-- Rules followed by one more rule.
 use Rattle.std.proofs.Common.{◌≡◌, Bool, true, false, cond, not, ◌||◌, List, [], ◌∷◌, ◌++◌}
 use Rattle.std.proofs.Common.{Option, Some, None, map, option_map, string_bytes, refl, ap}
 use Rattle.std.proofs.Common.{nat_le, String}
@@ -9,10 +9,10 @@ use Rattle.dap_mask.specs.Ids.{takes_profile_id, leave_ids}
 use Rattle.dap_mask.specs.Mask.{Mask, change, rule_count}
 use Rattle.dap_mask.specs.Rules.{Rule, rule_of, rules_of, is_telling_place, are_safe, are_settled}
 use Rattle.dap_mask.specs.Rules.{clash, clashes_with, is_clashed_with, is_among}
-use Rattle.dap_mask.specs.RulesFile.{change_cause, cause_against}
+use Rattle.dap_mask.specs.RulesFile.{clash_cause, cause_of_pair, change_cause, cause_against}
 use Rattle.dap_mask.specs.declared.rules.MaskRule.{MaskRule}
 use Rattle.dap_mask.specs.declared.fault.RulesCause.TheVariants.{TooMany, BadPlace, Repeated}
-use Rattle.dap_mask.specs.declared.fault.RulesCause.TheVariants.{DigitsBehindHex}
+use Rattle.dap_mask.specs.declared.fault.RulesCause.{RulesCause}
 
 not_true : (b : Bool) → not b ≡ true → b ≡ false
 not_true true h = cc
@@ -31,14 +31,14 @@ pub names_push : (xs : List (Option (String Global))) (x : Option (String Global
 names_push [] x = refl
 names_push (y ∷ xs) x = ap (λ ns. option_map string_bytes y ∷ ns) (names_push xs x)
 
--- a test of rules holds behind a push, whether or not it had memory
+-- a test of rules holds after a push, whether or not its allocation succeeded
 pub pushed_keeps : (b : Bool) (xs : List MaskRule) (x : MaskRule) (ys : List MaskRule)
     → ys ≡ cond b (xs ++ x ∷ []) xs → (test : List Rule → Bool) → test (rules_of xs) ≡ true
     → test (rules_of xs ++ rule_of x ∷ []) ≡ true → test (rules_of ys) ≡ true
 pushed_keeps true xs x ys e test h more = ap test (ap rules_of e ∙ rules_push xs x) ∙ more
 pushed_keeps false xs x ys e test h more = ap (λ zs. test (rules_of zs)) e ∙ h
 
--- ---- what a rule that may stand there keeps
+-- ---- the invariants hold after adding a rule that has no error
 
 pub safe_more : (rs : List Rule) (r : Rule) → are_safe rs ≡ true → is_telling_place r.place ≡ false
     → are_safe (rs ++ r ∷ []) ≡ true
@@ -72,28 +72,35 @@ settled_more (q ∷ rs) r h g =
     (settled_more rs r (and_right (not (clashes_with q rs)) (are_settled rs) h)
     (or_right (clash q r) (is_clashed_with rs r) g))
 
--- ---- a rule that nothing is against
+-- ---- a rule that has no error
 
 pub record MayStand (rs : List Rule) (r : Rule) : Type 0 where
   pub safe : is_telling_place r.place ≡ false
   pub leaves : takes_profile_id r ≡ false
   pub settled : is_clashed_with rs r ≡ false
 
+-- if `clash_cause` returns `None` for a rule, no rule clashes with it
+no_clash : (rs : List Rule) (r : Rule) → clash_cause rs r ≡ None → is_clashed_with rs r ≡ false
+no_clash [] r h = refl
+no_clash (q ∷ rs) r h = go (clash q r) (cause_of_pair q.verb r.verb) (no_clash rs r) h
+  where
+    go : (a : Bool) (c : RulesCause)
+        → (clash_cause rs r ≡ None → is_clashed_with rs r ≡ false)
+        → cond a (Some c) (clash_cause rs r) ≡ None → (a || is_clashed_with rs r) ≡ false
+    go true c more k = cc
+    go false c more k = more k
+
 may_stand : (rs : List Rule) (r : Rule) → change_cause rs r ≡ None → MayStand rs r
 may_stand rs r h =
-    go (is_telling_place r.place) (takes_profile_id r) (is_among r rs) (is_clashed_with rs r) refl
-    refl refl h
+    go (is_telling_place r.place) (takes_profile_id r) (is_among r rs) refl refl h
   where
-    go : (a b c d : Bool) → is_telling_place r.place ≡ a → takes_profile_id r ≡ b
-        → is_clashed_with rs r ≡ d
-        → cond (a || b) (Some BadPlace)
-        (cond c (Some Repeated) (cond d (Some DigitsBehindHex) None)) ≡ None
+    go : (a b c : Bool) → is_telling_place r.place ≡ a → takes_profile_id r ≡ b
+        → cond (a || b) (Some BadPlace) (cond c (Some Repeated) (clash_cause rs r)) ≡ None
         → MayStand rs r
-    go true b c d p q t k = cc
-    go false true c d p q t k = cc
-    go false false true d p q t k = cc
-    go false false false true p q t k = cc
-    go false false false false p q t k = record { safe = p; leaves = q; settled = t }
+    go true b c p q k = cc
+    go false true c p q k = cc
+    go false false true p q k = cc
+    go false false false p q k = record { safe = p; leaves = q; settled = no_clash rs r k }
 
 pub change_may_stand : (m : Mask) (r : Rule) → cause_against m (change r) ≡ None
     → MayStand m.changes r

@@ -1,4 +1,4 @@
--- Masked again, a document is what it was.
+-- Masking a masked document again does not change it.
 use Rattle.std.proofs.Common.{◌≡◌, ℕ, Bool, true, false, cond, not, ◌&&◌, List, [], ◌∷◌}
 use Rattle.std.proofs.Common.{Option, Some, None, option_map, codes, refl, sym, ◌∙◌, ap}
 use Rattle.std.proofs.Common.{bytes_eq, subst, true≢false}
@@ -17,8 +17,15 @@ use Rattle.dap_mask.specs.Rules.{speaks_of, same_place, same_kind, share_name, u
 use Rattle.dap_mask.specs.Rules.{clash, clashes_with, are_safe, are_settled}
 use Rattle.dap_mask.specs.Masked.{is_below, left_by, left, masked}
 use Rattle.dap_mask.specs.Texts.{digits, hex}
+use Rattle.dap_texts.specs.Long.{long}
+use Rattle.dap_texts.specs.Uuids.{uuid}
+use Rattle.dap_texts.proofs.ClearedUuids.{uuid_twice}
+use Rattle.dap_texts.proofs.HexPairs.{long_after_hex, uuid_after_hex}
+use Rattle.dap_texts.proofs.LongPairs.{uuid_after_long}
+use Rattle.dap_texts.proofs.LongRuns.{long_twice}
+use Rattle.dap_texts.proofs.Settled.{digits_after_long, long_after_digits}
 use Rattle.dap_mask.specs.declared.rules.Verb.{Verb}
-use Rattle.dap_mask.specs.declared.rules.Verb.TheVariants.{Blank, Digits, Hex}
+use Rattle.dap_mask.specs.declared.rules.Verb.TheVariants.{Blank, Digits, Hex, Long, Uuid}
 use Rattle.dap_mask.proofs.Squeezed.{digits_twice, hex_twice, digits_behind_hex}
 use Rattle.dap_mask.proofs.ByPath.{at-masked, spoken-masked, left-same, left-alike}
 use Rattle.dap_mask.proofs.ByPath.{ordered-masked, same_paths}
@@ -48,6 +55,8 @@ verb_twice : (v : Verb) (d : Doc) → of_verb v (of_verb v d) ≡ of_verb v d
 verb_twice Blank d = blank_twice d
 verb_twice Digits d = text_twice digits digits_twice d
 verb_twice Hex d = text_twice hex hex_twice d
+verb_twice Long d = text_twice long long_twice d
+verb_twice Uuid d = text_twice uuid uuid_twice d
 
 text_same : (s t : List ℕ) → text s ≡ text t → s ≡ t
 text_same s t h = cc
@@ -71,28 +80,48 @@ text_behind f e (list ds) = refl
 text_behind f e (object ms) = refl
 text_behind f e (id s z) = refl
 
-hex_between : (d : Doc) → change_text digits d ≡ d → change_text digits (change_text hex d)
-    ≡ change_text hex d
-hex_between null h = refl
-hex_between (boolean b) h = refl
-hex_between (whole z) h = refl
-hex_between (text s) h = ap text (digits_behind_hex s (text_same (digits s) s h))
-hex_between (list ds) h = refl
-hex_between (object ms) h = refl
-hex_between (id s z) h = refl
+abbrev StaysText : (List ℕ → List ℕ) → (List ℕ → List ℕ) → Type 0
+StaysText f g = (s : List ℕ) → f s ≡ s → f (g s) ≡ g s
 
--- what one verb leaves, it leaves behind another that does not unsettle it
+text_stays : (f g : List ℕ → List ℕ) → StaysText f g → (d : Doc) → change_text f d ≡ d
+    → change_text f (change_text g d) ≡ change_text g d
+text_stays f g k null h = refl
+text_stays f g k (boolean b) h = refl
+text_stays f g k (whole z) h = refl
+text_stays f g k (text s) h = ap text (k s (text_same (f s) s h))
+text_stays f g k (list ds) h = refl
+text_stays f g k (object ms) h = refl
+text_stays f g k (id s z) h = refl
+
+-- if a verb does not change a value, it does not change the result of another verb that does not
+-- unsettle it
 verb_stays : (v w : Verb) (d : Doc) → unsettles v w ≡ false → of_verb v d ≡ d
     → of_verb v (of_verb w d) ≡ of_verb w d
 verb_stays Blank Blank d h k = blank_twice d
 verb_stays Blank Digits d h k = blank_behind digits refl d k
 verb_stays Blank Hex d h k = blank_behind hex refl d k
+verb_stays Blank Long d h k = blank_behind long refl d k
+verb_stays Blank Uuid d h k = blank_behind uuid refl d k
 verb_stays Digits Blank d h k = text_behind digits refl d
 verb_stays Digits Digits d h k = verb_twice Digits d
-verb_stays Digits Hex d h k = hex_between d k
+verb_stays Digits Hex d h k = text_stays digits hex digits_behind_hex d k
+verb_stays Digits Long d h k = text_stays digits long digits_after_long d k
+verb_stays Digits Uuid d h k = cc
 verb_stays Hex Blank d h k = text_behind hex refl d
 verb_stays Hex Digits d h k = cc
 verb_stays Hex Hex d h k = verb_twice Hex d
+verb_stays Hex Long d h k = cc
+verb_stays Hex Uuid d h k = cc
+verb_stays Long Blank d h k = text_behind long refl d
+verb_stays Long Digits d h k = text_stays long digits long_after_digits d k
+verb_stays Long Hex d h k = text_stays long hex long_after_hex d k
+verb_stays Long Long d h k = verb_twice Long d
+verb_stays Long Uuid d h k = cc
+verb_stays Uuid Blank d h k = text_behind uuid refl d
+verb_stays Uuid Digits d h k = cc
+verb_stays Uuid Hex d h k = text_stays uuid hex uuid_after_hex d k
+verb_stays Uuid Long d h k = text_stays uuid long uuid_after_long d k
+verb_stays Uuid Uuid d h k = verb_twice Uuid d
 
 map_stays : (v w : Verb) (o : Option Doc) → unsettles v w ≡ false → option_map (of_verb v) o ≡ o
     → option_map (of_verb v) (option_map (of_verb w) o) ≡ option_map (of_verb w) o
@@ -104,8 +133,7 @@ map_twice : (v : Verb) (o : Option Doc) → option_map (of_verb v) (option_map (
 map_twice v None = refl
 map_twice v (Some d) = ap Some (verb_twice v d)
 
--- ---- two rules that speak of one place of a document clash where the later one unsettles the
--- earlier one
+-- ---- two rules for the same place of a document clash if the later one unsettles the earlier one
 
 pub fits_same : (ps qs : List PlaceStep) (p : List Step) → fits_place ps p ≡ true → fits_place qs p
     ≡ true → same_place ps qs ≡ true
@@ -183,10 +211,10 @@ does_not_unsettle r t d p h rs ts rp tp =
     left_false true b e f = absurd (true≢false (sym e ∙ f))
     left_false false b e f = refl
 
--- ---- what rules leave
+-- ---- the values after rules
 
--- `left_by` by what it tests: whether the rule speaks of the document, whether its place of the
--- path, and whether it takes what is below
+-- `left_by` as a function of its conditions: the rule applies to the document, its place is at the
+-- path, and it removes the value because the path is below the place
 abbrev by : Verb → Bool → Bool → Bool → Option Doc → Option Doc
 by v a b c o = cond a (cond b (option_map (of_verb v) o) (cond c None o)) o
 

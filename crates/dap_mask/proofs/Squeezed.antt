@@ -1,10 +1,11 @@
--- What `digits` and `hex` make of a text that they made.
+-- The results of `digits` and `hex` for strings that these functions returned.
 use Rattle.std.proofs.Common.{◌≡◌, ℕ, ◌==◌, Bool, true, false, cond, not, ◌&&◌, List, [], ◌∷◌}
-use Rattle.std.proofs.Common.{refl, sym, ap, ap₂, ◌∙◌, subst, true≢false}
+use Rattle.std.proofs.Common.{refl, sym, ap, ◌∙◌, subst, true≢false}
 use Rattle.std.proofs.lemmas.Bool.{eqb-true}
 use Rattle.std.specs.Char.{is_ascii_digit, is_ascii_hexdigit}
 use Rattle.dap_message.proofs.Edits.{by_bool}
 use Rattle.dap_tree.proofs.Booleans.{and_left, and_right, and_both}
+use Rattle.dap_texts.proofs.Settled.{done, done_digits, left_done, no_digit}
 use Rattle.dap_mask.specs.Texts.{digits_from, digits, is_x, goes_on_as_hex, begins_hex, hex}
 use Rattle.dap_mask.specs.Texts.{behind_zero, in_number}
 
@@ -26,23 +27,6 @@ mutual
 pub digits_twice : (s : List ℕ) → digits (digits s) ≡ digits s
 digits_twice s = digits_again s
 
--- whether `digits` leaves a text
-abbrev done : Bool → List ℕ → Bool
-done inside [] = true
-done inside (b ∷ s) = cond (is_ascii_digit b) (not inside && ((b == 48) && done true s))
-    (done false s)
-
-mutual
-  done_digits : (s : List ℕ) → done false (digits_from false s) ≡ true
-  done_digits [] = refl
-  done_digits (b ∷ s) = by_bool (is_ascii_digit b) (λ h. rw h (done_inside s))
-      (λ h. rw (h, h) (done_digits s))
-
-  done_inside : (s : List ℕ) → done true (digits_from true s) ≡ true
-  done_inside [] = refl
-  done_inside (b ∷ s) = by_bool (is_ascii_digit b) (λ h. rw h (done_inside s))
-      (λ h. rw (h, h) (done_digits s))
-
 rest_done : (i : Bool) (b : ℕ) (s : List ℕ) → done i (b ∷ s) ≡ true → done (is_ascii_digit b) s
     ≡ true
 rest_done i b s h = go (is_ascii_digit b) h
@@ -51,21 +35,6 @@ rest_done i b s h = go (is_ascii_digit b) h
         ≡ true
     go true k = and_right (b == 48) (done true s) (and_right (not i) ((b == 48) && done true s) k)
     go false k = k
-
-left_done : (i : Bool) (s : List ℕ) → done i s ≡ true → digits_from i s ≡ s
-left_done i [] h = refl
-left_done i (b ∷ s) h = go i (is_ascii_digit b) h (left_done true s) (left_done false s)
-  where
-    go : (i d : Bool) → cond d (not i && ((b == 48) && done true s)) (done false s) ≡ true
-        → (done true s ≡ true → digits_from true s ≡ s) → (done false s ≡ true → digits_from false s
-        ≡ s)
-        → cond d (cond i (digits_from true s) (48 ∷ digits_from true s)) (b ∷ digits_from false s)
-        ≡ b ∷ s
-    go true true k inside outside = cc
-    go false true k inside outside =
-        ap₂ (λ x t. x ∷ t) (sym (eqb-true b 48 (and_left (b == 48) (done true s) k)))
-        (inside (and_right (b == 48) (done true s) k))
-    go i false k inside outside = ap (λ t. b ∷ t) (outside k)
 
 -- ---- hexadecimal numbers
 
@@ -110,10 +79,7 @@ mutual
 pub hex_twice : (s : List ℕ) → hex (hex s) ≡ hex s
 hex_twice = hex_again
 
--- ---- `hex` behind `digits`
-
-no_digit : (b : ℕ) → is_ascii_hexdigit b ≡ false → is_ascii_digit b ≡ false
-no_digit b h = by_bool (is_ascii_digit b) (λ k. absurd (true≢false (sym (rw k refl) ∙ h))) (λ k. k)
+-- ---- `hex` after `digits`
 
 plain : (i : Bool) (b : ℕ) (s : List ℕ) → done i (b ∷ s) ≡ true
     → (done true s ≡ true → done true (hex s) ≡ true) → (done false s ≡ true → done false (hex s)
@@ -152,7 +118,7 @@ mutual
       (λ k. let no = no_digit b k in
       rw (k, no) (hex_done false s (subst (λ d. done d s ≡ true) no (rest_done i b s h))))
 
--- a text that `digits` leaves, it leaves behind `hex`
+-- if `digits` does not change a string, it does not change the result of `hex` for this string
 pub digits_behind_hex : (s : List ℕ) → digits s ≡ s → digits (hex s) ≡ hex s
 digits_behind_hex s h =
     left_done false (hex s) (hex_done false s (subst (λ t. done false t ≡ true) h (done_digits s)))

@@ -1,4 +1,4 @@
--- Worked lines of rules files: what the grammar reads in them, and what the parser finds.
+-- Examples of lines of rules files: their meaning by the grammar, and the result of the parser.
 use Rattle.std.proofs.Common.{◌≡◌, ℕ, Bool, true, false, ◌==◌, ◌&&◌, nat_lt, List, [], ◌∷◌}
 use Rattle.std.proofs.Common.{Some, None, refl, IsUtf8}
 use Rattle.std.proofs.lemmas.Bool.{eqb-false, ltb-true}
@@ -16,9 +16,9 @@ use Rattle.dap_mask.specs.Mask.{Statement, change, leave_out, swap, nothing, rul
 use Rattle.dap_mask.specs.RuleText.{line_said, string_of}
 use Rattle.dap_mask.specs.declared.rules.Verb.TheVariants.{Digits}
 use Rattle.dap_mask.proofs.Lines.{string_is}
-use Rattle.dap_mask.proofs.Utf8.{ascii_one}
+use Rattle.dap_texts.proofs.Utf8.{ascii_one}
 
--- ---- a comment alone
+-- ---- only a comment
 
 comment : List ℕ
 comment = codes "  # lldb-dap"
@@ -95,7 +95,7 @@ digits_parsed : line_said digits_line ≡ rule digits_rule
 unfolding digits_line digits_rule
 digits_parsed = refl
 
--- ---- an event whose name is a JSON string, with a comment right behind it
+-- ---- an event whose name is a JSON string, immediately followed by a comment
 
 drop_line : List ℕ
 drop_line = codes "\tdrop event \"a # \\\"b\\\"\"#"
@@ -204,7 +204,7 @@ swap_parsed : line_said swap_line ≡ rule swap_rule
 unfolding swap_line swap_rule
 swap_parsed = refl
 
--- ---- what is no rule: a place that does not end, and an event that is a request
+-- ---- lines that are not rules: an incomplete place, and `drop` with a request
 
 bad_place_parsed : line_said (codes "blank event output body.") ≡ bad
 bad_place_parsed = refl

@@ -1,5 +1,5 @@
--- The grammar of a line of a rules file, apart from the parser (docs/FORMATS.md, "The rules of a
--- mask").
+-- The grammar of a line of a rules file, independent of the parser (docs/FORMATS.md, "The rules of
+-- a mask").
 use Rattle.std.specs.Prelude.{◌≡◌, ◌≢◌, ◌↔◌, ℕ, true, List, [], ◌∷◌, ◌++◌, Option, Some, None}
 use Rattle.std.specs.Prelude.{codes}
 use Rattle.serde_json.specs.Data as json
@@ -12,7 +12,7 @@ use Rattle.dap_mask.specs.RuleText.{line_said}
 use Rattle.dap_mask.specs.Runs.{is_blank, is_plain}
 use Rattle.dap_mask.specs.Texts.{all_of, begins_with}
 use Rattle.dap_mask.specs.declared.rules.Verb.{Verb}
-use Rattle.dap_mask.specs.declared.rules.Verb.TheVariants.{Blank, Digits, Hex}
+use Rattle.dap_mask.specs.declared.rules.Verb.TheVariants.{Blank, Digits, Hex, Long, Uuid}
 
 -- ---- a line of words
 
@@ -20,11 +20,11 @@ use Rattle.dap_mask.specs.declared.rules.Verb.TheVariants.{Blank, Digits, Hex}
 abbrev pub AreBlanks : List ℕ → Type 0
 AreBlanks s = all_of is_blank s ≡ true
 
--- One blank or more.
+-- One or more blanks.
 abbrev pub IsGap : List ℕ → Type 0
 IsGap s = (begins_with is_blank s ≡ true) × AreBlanks s
 
--- Nothing, or a comment, which begins with `#` (35).
+-- Nothing, or a comment, which starts with `#` (35).
 abbrev pub IsComment : List ℕ → Type 0
 IsComment [] = Unit {0}
 IsComment (b ∷ s) = b ≡ 35
@@ -34,13 +34,13 @@ abbrev pub IsEnd : List ℕ → Type 0
 IsEnd s = (blanks : List ℕ) × (comment : List ℕ) × (s ≡ blanks ++ comment) × AreBlanks blanks
     × IsComment comment
 
--- The text goes on with these words, each after one blank or more, and then the line ends.
+-- The text continues with these words, each after one or more blanks, and then the line ends.
 abbrev pub GoesOn : List (List ℕ) → List ℕ → Type 0
 GoesOn [] s = IsEnd s
 GoesOn (w ∷ ws) s = (blanks : List ℕ) × (rest : List ℕ) × (s ≡ blanks ++ (w ++ rest))
     × IsGap blanks × GoesOn ws rest
 
--- The line has these words. Blanks may stand before the first one.
+-- The line consists of these words. Blanks may precede the first word.
 abbrev pub HasWords : List (List ℕ) → List ℕ → Type 0
 HasWords [] l = IsEnd l
 HasWords (w ∷ ws) l = (blanks : List ℕ) × (rest : List ℕ) × (l ≡ blanks ++ (w ++ rest))
@@ -48,34 +48,35 @@ HasWords (w ∷ ws) l = (blanks : List ℕ) × (rest : List ℕ) × (l ≡ blank
 
 -- ---- names
 
--- What a string may have between its quotes: a backslash with the byte after it, or a byte that is
--- neither a quote (34) nor a backslash (92).
+-- The bytes that a string may contain between its quotes: a backslash followed by any byte, or a
+-- byte that is neither a quote (34) nor a backslash (92).
 pub data IsInside : List ℕ → Type 0 where
   at_end : IsInside []
   escaped : {b : ℕ} {s : List ℕ} → IsInside s → IsInside (92 ∷ b ∷ s)
   other : {b : ℕ} {s : List ℕ} → b ≢ 34 → b ≢ 92 → IsInside s → IsInside (b ∷ s)
 
--- The word writes this name: letters, digits, `_`, `-` and `$` as they are, or a JSON string.
+-- The word represents this name: ASCII letters, digits, `_`, `-` and `$`, or a JSON string.
 pub data IsName : List ℕ → List ℕ → Type 0 where
   bare : {w : List ℕ} → begins_with is_plain w ≡ true → all_of is_plain w ≡ true → IsName w w
   quoted : {w name : List ℕ} → (inside : List ℕ) → w ≡ 34 ∷ inside ++ 34 ∷ [] → IsInside inside
       → Reads w (json.string name) → IsName w name
 
--- The word writes the name of the messages of a rule; `*` is any name.
+-- The word represents the name of the messages of a rule; `*` is any name.
 abbrev pub IsNameOrAny : List ℕ → Option (List ℕ) → Type 0
 IsNameOrAny w None = w ≡ codes "*"
 IsNameOrAny w (Some name) = IsName w name
 
 -- ---- places
 
--- The text writes these further steps of a place: `.` and a name to a member, `[]` to each element.
+-- The text represents these further steps of a place: `.` and a name for a member, `[]` for each
+-- element.
 abbrev pub AreSteps : List ℕ → List PlaceStep → Type 0
 AreSteps s [] = s ≡ []
 AreSteps s (named name ∷ steps) = (n : List ℕ) × (rest : List ℕ) × (s ≡ codes "." ++ (n ++ rest))
     × IsName n name × AreSteps rest steps
 AreSteps s (each ∷ steps) = (rest : List ℕ) × (s ≡ codes "[]" ++ rest) × AreSteps rest steps
 
--- The word writes this place: a name, and further steps.
+-- The word represents this place: a name and further steps.
 abbrev pub IsPlace : List ℕ → List PlaceStep → Type 0
 IsPlace w [] = ⊥
 IsPlace w (named name ∷ steps) = (n : List ℕ) × (rest : List ℕ) × (w ≡ n ++ rest)
@@ -88,13 +89,15 @@ abbrev pub verb_word : Verb → List ℕ
 verb_word Blank = codes "blank"
 verb_word Digits = codes "digits"
 verb_word Hex = codes "hex"
+verb_word Long = codes "long"
+verb_word Uuid = codes "uuid"
 
 abbrev pub kind_word : Kind → List ℕ
 kind_word Request = codes "request"
 kind_word Response = codes "response"
 kind_word Event = codes "event"
 
--- The words write this rule: `VERB KIND NAME PLACE`, `drop event NAME`, or
+-- The words represent this rule: `VERB KIND NAME PLACE`, `drop event NAME`, or
 -- `swap KIND NAME KIND NAME`.
 abbrev pub AreWordsOf : List (List ℕ) → Statement → Type 0
 AreWordsOf ws (change r) = (n : List ℕ) × (p : List ℕ)
@@ -106,12 +109,12 @@ AreWordsOf ws (swap s) = (n : List ℕ) × (m : List ℕ)
     × (ws ≡ codes "swap" ∷ kind_word s.one.kind ∷ n ∷ kind_word s.another.kind ∷ m ∷ [])
     × IsNameOrAny n s.one.name × IsNameOrAny m s.another.name
 
--- The line has the words of this rule.
+-- The line consists of the words of this rule.
 abbrev pub SaysRule : List ℕ → Statement → Type 0
 SaysRule l st = (ws : List (List ℕ)) × HasWords ws l × AreWordsOf ws st
 
--- What a line says: nothing, if it has no word; the rule that its words write; it is bad, if it has
--- words that write no rule.
+-- The meaning of a line: nothing if it has no words, the rule that its words represent, or `bad` if
+-- it has words that represent no rule.
 abbrev pub Says : List ℕ → Line → Type 0
 Says l nothing = HasWords [] l
 Says l (rule st) = SaysRule l st
@@ -119,10 +122,10 @@ Says l bad = (HasWords [] l → ⊥) × ((st : Statement) → SaysRule l st → 
 
 -- ---- laws
 
--- The parser finds what the line says, and nothing else.
+-- The parser returns a meaning if and only if the line has this meaning.
 abbrev pub ParserFindsLine : Type 0
 ParserFindsLine = (l : List ℕ) (x : Line) → (line_said l ≡ x) ↔ Says l x
 
--- Each line says one thing.
+-- Each line has at most one meaning.
 abbrev pub LineSaysOne : Type 0
 LineSaysOne = (l : List ℕ) (x y : Line) → Says l x → Says l y → x ≡ y

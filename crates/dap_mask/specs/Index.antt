@@ -1,4 +1,5 @@
--- The rules that may speak of messages of a kind and a name, by their places among all.
+-- The rules that may apply to messages of a kind and a name, by their positions in the list of all
+-- rules.
 use Rattle.std.specs.Prelude.{◌≡◌, ℕ, suc, Bool, true, false, cond, ◌&&◌, List, [], ◌∷◌, ◌++◌}
 use Rattle.std.specs.Prelude.{Option, Some, None, option_map, unwrap_or, bytes_eq, String}
 use Rattle.std.specs.BTreeMap.{BTreeMap, get_by_text}
@@ -16,14 +17,14 @@ use Rattle.dap_mask.specs.declared.index.KindRules.{KindRules}
 
 -- ---- rules and messages
 
--- A rule that asks for this name, or for any, speaks of messages of that name; no name stands for
--- one that no rule has.
+-- A rule with the first name (`None` is any name) applies to messages of the second name. For a
+-- message, `None` represents a name that no rule contains.
 abbrev pub asks_for : Option (List ℕ) → Option (List ℕ) → Bool
 asks_for None n = true
 asks_for (Some m) None = false
 asks_for (Some m) (Some n) = bytes_eq m n
 
--- The rule may speak of messages of this kind and name.
+-- The rule may apply to messages of this kind and name.
 abbrev pub may_speak : Kind → Option (List ℕ) → Rule → Bool
 may_speak k n r = same_kind r.kind k && asks_for r.name n
 
@@ -44,7 +45,7 @@ told_name k d = text_told (get (name_key k) d)
 
 -- ---- places
 
--- The places, counted from i, of the rules that may speak of such messages.
+-- The positions, counted from i, of the rules that may apply to such messages.
 abbrev pub positions_from : Kind → Option (List ℕ) → ℕ → List Rule → List ℕ
 positions_from k n i [] = []
 positions_from k n i (r ∷ rs) =
@@ -53,57 +54,58 @@ positions_from k n i (r ∷ rs) =
 abbrev pub positions : Kind → Option (List ℕ) → List Rule → List ℕ
 positions k n rs = positions_from k n 0 rs
 
--- The rules at these places.
+-- The rules at these positions.
 abbrev pub rules_at : List Rule → List ℕ → List Rule
 rules_at rs [] = []
 rules_at rs (i ∷ is) = option_to_list (slice_get rs i) ++ rules_at rs is
 
--- The document that the rule at a place makes.
+-- The document after the rule at a position, if there is a rule.
 abbrev pub masked_by : Option Rule → Doc → Doc
 masked_by None d = d
 masked_by (Some r) d = mask_by r d
 
--- The document that the rules at these places make in turn.
+-- The document after the rules at these positions, applied in order.
 abbrev pub masked_at : List Rule → List ℕ → Doc → Doc
 masked_at rs [] d = d
 masked_at rs (i ∷ is) d = masked_at rs is (masked_by (slice_get rs i) d)
 
--- ---- what an index has
+-- ---- the contents of an index
 
--- For each name the places that are kept for it.
+-- The positions that the index stores for each name.
 abbrev pub NamePlaces : Type 0
 NamePlaces = BTreeMap (String Global) (Vec ℕ Global)
 
--- The places that are kept for a name.
+-- The positions that are stored for a name.
 abbrev pub kept_for : NamePlaces → List ℕ → Option (List ℕ)
 kept_for names n = option_map (λ v. v.items) (get_by_text names n)
 
--- What is kept for a name are the places of the rules that may speak of messages of it.
+-- The positions that are stored for a name are those of the rules that may apply to messages of the
+-- kind and that name.
 abbrev pub AreRight : Kind → List Rule → NamePlaces → Type 0
 AreRight k rs names =
     (n places : List ℕ) → kept_for names n ≡ Some places → places ≡ positions k (Some n) rs
 
--- The rule speaks of messages of this name only where it speaks of those of a name that no rule
--- has.
+-- The rule may apply to messages of this name if and only if it may apply to messages with a name
+-- that no rule contains.
 abbrev pub AsksNot : Kind → List ℕ → Rule → Type 0
 AsksNot k n r = may_speak k (Some n) r ≡ may_speak k None r
 
--- A name for which nothing is kept is one for which none of the rules asks.
+-- A name without stored positions occurs in no rule of the kind.
 abbrev pub HasAsked : Kind → List Rule → NamePlaces → Type 0
 HasAsked k rs names = (n : List ℕ) → kept_for names n ≡ None → AllByRecursion (AsksNot k n) rs
 
--- Nothing that is kept for a name is lost, and a name for which nothing is kept is none for which
--- the rule asks.
+-- A name without stored positions after adding the rule had none before, and the rule does not
+-- contain this name or is of another kind.
 abbrev pub AddsName : Kind → Rule → NamePlaces → NamePlaces → Type 0
 AddsName k r old new =
     (n : List ℕ) → kept_for new n ≡ None → (kept_for old n ≡ None) × AsksNot k n r
 
--- The places that an index has for a name, and for one that no rule has.
+-- The positions that an index returns for a name. `None` is a name that no rule contains.
 abbrev pub places_in : KindRules → Option (List ℕ) → List ℕ
 places_in x None = x.any.items
 places_in x (Some n) = unwrap_or (kept_for x.named n) x.any.items
 
--- What the index has for a name are the places of the rules that may speak of messages of the kind
--- and that name.
+-- The positions that the index returns for a name are those of the rules that may apply to messages
+-- of the kind and that name.
 abbrev pub IsIndex : Kind → List Rule → KindRules → Type 0
 IsIndex k rs x = (n : Option (List ℕ)) → places_in x n ≡ positions k n rs

@@ -1,4 +1,4 @@
--- The mask that a `MaskRules` is.
+-- The mask that a `MaskRules` represents.
 use Rattle.std.specs.Prelude.{List, ℕ, Option}
 use Rattle.dap_mask.specs.ListedRules.{listed_changes, listed_dropped, listed_swaps, listed_mask}
 use Rattle.dap_mask.specs.Mask.{Mask}

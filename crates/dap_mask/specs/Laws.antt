@@ -1,4 +1,4 @@
--- The laws that the functions of `laws` state.
+-- The theorems that the functions of `laws` state.
 use Rattle.std.specs.Prelude.{◌≡◌, ◌↔◌, ℕ, true, List, Option, None, option_map}
 use Rattle.dap_tree.specs.Doc.{Doc, is_ordered, is_sound, all_utf8}
 use Rattle.dap_tree.specs.Path.{Step, at}
@@ -7,19 +7,19 @@ use Rattle.dap_mask.specs.Rules.{Rule, are_safe, are_settled, is_dropped}
 use Rattle.dap_mask.specs.Masked.{IsMasked, AgreeBut, is_apart, masked}
 use Rattle.dap_mask.specs.Texts.{AreDigitsOf, IsHexOf, digits, hex}
 
--- ---- exactly those places
+-- ---- only the places of the rules change
 
--- At each path of a masked document stands what the rules leave there.
+-- At each path, a masked document has the value that the rules produce.
 abbrev pub MaskedByPath : Type 0
 MaskedByPath = (rules : List Rule) (d : Doc) → are_safe rules ≡ true
     → IsMasked rules d (masked rules d)
 
--- No other document is that.
+-- No other document has this property.
 abbrev pub OneMasked : Type 0
 OneMasked = (rules : List Rule) (d e : Doc) → are_safe rules ≡ true → is_ordered d ≡ true
     → IsMasked rules d e → e ≡ masked rules d
 
--- Apart from the places every path has what it had.
+-- The values at paths that the rules do not affect are unchanged.
 abbrev pub KeepsOthers : Type 0
 KeepsOthers = (rules : List Rule) (d : Doc) (p : List Step) → are_safe rules ≡ true
     → is_apart rules d p ≡ true → option_map top (at p (masked rules d)) ≡ option_map top (at p d)
@@ -36,33 +36,34 @@ DropsAlike = (rules : List Rule) (names : List (Option (List ℕ))) (d : Doc) �
 
 -- ---- masked again
 
--- A masked document, masked again, is what it was.
+-- Masking a masked document again does not change it, if its members are in order.
 abbrev pub MaskedOnce : Type 0
 MaskedOnce = (rules : List Rule) (d : Doc) → are_safe rules ≡ true → are_settled rules ≡ true
     → is_ordered d ≡ true → masked rules (masked rules d) ≡ masked rules d
 
--- ---- equal exactly if equal elsewhere
+-- ---- equal if and only if equal elsewhere
 
--- Two documents are masked to equal ones exactly where they agree but for what the rules take away.
+-- Masking two documents yields equal documents if and only if the two agree except for the parts
+-- that the rules redact.
 abbrev pub EqualWhereAgree : Type 0
 EqualWhereAgree = (rules : List Rule) (d e : Doc) → are_safe rules ≡ true → is_ordered d ≡ true
     → is_ordered e ≡ true → (masked rules d ≡ masked rules e) ↔ AgreeBut rules d e
 
--- Members stand in order.
+-- Masking keeps members in order.
 abbrev pub KeepsOrder : Type 0
 KeepsOrder = (rules : List Rule) (d : Doc) → is_ordered d ≡ true → is_ordered (masked rules d)
     ≡ true
 
--- A masked document can be written where the document can, and its texts are UTF-8.
+-- If a document is serialisable, so is the masked document. The same holds for strings in UTF-8.
 abbrev pub KeepsSound : Type 0
 KeepsSound = (rules : List Rule) (d : Doc) → is_sound d ≡ true → is_sound (masked rules d) ≡ true
 
 abbrev pub KeepsUtf8 : Type 0
 KeepsUtf8 = (rules : List Rule) (d : Doc) → all_utf8 d ≡ true → all_utf8 (masked rules d) ≡ true
 
--- ---- texts
+-- ---- strings
 
--- What `digits` makes of a text is what is said of it, and nothing else is.
+-- The result of `digits` is the only string in the relation. The same holds for `hex`.
 abbrev pub DigitsAre : Type 0
 DigitsAre = (s t : List ℕ) → AreDigitsOf s t ↔ (t ≡ digits s)
 

@@ -1,4 +1,4 @@
--- The mask that the rules of a file are.
+-- The mask that a `RuleList` represents.
 use Rattle.std.specs.Prelude.{List, map, ℕ, Option, option_map, string_bytes}
 use Rattle.dap_mask.specs.Mask.{Mask}
 use Rattle.dap_mask.specs.Rules.{Rule, rules_of}

@@ -1,4 +1,4 @@
--- Contents whose fractions are judged after the masks.
+-- Contents whose non-integer numbers are rejected only after masking.
 use Rattle.std.specs.Prelude.{◌≡◌, ◌↔◌, ℕ, ◌^◌, ℤ, pos, true, false, List, Option, Some, None}
 use Rattle.serde_json.specs.Data as json
 use Rattle.serde_json.specs.Data.{Num, unsigned, negative, float}
@@ -11,8 +11,7 @@ use Rattle.dap_mask.specs.Mask.{Mask, no_rules}
 use Rattle.dap_mask.specs.Masked.{masked}
 use Rattle.dap_mask.specs.Rules.{is_dropped}
 
--- A number that no content has as a whole one, and that is out of range: it stands where a fraction
--- was.
+-- An integer that is out of range and represents each number that is not an integer of 64 bits.
 abbrev pub no_whole : ℤ
 no_whole = pos (2 ^ 64)
 
@@ -21,7 +20,8 @@ loose_number (unsigned n) = pos n
 loose_number (negative z) = z
 loose_number (float x) = no_whole
 
--- The document of a JSON value (own), with that number for each that is not kept whole.
+-- The document of a JSON value (own), with `no_whole` for each number that is not an integer of 64
+-- bits.
 abbrev mutual
   pub loose : json.Data → Doc
   loose json.null = null
@@ -39,56 +39,56 @@ abbrev mutual
   loose_members json.no_members = no_members
   loose_members (json.member k v ms) = member k (loose v) (loose_members ms)
 
--- The content is JSON text, and this is its document, with that number for each that is not kept
--- whole.
+-- The content is JSON text, and this is its document, with `no_whole` for each number that is not
+-- an integer of 64 bits.
 abbrev pub IsReadLoosely : List ℕ → Doc → Type 0
 IsReadLoosely bytes d = (v : json.Data) × Reads bytes v × (d ≡ loose v)
 
--- What the rules leave of a document (own): nothing of an event that they leave out, and else the
--- masked document, where no fraction is left in it.
+-- The result of masking a document (own): `None` for an event that the rules drop, and otherwise
+-- the masked document, which must be serialisable.
 abbrev pub IsLeft : Mask → Doc → Option Doc → Type 0
 IsLeft mask d None = is_dropped mask.dropped d ≡ true
 IsLeft mask d (Some e) = (is_dropped mask.dropped d ≡ false) × (e ≡ masked mask.changes d)
     × (is_sound e ≡ true)
 
--- A fraction is left in the masked document.
+-- The document is not dropped, and a non-integer number remains in the masked document.
 abbrev pub HasFractionLeft : Mask → Doc → Type 0
 HasFractionLeft mask d = (is_dropped mask.dropped d ≡ false)
     × (is_sound (masked mask.changes d) ≡ false)
 
--- The content is JSON text, and this is left of it.
+-- The content is JSON text, and this is the result of masking it.
 abbrev pub IsLeftOf : Mask → List ℕ → Option Doc → Type 0
 IsLeftOf mask bytes o = (d : Doc) × IsReadLoosely bytes d × IsLeft mask d o
 
--- The content is JSON text in which a fraction is left behind the masks.
+-- The content is JSON text, and a non-integer number remains after masking.
 abbrev pub LeavesFraction : Mask → List ℕ → Type 0
 LeavesFraction mask bytes = (d : Doc) × IsReadLoosely bytes d × HasFractionLeft mask d
 
--- Without rules a content is what it is read as.
+-- Without rules, the result is the document that the content represents.
 abbrev pub UnmaskedIsRead : Type 0
 UnmaskedIsRead = (bytes : List ℕ) (d : Doc) → IsLeftOf no_rules bytes (Some d) ↔ IsRead bytes d
 
--- A content is read as one document.
+-- Each content represents at most one document.
 abbrev pub OneLooseReading : Type 0
 OneLooseReading = (bytes : List ℕ) (d e : Doc) → IsReadLoosely bytes d → IsReadLoosely bytes e
     → d ≡ e
 
--- Its members stand in order.
+-- The members of this document are in order.
 abbrev pub LooseIsOrdered : Type 0
 LooseIsOrdered = (bytes : List ℕ) (d : Doc) → IsReadLoosely bytes d → is_ordered d ≡ true
 
--- What is left of a content is read from its own text.
+-- The text of the masked document is read as the same document.
 abbrev pub LeftIsRead : Type 0
 LeftIsRead = (mask : Mask) (bytes : List ℕ) (d : Doc) → IsLeftOf mask bytes (Some d)
     → IsRead (text_of d) d
 
--- What a fault tells of a content that is masked: memory that was refused tells nothing.
+-- The meaning of an error for a content that is masked. `Memory` states nothing about the content.
 abbrev pub ExplainsMasked : Mask → List ℕ → TreeFault → Type 0
 ExplainsMasked mask bytes Json = HasNoReading bytes
 ExplainsMasked mask bytes Fraction = LeavesFraction mask bytes
 ExplainsMasked mask bytes Memory = Unit {0}
 
--- For private clauses: what a fault tells before the masks.
+-- For private clauses: the meaning of an error before masking.
 abbrev pub ExplainsLoosely : List ℕ → TreeFault → Type 0
 ExplainsLoosely bytes Json = HasNoReading bytes
 ExplainsLoosely bytes Fraction = ⊥

@@ -1,4 +1,4 @@
--- A mask as the definitions see it, and what the lines of a rules file may say.
+-- The model of a mask, and the possible meanings of a line of a rules file.
 use Rattle.std.specs.Prelude.{ℕ, ◌+◌, List, [], ◌∷◌, ◌++◌, Option, length, option_map}
 use Rattle.std.specs.Prelude.{string_bytes}
 use Rattle.dap_mask.specs.Rules.{Rule, rule_of}
@@ -9,7 +9,7 @@ use Rattle.dap_mask.specs.declared.statement.Statement.{Statement as ReadStateme
 use Rattle.dap_mask.specs.declared.statement.Statement.TheVariants.{Change, LeaveOut, Swap}
 
 -- The rules that change values, in the order in which they apply, the names of the events that are
--- left out, where no name is any, and the rules for the order of messages, which masking does not
+-- dropped (`None` is any name), and the rules for the order of messages, which masking does not
 -- use.
 pub record Mask : Type 0 where
   pub changes : List Rule
@@ -22,25 +22,25 @@ no_rules = record { changes = []; dropped = []; swaps = [] }
 abbrev pub rule_count : Mask → ℕ
 rule_count m = length m.changes + length m.dropped + length m.swaps
 
--- What a rules file says in one line: a change, events that are left out, or a rule for the order.
+-- A rule in a line of a rules file: a change, events that are dropped, or a rule for the order.
 pub data Statement : Type 0 where
   change : Rule → Statement
   leave_out : Option (List ℕ) → Statement
   swap : SwapRule → Statement
 
--- The mask with one rule more, behind the others.
+-- The mask with one more rule, after the others.
 abbrev pub with_rule : Mask → Statement → Mask
 with_rule m (change r) = record m { changes = m.changes ++ r ∷ [] }
 with_rule m (leave_out n) = record m { dropped = m.dropped ++ n ∷ [] }
 with_rule m (swap s) = record m { swaps = m.swaps ++ s ∷ [] }
 
--- What a line says.
+-- The meaning of a line.
 pub data Line : Type 0 where
   nothing : Line
   rule : Statement → Line
   bad : Line
 
--- ---- the same of the program
+-- ---- the models of the program's types
 
 abbrev pub statement_of : ReadStatement → Statement
 statement_of (Change r) = change (rule_of r)

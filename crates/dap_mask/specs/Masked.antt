@@ -1,4 +1,4 @@
--- Masked documents: what rules make of a document, said path by path, and the same as a document.
+-- Masked documents: the effect of rules on a document, path by path and as a function on documents.
 use Rattle.std.specs.Prelude.{◌≡◌, Bool, true, false, cond, ◌&&◌, List, [], ◌∷◌, Option, None}
 use Rattle.std.specs.Prelude.{option_map, bytes_eq}
 use Rattle.dap_tree.specs.Doc.{Doc}
@@ -11,50 +11,51 @@ use Rattle.dap_mask.specs.declared.rules.Verb.{Verb}
 
 -- ---- path by path
 
--- The path goes on below the place: the place speaks of a part of it that is shorter.
+-- The path continues below the place: the place matches a proper prefix of the path.
 abbrev pub is_below : List PlaceStep → List Step → Bool
 is_below [] (st ∷ p) = true
 is_below (named k ∷ ps) (name l ∷ p) = bytes_eq k l && is_below ps p
 is_below (each ∷ ps) (place i ∷ p) = is_below ps p
 is_below _ _ = false
 
--- What a verb at a place leaves at a path, of what stood there (own): at the place what the verb
--- makes of it, nothing below one that takes the parts, and what stood there at every other path.
+-- The value at a path after a verb is applied at a place (own). At the place, it is the result of
+-- the verb. Below the place, there is no value if the verb removes the parts. At every other path
+-- the value is unchanged.
 abbrev pub left_at : Verb → List PlaceStep → List Step → Option Doc → Option Doc
 left_at v ps p o = cond (fits_place ps p) (option_map (of_verb v) o)
     (cond (is_below ps p && takes_parts v) None o)
 
--- What a rule leaves at a path of the document d.
+-- The value at a path of the document d after a rule.
 abbrev pub left_by : Rule → Doc → List Step → Option Doc → Option Doc
 left_by r d p o = cond (speaks_of r d) (left_at r.verb r.place p o) o
 
--- What the rules in turn leave there.
+-- The value at this path after the rules, applied in order.
 abbrev pub left : List Rule → Doc → List Step → Option Doc → Option Doc
 left [] d p o = o
 left (r ∷ rs) d p o = left rs d p (left_by r d p o)
 
--- The document e is d masked (own): at each path stands what the rules leave of what stands there
--- in d.
--- Of a list and an object a path shows how many items, and the names of the members: the values
--- have paths of their own.
+-- The document e is d masked (own): at each path, e has the value that the rules produce from the
+-- value of d there. For an array, `top` is the number of elements, and for an object the names of
+-- its members; elements and members have paths of their own.
 unfoldable pub IsMasked : List Rule → Doc → Doc → Type 0
 IsMasked rules d e = (p : List Step) → option_map top (at p e)
     ≡ option_map top (left rules d p (at p d))
 
--- Two documents agree but for what the rules take away (own): at each path the rules leave the same
--- of both.
+-- Two documents agree except for the parts that the rules redact (own): at each path, the rules
+-- produce the same value from both.
 unfoldable pub AgreeBut : List Rule → Doc → Doc → Type 0
 AgreeBut rules d e = (p : List Step) → option_map top (left rules d p (at p d))
     ≡ option_map top (left rules e p (at p e))
 
--- No rule that speaks of the document has a place at the path, or takes the parts of one above it.
+-- No rule that applies to the document has its place at the path, or removes the parts of a value
+-- above the path.
 abbrev pub is_apart : List Rule → Doc → List Step → Bool
 is_apart [] d p = true
 is_apart (r ∷ rs) d p =
     cond (speaks_of r d) (cond (fits_place r.place p) false (cond (is_below r.place p
     && takes_parts r.verb) false (is_apart rs d p))) (is_apart rs d p)
 
--- Apart from the places every path of the masked document e has what it has in d.
+-- At each path that the rules do not affect, the masked document e has the same value as d.
 abbrev pub KeepsElsewhere : List Rule → Doc → Doc → Type 0
 KeepsElsewhere rules d e = (p : List Step) → is_apart rules d p ≡ true
     → option_map top (at p e) ≡ option_map top (at p d)
@@ -63,12 +64,12 @@ KeepsElsewhere rules d e = (p : List Step) → is_apart rules d p ≡ true
 abbrev pub HasNoNewPath : Doc → Doc → Type 0
 HasNoNewPath d e = (p : List Step) → at p d ≡ None → at p e ≡ None
 
--- ---- as a document
+-- ---- as a function on documents
 
 abbrev pub mask_by : Rule → Doc → Doc
 mask_by r d = cond (speaks_of r d) (edit r.place (of_verb r.verb) d) d
 
--- The document that the rules in turn make.
+-- The document after the rules, applied in order.
 abbrev pub masked : List Rule → Doc → Doc
 masked [] d = d
 masked (r ∷ rs) d = masked rs (mask_by r d)

@@ -1,4 +1,4 @@
--- All that is promised of a masked content.
+-- The guarantees for a masked content.
 use Rattle.std.specs.Prelude.{◌≡◌, ◌↔◌, ℕ, List}
 use Rattle.dap_tree.specs.Doc.{Doc}
 use Rattle.dap_mask.specs.Ids.{KeepsIds}
@@ -6,22 +6,24 @@ use Rattle.dap_mask.specs.Loose.{IsReadLoosely}
 use Rattle.dap_mask.specs.Masked.{IsMasked, AgreeBut, KeepsElsewhere, HasNoNewPath, masked}
 use Rattle.dap_mask.specs.Rules.{Rule}
 
--- The document e is d masked, as a rules file promises.
+-- The document e is d masked by the rules of a rules file.
 pub record IsMaskedAs (rules : List Rule) (d e : Doc) : Type 0 where
-  -- Exactly those places: at each path stands what the rules leave there, every other path has what
-  -- it had, none is new, and an id of the profile stays or is gone with what it stood in.
+  -- Only the places of the rules change. The value at each path is the value that the rules produce
+  -- there, and the values at all other paths are unchanged. No path is new. An id of the profile is
+  -- unchanged or is removed with a value that contains it.
   pub places : IsMasked rules d e
   pub elsewhere : KeepsElsewhere rules d e
   pub none_new : HasNoNewPath d e
   pub ids : KeepsIds d e
   -- No other document is d masked.
   pub one : (f : Doc) → IsMasked rules d f → f ≡ e
-  -- Masked again, it is what it was.
+  -- Masking e again does not change it.
   pub again : masked rules e ≡ e
-  -- Another content is masked to it exactly if the two agree but for what the rules take away.
+  -- Masking another content yields e if and only if the two agree except for the parts that the
+  -- rules redact.
   pub equal : (bytes : List ℕ) (f : Doc) → IsReadLoosely bytes f → (e ≡ masked rules f)
       ↔ AgreeBut rules d f
 
--- Whatever the content is read as, this is it masked.
+-- The document e is the masked form of every document that the content represents.
 abbrev pub IsContentMasked : List Rule → List ℕ → Doc → Type 0
 IsContentMasked rules bytes e = (d : Doc) → IsReadLoosely bytes d → IsMaskedAs rules d e

@@ -1,4 +1,4 @@
--- What the line of a rules file says, read from its front.
+-- The meaning of a line of a rules file, parsed from its start.
 use Rattle.std.specs.Prelude.{ℕ, zero, suc, ◌==◌, false, cond, ◌&&◌, List, [], ◌∷◌}
 use Rattle.std.specs.Prelude.{length, take, drop, Option, Some, None, option_map, option_and_then}
 use Rattle.std.specs.Prelude.{codes, bytes_eq}
@@ -14,31 +14,31 @@ use Rattle.dap_mask.specs.Runs.{is_plain, front, behind, closing, is_closed, gap
 use Rattle.dap_mask.specs.Runs.{is_blank}
 use Rattle.dap_mask.specs.Swaps.{Half}
 use Rattle.dap_mask.specs.declared.rules.Verb.{Verb}
-use Rattle.dap_mask.specs.declared.rules.Verb.TheVariants.{Blank, Digits, Hex}
+use Rattle.dap_mask.specs.declared.rules.Verb.TheVariants.{Blank, Digits, Hex, Long, Uuid}
 
 -- ---- names
 
--- The text of a JSON value that is one.
+-- The string that a JSON value is, if it is a string.
 abbrev pub text_in : Option json.Data → Option (List ℕ)
 text_in (Some (json.string k)) = Some k
 text_in _ = None
 
--- The text that these bytes are as JSON (serde_json), where they are one.
+-- The string that these bytes represent as JSON (serde_json), if they represent one.
 unfoldable pub string_of : List ℕ → Option (List ℕ)
 string_of token = cond (is_utf8 token) (text_in (read token)) None
 
--- A JSON string at the front, which a quote closes, and what stands behind it.
+-- The closed JSON string with which the text starts, and the rest.
 abbrev pub quoted_at : List ℕ → Option (List ℕ × List ℕ)
 quoted_at [] = None
 quoted_at (b ∷ s) = cond (is_closed false s)
     (option_map (λ k. (k, drop (closing false s) s)) (string_of (b ∷ take (closing false s) s)))
     None
 
--- A name of plain bytes at the front, and what stands behind it.
+-- The name of plain bytes with which the text starts, and the rest.
 abbrev pub plain_at : List ℕ → Option (List ℕ × List ℕ)
 plain_at s = cond (length (front is_plain s) == 0) None (Some (front is_plain s, behind is_plain s))
 
--- A name at the front: in quotes, as a JSON string, or plain.
+-- The name with which the text starts: a JSON string in quotes, or plain bytes; and the rest.
 abbrev pub name_at : List ℕ → Option (List ℕ × List ℕ)
 name_at [] = None
 name_at (b ∷ s) = cond (b == 34) (quoted_at (b ∷ s)) (plain_at (b ∷ s))
@@ -46,14 +46,14 @@ name_at (b ∷ s) = cond (b == 34) (quoted_at (b ∷ s)) (plain_at (b ∷ s))
 abbrev pub this_name : List ℕ × List ℕ → Option (List ℕ) × List ℕ
 this_name n = (Some n.0, n.1)
 
--- A name at the front, or `*`, which is any.
+-- The name with which the text starts, or `*`, which is any name; and the rest.
 abbrev pub any_name : List ℕ → Option (Option (List ℕ) × List ℕ)
 any_name [] = None
 any_name (b ∷ s) = cond (b == 42) (Some (None, s)) (option_map this_name (name_at (b ∷ s)))
 
 -- ---- places
 
--- `[]`, behind its first bracket: each element.
+-- The rest of `[]` after its first bracket: each element.
 abbrev pub each_step : List ℕ → Option (PlaceStep × List ℕ)
 each_step [] = None
 each_step (b ∷ s) = cond (b == 93) (Some (each, s)) None
@@ -61,25 +61,25 @@ each_step (b ∷ s) = cond (b == 93) (Some (each, s)) None
 abbrev pub member_step : List ℕ × List ℕ → PlaceStep × List ℕ
 member_step n = (named n.0, n.1)
 
--- A further step of a place: a dot with a name behind it, or `[]`.
+-- The next step of a place: a dot followed by a name, or `[]`.
 abbrev pub next_step : List ℕ → Option (PlaceStep × List ℕ)
 next_step [] = None
 next_step (b ∷ s) = cond (b == 46) (option_map member_step (name_at s))
     (cond (b == 91) (each_step s) None)
 
--- No step, or this one and those that are told of the rest.
+-- No step, or this step and the steps that `more` returns for the rest.
 abbrev pub step_then : List ℕ → (List ℕ → Option (List PlaceStep × List ℕ))
     → Option (PlaceStep × List ℕ) → Option (List PlaceStep × List ℕ)
 step_then s more None = Some ([], s)
 step_then s more (Some p) = option_map (λ r. (p.0 ∷ r.0, r.1)) (more p.1)
 
--- All further steps, at most so many, and what stands behind them.
+-- All further steps, and the rest of the text. There must be fewer steps than the given number.
 abbrev pub steps_from : ℕ → List ℕ → Option (List PlaceStep × List ℕ)
 steps_from zero s = None
 steps_from (suc n) s = step_then s (steps_from n) (next_step s)
 
--- A place at the front, and what stands behind it: a name, and the steps behind it, of which a text
--- has fewer than bytes.
+-- The place with which the text starts, and the rest: a name and the steps after it. The text has
+-- more bytes than steps.
 abbrev pub place_at : List ℕ → Option (List PlaceStep × List ℕ)
 place_at s = option_and_then (λ n. option_map (λ r. (named n.0 ∷ r.0, r.1))
     (steps_from (length s) n.1)) (name_at s)
@@ -90,7 +90,9 @@ abbrev pub verb_named : List ℕ → Option Verb
 verb_named w =
     cond (bytes_eq w (codes "blank")) (Some Blank)
     (cond (bytes_eq w (codes "digits")) (Some Digits)
-    (cond (bytes_eq w (codes "hex")) (Some Hex) None))
+    (cond (bytes_eq w (codes "hex")) (Some Hex)
+    (cond (bytes_eq w (codes "long")) (Some Long)
+    (cond (bytes_eq w (codes "uuid")) (Some Uuid) None))))
 
 abbrev pub kind_named : List ℕ → Option Kind
 kind_named w =
@@ -98,7 +100,7 @@ kind_named w =
     (cond (bytes_eq w (codes "response")) (Some Response)
     (cond (bytes_eq w (codes "event")) (Some Event) None))
 
--- The messages that a rule speaks of: a kind, and a name or any; and what stands behind.
+-- The messages to which a rule applies, and the rest of the text: a kind, and a name or any name.
 abbrev pub Head : Type 0
 Head = Kind × Option (List ℕ) × List ℕ
 
@@ -119,17 +121,17 @@ placed v k n p = cond (is_end p.1)
 abbrev pub place_behind : Verb → Kind → Option (List ℕ) → List ℕ → Option Statement
 place_behind v k n s = option_and_then (placed v k n) (place_at s)
 
--- The rule of a verb, whose messages and place come.
+-- The rule with this verb whose messages and place are in the text.
 abbrev pub change_at : Verb → List ℕ → Option Statement
 change_at v s = option_and_then (λ h. option_and_then (place_behind v h.0 h.1) (gap h.2))
     (head_at s)
 
--- The rule that leaves out events, whose name comes.
+-- The rule that drops events, whose name is in the text.
 abbrev pub leave_out_at : List ℕ → Option Statement
 leave_out_at s = option_and_then (λ h. cond (same_kind h.0 Event && is_end h.2)
     (Some (leave_out h.1)) None) (head_at s)
 
--- One half of a rule for the order, which the text begins with, and the rest of the text.
+-- The half of a rule for the order with which the text starts, and the rest of the text.
 abbrev pub half_at : List ℕ → Option (Half × List ℕ)
 half_at s = option_map (λ h. (record { kind = h.0; name = h.1 }, h.2)) (head_at s)
 
@@ -137,7 +139,7 @@ half_at s = option_map (λ h. (record { kind = h.0; name = h.1 }, h.2)) (head_at
 abbrev pub swap_with : Half → Half × List ℕ → Option Statement
 swap_with one h = cond (is_end h.1) (Some (swap (record { one = one; another = h.0 }))) None
 
--- The rule for the order whose two halves the text begins with, if the line ends after them.
+-- The rule for the order with whose two halves the text starts, if the line ends after them.
 abbrev pub swap_at : List ℕ → Option Statement
 swap_at s = option_and_then (λ h. option_and_then (swap_with h.0) (half_at h.1)) (half_at s)
 
@@ -151,6 +153,6 @@ abbrev pub told : Option Statement → Line
 told None = bad
 told (Some st) = rule st
 
--- What a line says: a rule, nothing, or what is neither.
+-- The meaning of a line: a rule, nothing, or neither.
 abbrev pub line_said : List ℕ → Line
 line_said l = cond (is_end l) nothing (told (statement_at (behind is_blank l)))

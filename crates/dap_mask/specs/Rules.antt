@@ -1,5 +1,5 @@
--- Rules of a mask, as the definitions see them: which messages one speaks of, and what it makes of
--- a value.
+-- The model of the rules of a mask: the messages to which a rule applies, and its effect on a
+-- value.
 use Rattle.std.specs.Prelude.{ℕ, Bool, true, false, not, ◌&&◌, ◌||◌, pos, List, [], ◌∷◌, map}
 use Rattle.std.specs.Prelude.{Option, Some, None, option_map, codes, bytes_eq, string_bytes}
 use Rattle.dap_tree.specs.Doc.{Doc, null, boolean, whole, text, list, object, id, no_items}
@@ -8,14 +8,16 @@ use Rattle.dap_profile.specs.PlaceSteps.{PlaceStep, named, each}
 use Rattle.dap_message.specs.Rows.{is_text, is_of_kind, name_key}
 use Rattle.dap_profile.specs.declared.profile.Kind.{Kind}
 use Rattle.dap_profile.specs.declared.profile.Kind.TheVariants.{Request, Response, Event}
+use Rattle.dap_texts.specs.Long.{long}
+use Rattle.dap_texts.specs.Uuids.{uuid}
 use Rattle.dap_mask.specs.Texts.{digits, hex}
 use Rattle.dap_mask.specs.declared.rules.Verb.{Verb}
-use Rattle.dap_mask.specs.declared.rules.Verb.TheVariants.{Blank, Digits, Hex}
+use Rattle.dap_mask.specs.declared.rules.Verb.TheVariants.{Blank, Digits, Hex, Long, Uuid}
 use Rattle.dap_mask.specs.declared.rules.Step.{Step as RuleStep}
 use Rattle.dap_mask.specs.declared.rules.Step.TheVariants.{Member, Each}
 use Rattle.dap_mask.specs.declared.rules.MaskRule.{MaskRule}
 
--- A rule, as the definitions see it; no name stands for any.
+-- The model of a rule. `None` is any name.
 pub record Rule : Type 0 where
   pub verb : Verb
   pub kind : Kind
@@ -29,7 +31,7 @@ step_of Each = each
 abbrev pub place_of : List RuleStep → List PlaceStep
 place_of steps = map step_of steps
 
--- What the definitions see of a rule of the program.
+-- The model of a rule of the program.
 abbrev pub rule_of : MaskRule → Rule
 rule_of r = record {
   verb = r.verb;
@@ -42,9 +44,10 @@ rule_of r = record {
 abbrev pub rules_of : List MaskRule → List Rule
 rules_of rs = map rule_of rs
 
--- ---- what a rule makes of a value
+-- ---- the effect of a rule on a value
 
--- The blank of a value (own): the least of its sort. Null stays, and so does an id.
+-- The blank of a value (own): `false`, 0, or the empty string, array or object. Null and ids are
+-- unchanged.
 abbrev pub blank : Doc → Doc
 blank null = null
 blank (boolean b) = boolean false
@@ -54,7 +57,7 @@ blank (list ds) = list no_items
 blank (object ms) = object no_members
 blank (id s z) = id s z
 
--- A value with f of its text (own): what is no text stays.
+-- Applies f to a string (own). Other values are unchanged.
 abbrev pub change_text : (List ℕ → List ℕ) → Doc → Doc
 change_text f (text s) = text (f s)
 change_text f d = d
@@ -63,26 +66,30 @@ abbrev pub of_verb : Verb → Doc → Doc
 of_verb Blank = blank
 of_verb Digits = change_text digits
 of_verb Hex = change_text hex
+of_verb Long = change_text long
+of_verb Uuid = change_text uuid
 
--- Whether nothing is left of the parts of a value.
+-- The verb removes the parts of a value.
 abbrev pub takes_parts : Verb → Bool
 takes_parts Blank = true
 takes_parts Digits = false
 takes_parts Hex = false
+takes_parts Long = false
+takes_parts Uuid = false
 
--- ---- the messages that a rule speaks of
+-- ---- the messages to which a rule applies
 
--- The message's command or event is that name, where one is asked.
+-- The command or event of the message is the given name. `None` is any name.
 abbrev pub has_name : Kind → Option (List ℕ) → Doc → Bool
 has_name k None d = true
 has_name k (Some n) d = is_text n (get (name_key k) d)
 
--- The message is one of the rule by its JSON alone (own): an object with that `type`, and with that
--- `command` or `event` where the rule has a name.
+-- The rule applies to the message, by its JSON only (own): an object with the `type` of the rule
+-- and, if the rule has a name, with this `command` or `event`.
 abbrev pub speaks_of : Rule → Doc → Bool
 speaks_of r d = is_of_kind r.kind d && has_name r.kind r.name d
 
--- The event has one of these names, where None is any.
+-- The event has one of these names. `None` is any name.
 abbrev pub is_event_of : List (Option (List ℕ)) → Doc → Bool
 is_event_of [] d = false
 is_event_of (n ∷ ns) d = has_name Event n d || is_event_of ns d
@@ -91,23 +98,23 @@ is_event_of (n ∷ ns) d = has_name Event n d || is_event_of ns d
 abbrev pub is_dropped : List (Option (List ℕ)) → Doc → Bool
 is_dropped names d = is_of_kind Event d && is_event_of names d
 
--- ---- rules that stand in a mask
+-- ---- the rules that a mask may contain
 
--- The name of a member that names a message.
+-- The member contains the name of a message.
 abbrev pub is_naming : List ℕ → Bool
 is_naming k = bytes_eq (codes "command") k || bytes_eq (codes "event") k
 
--- The name of a member by which a message is told: no rule may change it.
+-- The member is `type`, `command`, `event` or `success`, which no rule may change.
 abbrev pub is_telling : List ℕ → Bool
 is_telling k = bytes_eq (codes "type") k || (is_naming k || bytes_eq (codes "success") k)
 
--- The place is the message itself, or a member by which it is told.
+-- The place is the message itself, or its `type`, `command`, `event` or `success`.
 abbrev pub is_telling_place : List PlaceStep → Bool
 is_telling_place [] = true
 is_telling_place (named k ∷ []) = is_telling k
 is_telling_place _ = false
 
--- Each rule leaves the members by which a message is told.
+-- The place of no rule is the message itself, or its `type`, `command`, `event` or `success`.
 abbrev pub are_safe : List Rule → Bool
 are_safe [] = true
 are_safe (r ∷ rs) = not (is_telling_place r.place) && are_safe rs
@@ -133,7 +140,7 @@ abbrev pub share_name : Option (List ℕ) → Option (List ℕ) → Bool
 share_name (Some n) (Some m) = bytes_eq n m
 share_name _ _ = true
 
--- The two rules are one and the same.
+-- The two names are equal, or both are any name.
 abbrev pub same_name : Option (List ℕ) → Option (List ℕ) → Bool
 same_name (Some n) (Some m) = bytes_eq n m
 same_name None None = true
@@ -143,6 +150,8 @@ abbrev pub same_verb : Verb → Verb → Bool
 same_verb Blank Blank = true
 same_verb Digits Digits = true
 same_verb Hex Hex = true
+same_verb Long Long = true
+same_verb Uuid Uuid = true
 same_verb _ _ = false
 
 abbrev pub same_rule : Rule → Rule → Bool
@@ -155,14 +164,20 @@ abbrev pub is_among : Rule → List Rule → Bool
 is_among r [] = false
 is_among r (t ∷ ts) = same_rule r t || is_among r ts
 
--- The later rule may undo that the earlier one is done (own): behind `hex`, `digits` can make a
--- hexadecimal number of what was none.
+-- After the later verb, applying the earlier verb again may change the text (own). For example,
+-- `digits` after `hex` can create a hexadecimal number. For the other pairs, see the laws of the
+-- actions on texts.
 abbrev pub unsettles : Verb → Verb → Bool
 unsettles Hex Digits = true
+unsettles Hex Long = true
+unsettles Hex Uuid = true
+unsettles Digits Uuid = true
+unsettles Long Uuid = true
+unsettles Uuid Digits = true
 unsettles _ _ = false
 
--- The two rules clash, the later one being the second: at one place of some message the second
--- unsettles the first.
+-- The two rules clash: the second rule is the later one, and its verb unsettles that of the first
+-- at the same place of some message.
 abbrev pub clash : Rule → Rule → Bool
 clash r t = unsettles r.verb t.verb && (same_place r.place t.place && (same_kind r.kind t.kind
     && share_name r.name t.name))

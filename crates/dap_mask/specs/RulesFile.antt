@@ -1,4 +1,4 @@
--- What a rules file says, line after line, and what is refused.
+-- The meaning of a rules file, line by line, and the errors of its lines.
 use Rattle.std.specs.Prelude.{ℕ, suc, ◌==◌, Bool, false, cond, ◌||◌, nat_le, nat_lt, List, [], ◌∷◌}
 use Rattle.std.specs.Prelude.{length, take, Option, Some, None, Result, Ok, Err, count_by}
 use Rattle.std.specs.Str.{is_utf8}
@@ -6,38 +6,50 @@ use Rattle.dap_mask.specs.Ids.{takes_profile_id}
 use Rattle.dap_mask.specs.Mask.{Mask, no_rules, rule_count, with_rule, Statement, change, leave_out}
 use Rattle.dap_mask.specs.Mask.{swap, Line, nothing, rule, bad}
 use Rattle.dap_mask.specs.RuleText.{line_said}
-use Rattle.dap_mask.specs.Rules.{Rule, is_among, is_clashed_with, is_telling_place, same_name}
+use Rattle.dap_mask.specs.Rules.{Rule, clash, is_among, is_telling_place, same_name}
 use Rattle.dap_mask.specs.Runs.{lines_of}
 use Rattle.dap_mask.specs.Swaps.{is_swap_among}
 use Rattle.dap_mask.specs.declared.fault.RulesCause.{RulesCause}
 use Rattle.dap_mask.specs.declared.fault.RulesCause.TheVariants.{TooLong, NotUtf8, BadRule, TooMany}
 use Rattle.dap_mask.specs.declared.fault.RulesCause.TheVariants.{BadPlace, Repeated}
-use Rattle.dap_mask.specs.declared.fault.RulesCause.TheVariants.{DigitsBehindHex}
+use Rattle.dap_mask.specs.declared.fault.RulesCause.TheVariants.{DigitsBehindHex, Clash}
 use Rattle.dap_mask.specs.declared.fault.RulesFault.{RulesFault}
+use Rattle.dap_mask.specs.declared.rules.Verb.{Verb}
+use Rattle.dap_mask.specs.declared.rules.Verb.TheVariants.{Digits, Hex}
 
--- The name, or any, is one of these.
+-- The name, or `None` for any name, is one of these.
 abbrev pub is_name_among : Option (List ℕ) → List (Option (List ℕ)) → Bool
 is_name_among n [] = false
 is_name_among n (m ∷ ms) = same_name n m || is_name_among n ms
 
--- Why a change may not stand behind these, but for their number.
+-- Why the second action may not follow the first one at one place, if it unsettles it.
+abbrev pub cause_of_pair : Verb → Verb → RulesCause
+cause_of_pair Hex Digits = DigitsBehindHex
+cause_of_pair _ _ = Clash
+
+-- Why a change may not follow these, if one of them clashes with it; the first of those decides.
+abbrev pub clash_cause : List Rule → Rule → Option RulesCause
+clash_cause [] t = None
+clash_cause (r ∷ rs) t = cond (clash r t) (Some (cause_of_pair r.verb t.verb)) (clash_cause rs t)
+
+-- Why a change may not follow these changes, apart from the limit on their number.
 abbrev pub change_cause : List Rule → Rule → Option RulesCause
 change_cause rs r =
     cond (is_telling_place r.place || takes_profile_id r) (Some BadPlace)
-    (cond (is_among r rs) (Some Repeated)
-    (cond (is_clashed_with rs r) (Some DigitsBehindHex) None))
+    (cond (is_among r rs) (Some Repeated) (clash_cause rs r))
 
--- Why a rule may not stand behind those of a mask, but for their number.
+-- Why a rule may not follow the rules of a mask, apart from the limit on their number.
 abbrev pub cause_of : Mask → Statement → Option RulesCause
 cause_of m (change r) = change_cause m.changes r
 cause_of m (leave_out n) = cond (is_name_among n m.dropped) (Some Repeated) None
 cause_of m (swap s) = cond (is_swap_among s m.swaps) (Some Repeated) None
 
--- Why it may not: none, if it may. A mask has at most a thousand rules.
+-- Why a rule may not follow the rules of a mask; `None` if it may. A mask has at most a thousand
+-- rules.
 abbrev pub cause_against : Mask → Statement → Option RulesCause
 cause_against m st = cond (nat_le 1000 (rule_count m)) (Some TooMany) (cause_of m st)
 
--- ---- a line, behind those that said the mask m
+-- ---- a line after the lines that define the mask m
 
 abbrev pub outcome_unless : Mask → Statement → Option RulesCause → Result Mask RulesCause
 outcome_unless m st None = Ok (with_rule m st)
@@ -53,14 +65,14 @@ line_outcome m l = cond (is_utf8 l) (outcome_of m (line_said l)) (Err NotUtf8)
 
 -- ---- all lines
 
--- The mask that a line leaves to the others, or that it is refused.
+-- Continues with the mask after a line, or returns the error of the line.
 abbrev pub outcome_then : ℕ → (Mask → Result Mask RulesFault) → Result Mask RulesCause
     → Result Mask RulesFault
 outcome_then n more (Ok m) = more m
 outcome_then n more (Err c) = Err (record { line = n; cause = c })
 
--- What lines say behind those that said the mask, or the first that is refused, and why; the first
--- of them has that number.
+-- The mask after these lines, which follow those that define m, or the first line that is rejected
+-- and the reason. The first of these lines has the number n.
 abbrev pub rules_from : Mask → ℕ → List (List ℕ) → Result Mask RulesFault
 rules_from m n [] = Ok m
 rules_from m n (l ∷ ls) = outcome_then n (λ k. rules_from k (suc n) ls) (line_outcome m l)
@@ -69,11 +81,12 @@ rules_from m n (l ∷ ls) = outcome_then n (λ k. rules_from k (suc n) ls) (line
 abbrev pub is_line_feed : ℕ → Bool
 is_line_feed b = b == 10
 
--- The number of the line in which the text ends.
+-- The number of the last line of the text.
 abbrev pub last_line : List ℕ → ℕ
 last_line s = suc (count_by is_line_feed s)
 
--- What the file says: its mask, or which line is refused, and why. It has at most 65,536 bytes.
+-- The meaning of the file: its mask, or the line that is rejected and the reason. A file with more
+-- than 65,536 bytes is rejected.
 unfoldable pub rules_said : List ℕ → Result Mask RulesFault
 rules_said s =
     cond (nat_lt 65536 (length s)) (Err (record {

@@ -1,25 +1,25 @@
--- For private clauses: `hex` a byte at a time, by where the byte stands.
+-- For private clauses: `hex` byte by byte, as a state machine.
 use Rattle.std.specs.Prelude.{ℕ, Bool, cond, List, Option, Some, None}
 use Rattle.std.specs.Char.{is_ascii_hexdigit}
 use Rattle.dap_mask.specs.Texts.{hex, behind_zero, behind_x, in_number}
 use Rattle.dap_mask.specs.declared.texts.At.{At}
 use Rattle.dap_mask.specs.declared.texts.At.TheVariants.{Outside, BehindZero, BehindX, InNumber}
 
--- What is made of the text from there on.
+-- The result for the rest of the text in this state.
 abbrev pub hex_at : At → List ℕ → List ℕ
 hex_at Outside s = hex s
 hex_at BehindZero s = behind_zero s
 hex_at BehindX s = behind_x s
 hex_at InNumber s = in_number s
 
--- What is left of one byte.
+-- The result for one byte; `None` if the byte is removed.
 abbrev pub left_of : At → ℕ → Option ℕ
 left_of Outside b = Some b
 left_of BehindZero b = Some 120
 left_of BehindX b = Some 48
 left_of InNumber b = cond (is_ascii_hexdigit b) None (Some b)
 
--- Where the next byte stands, by whether a hexadecimal number begins here.
+-- The state at the next byte; `begins` says whether a hexadecimal number starts at this byte.
 abbrev pub next_at : At → ℕ → Bool → At
 next_at Outside b begins = cond begins BehindZero Outside
 next_at BehindZero b begins = BehindX

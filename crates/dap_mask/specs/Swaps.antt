@@ -6,13 +6,13 @@ use Rattle.dap_mask.specs.Rules.{same_kind, same_name}
 use Rattle.dap_mask.specs.declared.swaps.Half.{Half as ReadHalf}
 use Rattle.dap_mask.specs.declared.swaps.SwapRule.{SwapRule as ReadSwapRule}
 
--- The messages of one kind and one name; no name is any name.
+-- The messages of one kind and one name. `None` is any name.
 pub record Half : Type 0 where
   pub kind : Kind
   pub name : Option (List ℕ)
 
--- A rule for the order (own): a message that fits one half and a message that fits the other may
--- change places if they are neighbours.
+-- A rule for the order (own): a message that matches one half and a message that matches the other
+-- may be exchanged if they are neighbours.
 pub record SwapRule : Type 0 where
   pub one : Half
   pub another : Half
@@ -31,7 +31,7 @@ abbrev pub is_swap_among : SwapRule → List SwapRule → Bool
 is_swap_among s [] = false
 is_swap_among s (t ∷ ts) = same_swap s t || is_swap_among s ts
 
--- ---- the same of the program
+-- ---- the models of the program's types
 
 abbrev pub half_of : ReadHalf → Half
 half_of h = record { kind = h.kind; name = option_map string_bytes h.name }

@@ -1,37 +1,66 @@
-//! Why a file of rules is refused.
+//! Errors of a rules file.
 ghost use Rattle.std.specs.Prelude.{◌≡◌};
 
 use std::alloc::{AllocError, AllocFailed};
 use thiserror::Error;
 
-/// Why a file of rules is refused.
+/// Why a rules file is rejected.
 #[derive(Clone, Copy, Debug, PartialEq, Eq, Error)]
 pub enum RulesCause {
-    /// The file has more than 65,536 bytes. The line is that of the first byte past them.
+    /// The file has more than 65,536 bytes. The line is that of the first byte past the limit.
+    ///
+    /// - Cause: another file, such as a recording.
+    /// - Fix: name the rules file.
     #[error("TooLong")]
     TooLong,
-    /// The line is no UTF-8.
+    /// The line is not UTF-8.
+    ///
+    /// - Cause: a comment in another encoding.
+    /// - Fix: save the file as UTF-8.
     #[error("NotUtf8")]
     NotUtf8,
-    /// The line is neither a rule, nor empty, nor a comment alone.
+    /// The line is not a rule, not empty and not only a comment.
+    ///
+    /// - Cause: a missing word, or a name with other characters that is not in quotes.
+    /// - Fix: write a verb, a kind, a name and a place, or `swap` with two kinds and names, with
+    ///   spaces between them.
     #[error("BadRule")]
     BadRule,
-    /// A thousand rules stand before it.
+    /// A thousand rules precede it.
+    ///
+    /// - Cause: rules made by a script, one for each name.
+    /// - Fix: join rules, with `*` for the name.
     #[error("TooMany")]
     TooMany,
-    /// What stands at the place is never changed: it is an id that the profile renames, or the
-    /// message itself, or its `type`, `command`, `event` or `success`.
+    /// The place never changes: it is an id that the profile renames, the message itself, or its
+    /// `type`, `command`, `event` or `success`.
+    ///
+    /// - Cause: a rule for a number that `normalise` renames anyway.
+    /// - Fix: leave the rule out.
     #[error("BadPlace")]
     BadPlace,
-    /// The same rule stands before it. If the halves of a rule for the order are exchanged, it is
-    /// still the same rule.
+    /// The same rule precedes it. A `swap` rule with its halves exchanged is the same rule.
+    ///
+    /// - Cause: two rules files put together.
+    /// - Fix: leave it out.
     #[error("Repeated")]
     Repeated,
-    /// Before this rule for digits stands one for hexadecimal numbers at the same place of messages
-    /// that may be the same: what is masked by both, masked again, may be another text.
+    /// A `hex` rule precedes this `digits` rule for the same place of messages that may be the
+    /// same, so masking twice could differ from masking once.
+    ///
+    /// - Cause: the order of the two.
+    /// - Fix: write `digits` first.
     #[error("DigitsBehindHex")]
     DigitsBehindHex,
-    /// Memory was refused.
+    /// An earlier rule has another action at the same place of messages that may be the same, and
+    /// masking twice by both could change a text again.
+    ///
+    /// - Cause: `hex` before `long`, `uuid` after another action, or `uuid` with `digits`.
+    /// - Fix: write `uuid` before `long` and `hex` last, and do not use `uuid` and `digits` at one
+    ///   place.
+    #[error("Clash")]
+    Clash,
+    /// An allocation failed.
     #[error("Memory")]
     Memory,
 }
@@ -56,11 +85,11 @@ impl<T: Drop> From<AllocFailed<T>> for RulesCause {
     }
 }
 
-/// Which line of a file of rules is refused, and why.
+/// The line of a rules file that is rejected, and the reason.
 #[derive(Clone, Copy, Debug, PartialEq, Eq, Error)]
 #[error("line {line}: {cause}")]
 pub struct RulesFault {
-    /// The line, from 1.
+    /// The line number, counted from 1.
     pub line: usize,
     pub cause: RulesCause,
 }

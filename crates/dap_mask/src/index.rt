@@ -1,4 +1,4 @@
-//! The rules that may speak of a message, found by its kind and its name.
+//! Finds the rules that may apply to a message, by its kind and its name.
 ghost use Rattle.std.specs.Prelude.{◌≡◌, ◌<◌, length, option_map, IfOk, IfErr, OnOk};
 ghost use Rattle.dap_mask.specs.Index.{may_speak, positions, AreRight, AddsName, HasAsked};
 ghost use Rattle.dap_mask.specs.Index.{IsIndex, places_in};
@@ -11,19 +11,19 @@ use dap_message::Kind;
 use std::alloc::{AllocError, Global};
 use std::collections::BTreeMap;
 
-/// The rules that may speak of messages of one kind, by their places among all.
+/// The positions, in the list of all changes, of the rules that may apply to messages of one kind.
 #[derive(Drop)]
 pub(crate) struct KindRules {
-    /// For each name that a rule asks for, those that may speak of messages of that name.
+    /// For each name in a rule, the positions of the rules that may apply to messages of that name.
     named: BTreeMap<String, Vec<usize>>,
-    /// Those that ask for no name.
+    /// The positions of the rules that apply to every name.
     any: Vec<usize>,
 }
 
 impl KindRules {
     ghost use Rattle.dap_mask.specs.ListedRules.{listed_changes};
 
-    /// The index of the changes for messages of a kind.
+    /// Builds the index of the changes for messages of a kind. Without changes, does not fail.
     pub(crate) fn new(alloc: Global, list: &RuleList, kind: Kind) -> Result<KindRules, AllocError>
         ensures index { IfOk result (λ x. IsIndex kind (listed_changes list.now) x) }
         ensures memory { IfErr result (λ _. 0 < length (listed_changes list.now)) }
@@ -34,7 +34,8 @@ impl KindRules {
         Ok(KindRules { named, any })
     }
 
-    /// The rules that may speak of messages of this name, by their places among all, in order.
+    /// Returns the positions of the rules that may apply to messages of this name, in order. `None`
+    /// is a name that no rule contains.
     pub(crate) fn places<'a>(&'a self, name: Option<&str>) -> &'a [usize]
         ensures { result.now ≡ places_in self.now (option_map (λ s. s.now) name.entry) }
     {
@@ -48,7 +49,7 @@ impl KindRules {
     }
 }
 
-// The places for each name that a rule of the kind asks for.
+// Returns the positions for each name that occurs in a rule of the kind.
 fn places_by_name(
     alloc: Global,
     rules: &[MaskRule],
@@ -65,7 +66,8 @@ fn places_by_name(
     Ok(names)
 }
 
-// The places for the rule's name, where it is of the kind and asks for one that has none yet.
+// Adds the positions for the rule's name, if the rule is of the kind and has a name that is not a
+// key yet.
 fn add_name(
     alloc: Global,
     rules: &[MaskRule],
@@ -92,8 +94,8 @@ fn add_name(
     Ok(())
 }
 
-// The places of the rules that may speak of messages of this kind and name; no name stands for one
-// that no rule has.
+// Returns the positions of the rules that may apply to messages of this kind and name. `None` is a
+// name that no rule contains.
 fn positions(
     alloc: Global,
     rules: &[MaskRule],

@@ -1,4 +1,5 @@
-//! Laws of masked documents. Each function does nothing: a call of it gives its clauses to a proof.
+//! Theorems about masked documents. Each function does nothing; calling it makes its clauses
+//! available to a proof.
 ghost use Rattle.dap_mask.specs.Grammar.{ParserFindsLine, LineSaysOne};
 ghost use Rattle.dap_mask.specs.Laws.{MaskedByPath, OneMasked, KeepsOthers, NoneNew, DropsAlike};
 ghost use Rattle.dap_mask.specs.Laws.{MaskedOnce, EqualWhereAgree, KeepsOrder, KeepsSound};
@@ -7,7 +8,7 @@ ghost use Rattle.dap_mask.specs.Loose.{UnmaskedIsRead, OneLooseReading, LooseIsO
 ghost use Rattle.dap_mask.specs.Loose.{LeftIsRead};
 ghost use Rattle.dap_mask.specs.Ids.{LeavesIds};
 
-/// A masked document is told path by path: exactly the places of the rules are changed.
+/// The value at each path determines a masked document. Only the places of the rules change.
 pub fn exactly_those_places()
     ensures paths { MaskedByPath }
     ensures one { OneMasked }
@@ -19,42 +20,44 @@ pub fn exactly_those_places()
     ensures utf8 { KeepsUtf8 }
 {}
 
-/// A masked document, masked again, is what it was.
+/// Masking a masked document again does not change it, if its members are in order.
 pub fn masked_once()
     ensures { MaskedOnce }
 {}
 
-/// Two documents are masked to equal ones exactly where they agree but for what the rules take
-/// away.
+/// Masking two documents yields equal documents if and only if the two agree except for the parts
+/// that the rules redact.
 pub fn equal_where_they_agree()
     ensures { EqualWhereAgree }
 {}
 
-/// What `digits` and `hex` make of a text.
+/// `digits` and `hex` return the strings that their relations describe.
 pub fn texts()
     ensures digits { DigitsAre }
     ensures hex { HexIs }
 {}
 
-/// A content without rules is what it is read as.
+/// Without rules, the result is the document that the content represents.
 pub fn unmasked_is_read()
     ensures { UnmaskedIsRead }
 {}
 
-/// A content is read as one document, also where it has fractions. The members of its objects stand
-/// in the byte order of their names, and what the rules leave of it is read from its own text.
+/// Each content represents at most one document, even if it contains non-integer numbers. The
+/// members of its objects are in the byte order of their names. The text of the masked document is
+/// read as the same document.
 pub fn left_is_read()
     ensures one { OneLooseReading }
     ensures ordered { LooseIsOrdered }
     ensures left { LeftIsRead }
 {}
 
-/// Rules with no place of an id leave each id, or take it away with what it stood in.
+/// If no rule has the place of an id, each id is unchanged or is removed with a value that contains
+/// it.
 pub fn leaves_ids()
     ensures { LeavesIds }
 {}
 
-/// A line of a rules file is parsed as what the grammar reads in it. Each line says one thing.
+/// The parser of a line of a rules file agrees with the grammar. Each line has exactly one meaning.
 pub fn line_grammar()
     ensures parser { ParserFindsLine }
     ensures one { LineSaysOne }

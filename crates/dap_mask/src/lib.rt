@@ -1,8 +1,9 @@
-//! Masks: rules that take away of messages what changes from run to run.
+//! Masks: rules that redact the parts of messages that change from run to run.
 //!
-//! [`MaskRules::read`] reads the rules of a file, and [`mask`] blanks the values of a message at
-//! their places. `specs/` says what that means, and [`laws`] has the theorems. The file may also
-//! have rules for the order of messages, [`MaskRules::swaps`], which masking does not use.
+//! [`MaskRules::read`] reads the rules of a file, and [`mask`] changes the values of a message at
+//! the places of the rules. `specs/` defines the meaning of the rules, and [`laws`] states the
+//! theorems. The file may also contain rules for the order of messages, [`MaskRules::swaps`], which
+//! masking does not use.
 #![tactic(auto)]
 
 mod fault;

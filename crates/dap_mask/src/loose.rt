@@ -1,4 +1,4 @@
-//! Contents whose fractions are judged after the masks.
+//! Reads contents and rejects non-integer numbers only after masking.
 ghost use Rattle.std.specs.Prelude.{◌≡◌, ◌<◌, length, IfOk, IfErr, IsErrOf, IfSome, option_map};
 ghost use Rattle.serde_json.specs.View.{number_view, view as value_view, items_view as values_view};
 ghost use Rattle.serde_json.specs.View.{members_view as pairs_view};
@@ -15,15 +15,18 @@ use serde_json::{Map, Number, Value};
 use std::alloc::{AllocError, Global};
 use std::collections::BTreeMap;
 
-/// What stands where a number is not kept whole: 2^64, which no content has, and which cannot be
-/// written.
+/// Represents each number that is not an integer of 64 bits: 2^64, which is out of range and
+/// therefore not serialisable.
 const NO_WHOLE: i128 = 18_446_744_073_709_551_616;
 
-/// Reads the tree of a content and masks it, with room that is kept from read to read. None is left
-/// of an event that the rules leave out.
+/// Reads the tree of a content and masks it. Reuses the buffers in `scratch` between calls. Returns
+/// `None` for an event that the rules drop.
 ///
-/// A number that is not kept whole is a fault only where the masks leave it. `Memory` may come for
-/// any content that is not empty, and says nothing of it.
+/// # Errors
+///
+/// - `Json`: the content is not JSON text.
+/// - `Fraction`: a number is not an integer of 64 bits and remains after masking.
+/// - `Memory`: an allocation failed. The content is not empty, and may be valid or not.
 pub fn read_masked(
     alloc: Global,
     content: &[u8],
@@ -34,7 +37,8 @@ pub fn read_masked(
     ensures err { IfErr result (ExplainsMasked (mask_of rules.now) content.now) }
     ensures memory { IsErrOf result TreeFault.Memory → 0 < length content.now }
 
-    // Exactly those places; masked again, it is what it was; equal exactly if equal elsewhere.
+    // Only the places of the rules change. Masking the result again does not change it. Another
+    // content has the same result if and only if both agree except for the redacted parts.
     ensures masked { IfOk result (λ o. IfSome (option_map view o)
         (IsContentMasked (changes_of rules.now) content.now)) }
 {
@@ -50,7 +54,7 @@ pub fn read_masked(
     }
 }
 
-// The tree of a content, with 2^64 for each number that is not kept whole.
+// Reads the tree of a content, with 2^64 for each number that is not an integer of 64 bits.
 fn read_loosely(alloc: Global, content: &[u8], scratch: &mut Scratch) -> Result<Tree, TreeFault>
     ensures ok { IfOk result (λ t. IsReadLoosely content.now (view t)) }
     ensures err { IfErr result (ExplainsLoosely content.now) }

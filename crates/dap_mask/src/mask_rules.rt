@@ -1,4 +1,4 @@
-//! The rules of a mask, with an index of them.
+//! The rules of a mask and an index of them.
 ghost use Rattle.std.specs.Prelude.{◌≡◌, ◌≢◌, ◌≤◌, Ok, Err, map, option_map, string_bytes};
 ghost use Rattle.std.specs.Prelude.{◌<◌, IfOk, IfErr, length};
 ghost use Rattle.dap_profile.specs.declared.profile.Kind.TheVariants.{Request, Response, Event};
@@ -15,8 +15,9 @@ use std::alloc::{AllocError, Global};
 
 /// The rules of a mask.
 ///
-/// None of them changes a member by which a message is told, or a number that the profile renames;
-/// and what is masked by them, masked again, is what it was.
+/// The place of a rule is never the message itself, its `type`, `command`, `event` or `success`, or
+/// an id that the profile renames. Masking a masked message again does not change it, if its
+/// members are in order.
 #[derive(Drop)]
 pub struct MaskRules {
     list: RuleList,
@@ -40,9 +41,9 @@ impl MaskRules {
 
     /// Reads the rules of a file.
     ///
-    /// A line is a rule, or nothing: `#` begins a comment. Of lines that are refused the first is
-    /// told, and why. `Memory` is returned only for a file that is not too long and has a rule or a
-    /// line that is refused; its line says nothing of the file.
+    /// A line contains a rule or nothing; `#` starts a comment. The error is that of the first line
+    /// that is rejected. `Memory` is returned only for a file that is not too long and contains a
+    /// rule or a line that is rejected. Its line number has no meaning.
     pub fn read(alloc: Global, text: &[u8]) -> Result<MaskRules, RulesFault>
         ensures ok { IfOk result (λ r. rules_said text.now ≡ Ok (mask_of r)) }
         ensures err { IfErr result
@@ -77,29 +78,30 @@ impl MaskRules {
         })
     }
 
-    /// The changes, in the order in which they apply.
+    /// Returns the changes, in the order in which they apply.
     pub fn changes(&self) -> &[MaskRule]
         ensures { rules_of result.now ≡ changes_of self.now }
     {
         self.list.changes()
     }
 
-    /// The names of the events that are left out; all events, if one of them is `None`.
+    /// Returns the names of the events that are dropped. `None` is any name.
     pub fn dropped(&self) -> &[Option<String>]
         ensures { map (option_map string_bytes) result.now ≡ dropped_of self.now }
     {
         self.list.dropped()
     }
 
-    /// The rules for the order, in the order of the file. Masking does not use them.
+    /// Returns the rules for the order of messages, in the order of the file. Masking does not use
+    /// them.
     pub fn swaps(&self) -> &[SwapRule]
         ensures { swaps_of result.now ≡ swaps_of_mask self.now }
     {
         self.list.swaps()
     }
 
-    /// The changes that may speak of messages of this kind and name, by their places among all, in
-    /// order.
+    /// Returns the positions of the changes that may apply to messages of this kind and name, in
+    /// order. `None` is a name that no rule contains.
     pub(crate) fn places<'a>(&'a self, kind: Kind, name: Option<&str>) -> &'a [usize]
         ensures { result.now
             ≡ positions kind (option_map (λ s. s.now) name.entry) (changes_of self.now) }

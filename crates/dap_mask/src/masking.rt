@@ -1,4 +1,4 @@
-//! The values of a message that a mask takes away, changed in place.
+//! Masks the values of a message in place.
 ghost use Rattle.std.specs.Prelude.{◌≡◌, ◌↔◌, true, Some, map, option_map, string_bytes};
 ghost use Rattle.std.specs.Prelude.{slice_get};
 ghost use Rattle.dap_tree.specs.Doc.{Doc, is_sound, is_ordered, get, change_child, change_items};
@@ -19,22 +19,24 @@ use crate::meets::text_of;
 use crate::rules::{MaskRule, Step, Verb};
 use crate::texts::{digits, hex};
 use dap_message::Kind;
+use dap_texts::{long, uuid};
 use dap_tree::Tree;
 use std::mem;
 
-/// Masks a message in place. No memory is taken.
+/// Masks a message in place. Does not allocate.
 pub fn mask(tree: &mut Tree, rules: &MaskRules)
     ensures masked { view tree.new ≡ masked (changes_of rules.now) (view tree.old) }
 
-    // Exactly those places: at each path stands what the rules leave there, and every other path
-    // has what it had.
+    // Only the places of the rules change. The value at each path is the value that the rules
+    // produce there. The values at all other paths are unchanged, and no path is new.
     ensures places { IsMasked (changes_of rules.now) (view tree.old) (view tree.new) }
     ensures elsewhere { KeepsElsewhere (changes_of rules.now) (view tree.old) (view tree.new) }
     ensures none_new { HasNoNewPath (view tree.old) (view tree.new) }
     ensures ids { KeepsIds (view tree.old) (view tree.new) }
 
-    // Of a document whose members stand in order: no other one is masked so; masked again it is
-    // what it was; and it is what another one is masked to exactly if the two agree elsewhere.
+    // If the members of the document are in order, the masked document is unique, and masking it
+    // again does not change it. Masking another ordered document yields the same result if and
+    // only if the two documents agree except for the parts that the rules redact.
     ensures one { is_ordered (view tree.old) ≡ true
         → (d : Doc) → IsMasked (changes_of rules.now) (view tree.old) d → d ≡ view tree.new }
     ensures again { is_ordered (view tree.old) ≡ true
@@ -43,7 +45,8 @@ pub fn mask(tree: &mut Tree, rules: &MaskRules)
         → (view tree.new ≡ masked (changes_of rules.now) d)
         ↔ AgreeBut (changes_of rules.now) (view tree.old) d }
 
-    // It can be written where it could, its members stand in order, and it is dropped as before.
+    // The message stays serialisable and keeps its members in order, if it was so before. It is
+    // dropped if and only if it was dropped before.
     ensures sound { is_sound (view tree.old) ≡ true → is_sound (view tree.new) ≡ true }
     ensures ordered { is_ordered (view tree.old) ≡ true → is_ordered (view tree.new) ≡ true }
     ensures dropped { is_dropped (dropped_of rules.now) (view tree.new)
@@ -109,7 +112,7 @@ fn told_name(tree: &Tree, kind: Kind) -> Option<&str>
     }
 }
 
-/// Whether a message is an event that the rules leave out.
+/// Returns whether a message is an event that the rules drop. Does not allocate.
 pub fn is_dropped(tree: &Tree, rules: &MaskRules) -> bool
     ensures { result ≡ is_dropped (dropped_of rules.now) (view tree.now) }
 {
@@ -231,11 +234,13 @@ fn change(tree: &mut Tree, verb: Verb)
         (Verb::Blank, old) => blank(old),
         (Verb::Digits, Tree::Text(text)) => Tree::Text(digits(text)),
         (Verb::Hex, Tree::Text(text)) => Tree::Text(hex(text)),
+        (Verb::Long, Tree::Text(text)) => Tree::Text(long(text)),
+        (Verb::Uuid, Tree::Text(text)) => Tree::Text(uuid(text)),
         (_, old) => old,
     };
 }
 
-// The blank of a value, in the memory that it has.
+// Returns the blank of a value and reuses the allocation of the value.
 fn blank(tree: Tree) -> Tree
     ensures { view result ≡ blank (view tree) }
 {

@@ -1,10 +1,12 @@
-//! Whether rules are of the same messages and places.
+//! Compares rules: by messages, by places, and by clashes between actions.
 ghost use Rattle.std.specs.Prelude.{◌≡◌, option_map, string_bytes};
 ghost use Rattle.dap_mask.specs.Rules.{rule_of, rules_of, step_of, place_of, same_step, same_place};
 ghost use Rattle.dap_mask.specs.Rules.{same_kind, share_name, same_name, same_verb, same_rule};
-ghost use Rattle.dap_mask.specs.Rules.{is_among, unsettles, clash, is_clashed_with};
+ghost use Rattle.dap_mask.specs.Rules.{is_among, unsettles, clash};
 ghost use Rattle.dap_mask.specs.Rules.{is_naming, is_telling, is_telling_place};
+ghost use Rattle.dap_mask.specs.RulesFile.{cause_of_pair, clash_cause};
 
+use crate::fault::RulesCause;
 use crate::rules::{MaskRule, Step, Verb};
 use dap_message::Kind;
 
@@ -18,7 +20,7 @@ pub(crate) fn same_kind(kind: Kind, other: Kind) -> bool
     }
 }
 
-/// The text of a name; `None`, which is any, where there is none.
+/// Returns a name as a borrowed string. `None` is any name.
 pub(crate) fn text_of(name: &Option<String>) -> Option<&str>
     ensures { option_map (λ s. s.now) result ≡ option_map string_bytes name.now }
 {
@@ -28,7 +30,7 @@ pub(crate) fn text_of(name: &Option<String>) -> Option<&str>
     }
 }
 
-/// Whether a message may have both names.
+/// Returns whether a message may have both names.
 pub(crate) fn share_name(name: Option<&str>, other: Option<&str>) -> bool
     ensures { result
         ≡ share_name (option_map (λ s. s.now) name.entry) (option_map (λ s. s.now) other.entry) }
@@ -57,6 +59,8 @@ fn same_verb(verb: Verb, other: Verb) -> bool
         Verb::Blank => matches!(other, Verb::Blank),
         Verb::Digits => matches!(other, Verb::Digits),
         Verb::Hex => matches!(other, Verb::Hex),
+        Verb::Long => matches!(other, Verb::Long),
+        Verb::Uuid => matches!(other, Verb::Uuid),
     }
 }
 
@@ -111,7 +115,12 @@ pub(crate) fn is_among(rule: &MaskRule, rules: &[MaskRule]) -> bool
 fn unsettles(verb: Verb, later: Verb) -> bool
     ensures { result ≡ unsettles verb later }
 {
-    matches!(verb, Verb::Hex) && matches!(later, Verb::Digits)
+    match verb {
+        Verb::Hex => matches!(later, Verb::Digits | Verb::Long | Verb::Uuid),
+        Verb::Digits | Verb::Long => matches!(later, Verb::Uuid),
+        Verb::Uuid => matches!(later, Verb::Digits),
+        Verb::Blank => false,
+    }
 }
 
 fn clash(rule: &MaskRule, later: &MaskRule) -> bool
@@ -123,16 +132,27 @@ fn clash(rule: &MaskRule, later: &MaskRule) -> bool
         && share_name(text_of(&rule.name), text_of(&later.name))
 }
 
-/// Whether one of the rules clashes with this later one.
-pub(crate) fn is_clashed_with(rules: &[MaskRule], later: &MaskRule) -> bool
-    ensures { result ≡ is_clashed_with (rules_of rules.now) (rule_of later.now) }
+// Returns why the later action may not follow the other one, if it unsettles it.
+fn cause_of_pair(verb: Verb, later: Verb) -> RulesCause
+    ensures { result ≡ cause_of_pair verb later }
+{
+    match (verb, later) {
+        (Verb::Hex, Verb::Digits) => RulesCause::DigitsBehindHex,
+        _ => RulesCause::Clash,
+    }
+}
+
+/// Returns why this later rule may not follow the rules, by the first of them that clashes with it;
+/// `None` if none does.
+pub(crate) fn clash_cause(rules: &[MaskRule], later: &MaskRule) -> Option<RulesCause>
+    ensures { result ≡ clash_cause (rules_of rules.now) (rule_of later.now) }
 {
     for rule in rules {
         if clash(rule, later) {
-            return true;
+            return Some(cause_of_pair(rule.verb, later.verb));
         }
     }
-    false
+    None
 }
 
 fn is_naming(name: &str) -> bool
@@ -147,7 +167,7 @@ fn is_telling(name: &str) -> bool
     name == "type" || is_naming(name) || name == "success"
 }
 
-/// Whether the place is the message itself, or a member by which it is told.
+/// Returns whether the place is the message itself, or its `type`, `command`, `event` or `success`.
 pub(crate) fn is_telling_place(place: &[Step]) -> bool
     ensures { result ≡ is_telling_place (place_of place.now) }
 {

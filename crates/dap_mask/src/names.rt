@@ -1,4 +1,4 @@
-//! Names of messages and of members, as a rules file has them.
+//! Parses the names of messages and of members in a rules file.
 ghost use Rattle.std.specs.Prelude.{◌≡◌, Some, IfOk, option_map, string_bytes};
 ghost use Rattle.serde_json.specs.View.{view as value_view};
 ghost use Rattle.dap_mask.specs.RuleText.{text_in, string_of, quoted_at, plain_at, name_at};
@@ -8,7 +8,7 @@ use crate::runs::{ByteClass, closing, is_closed, split_run};
 use serde_json::Value;
 use std::alloc::{AllocError, Global};
 
-/// The name at the front of a text, and the rest; `None` where there is none.
+/// Returns the name with which the text starts, and the rest; `None` if it starts with no name.
 pub(crate) fn name_at(alloc: Global, text: &[u8]) -> Result<Option<(String, &[u8])>, AllocError>
     ensures { IfOk result
         (λ o. option_map (λ n. (string_bytes n.0, n.1.now)) o ≡ name_at text.now) }
@@ -25,7 +25,7 @@ pub(crate) fn name_at(alloc: Global, text: &[u8]) -> Result<Option<(String, &[u8
     }
 }
 
-/// The same, where `*` is `None`: any name.
+/// Returns the name, or `None` for `*`, with which the text starts, and the rest. `*` is any name.
 pub(crate) fn any_name(
     alloc: Global,
     text: &[u8],
@@ -59,7 +59,8 @@ fn plain_at(alloc: Global, text: &[u8]) -> Result<Option<(String, &[u8])>, Alloc
     Ok(Some((String::from_utf8(name).unwrap(), rest)))
 }
 
-// The text begins with a quote.
+// Returns the name in quotes with which the text starts, and the rest. The caller has checked the
+// opening quote.
 fn quoted_at(alloc: Global, text: &[u8]) -> Result<Option<(String, &[u8])>, AllocError>
     ensures { IfOk result
         (λ o. option_map (λ n. (string_bytes n.0, n.1.now)) o ≡ quoted_at text.now) }

@@ -1,4 +1,4 @@
-//! Places, as a rules file has them.
+//! Parses the places of a rules file.
 ghost use Rattle.std.specs.Prelude.{◌≡◌, IfOk, option_map};
 ghost use Rattle.dap_mask.specs.RuleText.{each_step, next_step, place_at};
 ghost use Rattle.dap_mask.specs.Rules.{step_of, place_of};
@@ -7,7 +7,7 @@ use crate::names::name_at;
 use crate::rules::Step;
 use std::alloc::{AllocError, Global};
 
-/// The place at the front of a text, and the rest; `None` where there is none.
+/// Returns the place with which the text starts, and the rest; `None` if it starts with no place.
 pub(crate) fn place_at(alloc: Global, text: &[u8]) -> Result<Option<(Vec<Step>, &[u8])>, AllocError>
     ensures { IfOk result
         (λ o. option_map (λ p. (place_of p.0.items, p.1.now)) o ≡ place_at text.now) }
@@ -33,7 +33,7 @@ pub(crate) fn place_at(alloc: Global, text: &[u8]) -> Result<Option<(Vec<Step>, 
     Ok(None)
 }
 
-// A further step of a place, and the rest; `None` where the place is over.
+// Returns the next step of a place, and the rest; `None` if the place ends here.
 fn next_step(alloc: Global, text: &[u8]) -> Result<Option<(Step, &[u8])>, AllocError>
     ensures { IfOk result (λ o. option_map (λ p. (step_of p.0, p.1.now)) o ≡ next_step text.now) }
 {
@@ -54,7 +54,7 @@ fn next_step(alloc: Global, text: &[u8]) -> Result<Option<(Step, &[u8])>, AllocE
     }
 }
 
-// `[]`, behind its first bracket.
+// Parses the rest of `[]` after its first bracket.
 fn each_step(text: &[u8]) -> Option<(Step, &[u8])>
     ensures { option_map (λ p. (step_of p.0, p.1.now)) result ≡ each_step text.now }
 {

@@ -1,4 +1,4 @@
-//! Whether a rule has the place of an id of the profile.
+//! Finds rules whose place is that of an id in the profile.
 ghost use Rattle.std.specs.Prelude.{◌≡◌, map};
 ghost use Rattle.dap_profile.specs.ProfileRows.{row_of};
 ghost use Rattle.dap_profile.specs.PlaceSteps.{steps_of};
@@ -10,14 +10,15 @@ use crate::meets::{same_kind, share_name, text_of};
 use crate::rules::{MaskRule, Step};
 use dap_profile::{Place, Row, profile_rows};
 
-/// One step of a row's place.
+/// One step of the place of a row.
 #[derive(Clone, Copy, Drop)]
 enum RowStep {
     Member(&'static str),
     Each,
 }
 
-/// Whether some row of the profile has an id at the rule's place, in a message of both.
+/// Returns whether some row of the profile has an id at the rule's place, and the rule and the row
+/// may apply to the same message.
 pub(crate) fn takes_profile_id(rule: &MaskRule) -> bool
     ensures { result ≡ takes_profile_id (rule_of rule.now) }
 {

@@ -1,4 +1,4 @@
-//! The rules of a mask in the order of their file, read from it.
+//! Reads the rules of a mask from a file and stores them in the order of the file.
 ghost use Rattle.std.specs.Prelude.{◌≡◌, ◌≢◌, ◌≤◌, true, None, Ok, Err, map, option_map};
 ghost use Rattle.std.specs.Prelude.{IfOk, IfErr, OnOk, length, string_bytes, ◌+◌, vec_len};
 ghost use Rattle.std.specs.Str.{is_utf8};
@@ -7,7 +7,7 @@ ghost use Rattle.dap_mask.specs.Rules.{rule_of, rules_of, are_safe, are_settled}
 ghost use Rattle.dap_mask.specs.RulesFile.{is_name_among, change_cause, last_line};
 
 use crate::fault::{RulesCause, RulesFault};
-use crate::meets::{is_among, is_clashed_with, is_telling_place, same_name, text_of};
+use crate::meets::{clash_cause, is_among, is_telling_place, same_name, text_of};
 use crate::profile_ids::takes_profile_id;
 use crate::rules::MaskRule;
 use crate::runs::{ByteClass, split_run};
@@ -16,16 +16,17 @@ use crate::swaps::{SwapRule, is_swap_among};
 use std::alloc::{AllocError, Global};
 use std::str;
 
-/// How many bytes a file of rules may have.
+/// The maximum length of a rules file in bytes.
 const MAX_BYTES: usize = 65_536;
 
-/// How many rules a mask may have.
+/// The maximum number of rules of a mask.
 const MAX_RULES: usize = 1_000;
 
 /// The rules of a mask in the order of their file, at most `MAX_RULES`.
 ///
-/// None of them changes a member by which a message is told, or a number that the profile renames;
-/// and what is masked by them, masked again, is what it was.
+/// The place of a rule is never the message itself, its `type`, `command`, `event` or `success`, or
+/// an id that the profile renames. Masking a masked message again does not change it, if its
+/// members are in order.
 #[derive(Drop)]
 pub(crate) struct RuleList {
     changes: Vec<MaskRule>,
@@ -48,9 +49,9 @@ impl RuleList {
 
     /// Reads the rules of a file.
     ///
-    /// A line is a rule, or nothing: `#` begins a comment. Of lines that are refused the first is
-    /// told, and why. `Memory` is returned only for a file that is not too long and has a rule or a
-    /// line that is refused.
+    /// A line contains a rule or nothing; `#` starts a comment. The error is that of the first line
+    /// that is rejected. `Memory` is returned only for a file that is not too long and contains a
+    /// rule or a line that is rejected.
     #[tactic(auto, unfolding(crate::specs::RulesFile::rules_said))]
     pub(crate) fn read(alloc: Global, text: &[u8]) -> Result<RuleList, RulesFault>
         ensures ok { IfOk result (λ r. rules_said text.now ≡ Ok (listed_mask r)) }
@@ -83,21 +84,21 @@ impl RuleList {
         }
     }
 
-    /// The changes, in the order in which they apply.
+    /// Returns the changes, in the order in which they apply.
     pub(crate) fn changes(&self) -> &[MaskRule]
         ensures { rules_of result.now ≡ listed_changes self.now }
     {
         self.changes.as_slice()
     }
 
-    /// The names of the events that are left out; all events, if one of them is `None`.
+    /// Returns the names of the events that are dropped. `None` is any name.
     pub(crate) fn dropped(&self) -> &[Option<String>]
         ensures { map (option_map string_bytes) result.now ≡ listed_dropped self.now }
     {
         self.dropped.as_slice()
     }
 
-    /// The rules for the order, in the order of the file.
+    /// Returns the rules for the order of messages, in the order of the file.
     pub(crate) fn swaps(&self) -> &[SwapRule]
         ensures { swaps_of result.now ≡ listed_swaps self.now }
     {
@@ -157,7 +158,7 @@ impl RuleList {
         }
     }
 
-    /// Why the rule may not stand behind these.
+    /// Returns why the rule may not follow the rules read so far; `None` if it may.
     fn cause_against(&self, statement: &Statement) -> Option<RulesCause>
         ensures { result ≡ cause_against (listed_mask self.now) (statement_of statement.now) }
     {
@@ -206,7 +207,7 @@ fn is_utf8(line: &[u8]) -> bool
     }
 }
 
-// The number of the line in which the text ends.
+// Returns the number of the last line of the text.
 fn last_line(text: &[u8]) -> usize
     requires { length text.now ≤ 65536 }
     ensures { result ≡ last_line text.now }
@@ -221,10 +222,8 @@ fn change_cause(changes: &[MaskRule], rule: &MaskRule) -> Option<RulesCause>
         Some(RulesCause::BadPlace)
     } else if is_among(rule, changes) {
         Some(RulesCause::Repeated)
-    } else if is_clashed_with(changes, rule) {
-        Some(RulesCause::DigitsBehindHex)
     } else {
-        None
+        clash_cause(changes, rule)
     }
 }
 

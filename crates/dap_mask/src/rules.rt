@@ -1,24 +1,30 @@
-//! Rules of a mask that change values.
+//! The rules of a mask that change values.
 
 use dap_message::Kind;
 
-/// What a rule makes of the value at its place.
+/// How a rule changes the value at its place.
 #[derive(Clone, Copy, Debug, PartialEq, Eq, Drop)]
 pub enum Verb {
-    /// The least value of its sort: `0`, `""`, `false`, `[]` or `{}`. Null stays.
+    /// Replaces the value by `0`, `""`, `false`, `[]` or `{}`, according to its type. Null and ids
+    /// are unchanged.
     Blank,
-    /// In a text, each run of digits is `0`.
+    /// Replaces each run of digits in a string by `0`.
     Digits,
-    /// In a text, each `0x` or `0X` with hexadecimal digits behind it is `0x0`.
+    /// Replaces each `0x` or `0X` followed by hexadecimal digits in a string by `0x0`.
     Hex,
+    /// Replaces each run of six or more hexadecimal digits in a string by `0`, if it contains a
+    /// decimal digit.
+    Long,
+    /// Replaces each UUID in a string by the nil UUID.
+    Uuid,
 }
 
 /// One step of a place.
 #[derive(Drop)]
 pub enum Step {
-    /// To the member of that name.
+    /// To the member with this name.
     Member(String),
-    /// To each element of a list.
+    /// To each element of an array.
     Each,
 }
 
@@ -26,10 +32,10 @@ pub enum Step {
 #[derive(Drop)]
 pub struct MaskRule {
     pub verb: Verb,
-    /// The messages that it speaks of.
+    /// The kind of the messages to which the rule applies.
     pub kind: Kind,
-    /// Their command or event; of every one, if `None`.
+    /// The command or event of these messages; any, if `None`.
     pub name: Option<String>,
-    /// Where in such a message the values stand.
+    /// The place of the values in such a message.
     pub place: Vec<Step>,
 }

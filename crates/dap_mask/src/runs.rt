@@ -1,15 +1,15 @@
-//! Runs of bytes at the front of a text.
+//! Runs of bytes at the start of a text.
 ghost use Rattle.std.specs.Prelude.{◌≡◌, ◌==◌, ◌≤◌, false, length, option_map};
 ghost use Rattle.dap_mask.specs.Runs.{has_class, front, behind, closing, is_closed, gap, is_end};
 
 /// A class of bytes.
 #[derive(Clone, Copy, Drop)]
 pub(crate) enum ByteClass {
-    /// Spaces, tabs, and the carriage return of a line end.
+    /// Spaces, tabs, and carriage returns.
     Blank,
-    /// What a name has that is written as it is: letters, digits, `_`, `-` and `$`.
+    /// The bytes of a name without quotes: ASCII letters, digits, `_`, `-` and `$`.
     Plain,
-    /// All bytes but a line feed.
+    /// All bytes except a line feed.
     InLine,
 }
 
@@ -25,7 +25,7 @@ fn has_class(class: ByteClass, byte: u8) -> bool
     }
 }
 
-/// The bytes of a class at the front, and the rest.
+/// Returns the longest prefix of bytes of a class, and the rest.
 pub(crate) fn split_run(text: &[u8], class: ByteClass) -> (&[u8], &[u8])
     ensures front { result.0.now ≡ front (has_class class) text.now }
     ensures behind { result.1.now ≡ behind (has_class class) text.now }
@@ -38,8 +38,8 @@ pub(crate) fn split_run(text: &[u8], class: ByteClass) -> (&[u8], &[u8])
     (text, &[])
 }
 
-/// How many bytes go up to the quote that closes a string, and with it; all, where none does. The
-/// text begins behind the string's first quote.
+/// Returns the number of bytes up to and including the quote that closes a string, or the length of
+/// the text if no quote closes it. The text starts after the opening quote of the string.
 pub(crate) fn closing(text: &[u8]) -> usize
     ensures end { result ≡ closing false text.now }
     ensures within { result ≤ length text.now }
@@ -54,8 +54,8 @@ pub(crate) fn closing(text: &[u8]) -> usize
     text.len()
 }
 
-/// Returns whether a quote closes a string: one that no backslash escapes. The text begins behind
-/// the string's first quote.
+/// Returns whether a quote that no backslash escapes closes a string. The text starts after the
+/// opening quote of the string.
 pub(crate) fn is_closed(text: &[u8]) -> bool
     ensures { result ≡ is_closed false text.now }
 {
@@ -69,7 +69,7 @@ pub(crate) fn is_closed(text: &[u8]) -> bool
     false
 }
 
-/// What stands behind one blank or more; `None` where there is none.
+/// Returns the rest after one or more blanks; `None` if the text starts with no blank.
 pub(crate) fn gap(text: &[u8]) -> Option<&[u8]>
     ensures { option_map (λ r. r.now) result ≡ gap text.now }
 {
@@ -77,7 +77,7 @@ pub(crate) fn gap(text: &[u8]) -> Option<&[u8]>
     if blanks.is_empty() { None } else { Some(rest) }
 }
 
-/// Whether nothing comes but blanks and a comment.
+/// Returns whether the text contains only blanks and perhaps a comment.
 pub(crate) fn is_end(text: &[u8]) -> bool
     ensures { result ≡ is_end text.now }
 {

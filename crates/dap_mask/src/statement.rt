@@ -1,4 +1,4 @@
-//! What a line of a rules file says.
+//! Parses a line of a rules file.
 ghost use Rattle.std.specs.Prelude.{◌≡◌, ◌≢◌, IfOk, IfErr, option_map, string_bytes};
 ghost use Rattle.dap_mask.specs.Mask.{statement_of, line_of, nothing};
 ghost use Rattle.dap_mask.specs.RuleText.{verb_named, kind_named, head_at, change_at, leave_out_at};
@@ -14,28 +14,28 @@ use crate::swaps::{Half, SwapRule};
 use dap_message::Kind;
 use std::alloc::{AllocError, Global};
 
-/// A rule, as a line has it.
+/// A rule, as written in a line.
 #[derive(Drop)]
 pub(crate) enum Statement {
-    /// Values are changed.
+    /// Changes values.
     Change(MaskRule),
-    /// Events of this name are left out; all of them, if `None`.
+    /// Drops the events of this name; all events, if `None`.
     LeaveOut(Option<String>),
-    /// Two neighbouring messages may change places.
+    /// Allows two neighbouring messages to be exchanged.
     Swap(SwapRule),
 }
 
-/// What a line says.
+/// The meaning of a line.
 #[derive(Drop)]
 pub(crate) enum Line {
-    /// It is empty but for blanks and a comment.
+    /// The line contains only blanks and perhaps a comment.
     Nothing,
     Rule(Statement),
-    /// It is neither.
+    /// The line is neither a rule nor empty.
     Bad,
 }
 
-/// Reads a line. A line that says nothing needs no memory.
+/// Reads a line. Does not allocate for a line without a rule or an error.
 pub(crate) fn read_line(alloc: Global, line: &[u8]) -> Result<Line, AllocError>
     ensures says { IfOk result (λ l. line_of l ≡ line_said line.now) }
     ensures memory { IfErr result (λ _. line_said line.now ≢ nothing) }
@@ -75,6 +75,10 @@ fn verb_named(word: &[u8]) -> Option<Verb>
         Some(Verb::Digits)
     } else if word == b"hex".as_slice() {
         Some(Verb::Hex)
+    } else if word == b"long".as_slice() {
+        Some(Verb::Long)
+    } else if word == b"uuid".as_slice() {
+        Some(Verb::Uuid)
     } else {
         None
     }
@@ -94,7 +98,7 @@ fn kind_named(word: &[u8]) -> Option<Kind>
     }
 }
 
-// The messages that a rule speaks of, and the rest.
+// Returns the kind and name of the messages to which a rule applies, and the rest of the text.
 fn head_at(alloc: Global, text: &[u8]) -> Result<Option<(Kind, Option<String>, &[u8])>, AllocError>
     ensures { IfOk result
         (λ o. option_map (λ h. (h.0, option_map string_bytes h.1, h.2.now)) o ≡ head_at text.now) }
@@ -151,7 +155,7 @@ fn leave_out_at(alloc: Global, text: &[u8]) -> Result<Option<Statement>, AllocEr
     }
 }
 
-// Returns one half of a rule for the order, which the text begins with, and the rest of the text.
+// Returns the half of a rule for the order with which the text starts, and the rest of the text.
 fn half_at(alloc: Global, text: &[u8]) -> Result<Option<(Half, &[u8])>, AllocError>
     ensures { IfOk result
         (λ o. option_map (λ h. (half_of h.0, h.1.now)) o ≡ half_at text.now) }

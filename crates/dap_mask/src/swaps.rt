@@ -14,8 +14,8 @@ pub struct Half {
     pub name: Option<String>,
 }
 
-/// A rule for the order: two neighbouring messages may change places if one of them fits one half
-/// and the other fits the other half. The rule is symmetric.
+/// A rule for the order: two neighbouring messages may be exchanged if one of them matches one half
+/// and the other matches the other half. The rule is symmetric.
 #[derive(Drop)]
 pub struct SwapRule {
     pub one: Half,

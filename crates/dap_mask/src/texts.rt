@@ -1,9 +1,9 @@
-//! Texts whose numbers are taken away, in the memory that they have.
+//! Redacts numbers in strings, in place.
 ghost use Rattle.std.specs.Prelude.{◌≡◌, ◌≤◌, length, take, string_bytes};
 ghost use Rattle.dap_mask.specs.Texts.{digits, hex, begins_hex, slice_begins_hex};
 ghost use Rattle.dap_mask.specs.Standing.{left_of, next_at};
 
-/// Each run of digits is one `0`.
+/// Replaces each run of digits by `0`. Does not allocate.
 pub(crate) fn digits(text: String) -> String
     ensures { string_bytes result ≡ digits (string_bytes text) }
 {
@@ -13,7 +13,7 @@ pub(crate) fn digits(text: String) -> String
     String::from_utf8(bytes).unwrap()
 }
 
-/// Each hexadecimal number is `0x0`.
+/// Replaces each hexadecimal number by `0x0`. Does not allocate.
 pub(crate) fn hex(text: String) -> String
     ensures { string_bytes result ≡ hex (string_bytes text) }
 {
@@ -23,7 +23,8 @@ pub(crate) fn hex(text: String) -> String
     String::from_utf8(bytes).unwrap()
 }
 
-// How many bytes from the front are the text that is left.
+// Replaces each run of digits by `0` and returns the length of the result, which is a prefix of the
+// bytes.
 fn squeeze_digits(bytes: &mut [u8]) -> usize
     ensures kept { take result bytes.new ≡ digits bytes.old }
     ensures len { result ≤ length bytes.old }
@@ -45,7 +46,7 @@ fn squeeze_digits(bytes: &mut [u8]) -> usize
     kept
 }
 
-/// Where a byte stands.
+/// The position of a byte relative to a hexadecimal number.
 #[derive(Clone, Copy, Drop)]
 enum At {
     Outside,
@@ -54,7 +55,8 @@ enum At {
     InNumber,
 }
 
-// The same of hexadecimal numbers.
+// Replaces each hexadecimal number by `0x0` and returns the length of the result, which is a prefix
+// of the bytes.
 fn squeeze_hex(bytes: &mut [u8]) -> usize
     ensures kept { take result bytes.new ≡ hex bytes.old }
     ensures len { result ≤ length bytes.old }

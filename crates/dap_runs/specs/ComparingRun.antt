@@ -23,13 +23,13 @@ use Rattle.dap_runs.specs.FaultLine.{compare_refused_text, fault_line, refused_t
 use Rattle.dap_runs.specs.Reporting.{HasSent, refused_status}
 use Rattle.dap_compare.specs.Verdicts.{Compares}
 
--- Where the names of the sort begin again, the line of a pair tells its stop.
+-- If the numbers of the kind restart, the line of a pair has its stop.
 abbrev pub tells_stop : Mode → Sort → Bool
 tells_stop PerStop Frame = true
 tells_stop PerStop Reference = true
 tells_stop mode sort = false
 
--- the line of a pair: the sort, perhaps with the stops behind which its class begins, and the two
+-- the line of a pair: the kind, perhaps with the number of stops before its class, and the two
 -- numbers
 abbrev pub pair_line : Mode → Pair → List ℕ
 pair_line mode pair =
@@ -44,7 +44,7 @@ same_line = codes "same\n"
 abbrev pub differ_line : ℕ → List ℕ
 differ_line number = codes "differ " ++ decimal number ++ codes "\n"
 
--- the first line of a verdict, and the pairs whose lines stand behind it
+-- the first line of a verdict, and the pairs that have lines after it
 abbrev pub first_line : Verdict → List ℕ
 first_line (Same renaming) = same_line
 first_line (Differ number) = differ_line number

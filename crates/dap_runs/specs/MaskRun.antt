@@ -24,8 +24,8 @@ use Rattle.dap_runs.specs.declared.mask_run.RulesRefused.TheVariants as refused
 
 -- ---- the rules
 
--- What became of the file of rules: it says a mask or a fault; it could not be read; or memory was
--- wanting.
+-- The result of reading the rules file: a mask or an error; it could not be read; or an allocation
+-- failed.
 pub data RulesOutcome : Type 0 where
   said : Result Mask RulesFault → RulesOutcome
   unread : RulesOutcome
@@ -66,6 +66,7 @@ cause_word cause.TooMany = codes "TooMany"
 cause_word cause.BadPlace = codes "BadPlace"
 cause_word cause.Repeated = codes "Repeated"
 cause_word cause.DigitsBehindHex = codes "DigitsBehindHex"
+cause_word cause.Clash = codes "Clash"
 cause_word cause.Memory = codes "Memory"
 
 -- the line of a file of rules that is refused

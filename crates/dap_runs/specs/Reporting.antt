@@ -6,8 +6,8 @@ use Rattle.dap_input.specs.declared.refused.Refused.{Refused}
 use Rattle.dap_input.specs.declared.refused.Refused.TheVariants.{ReadFault, WriteFault, Memory}
 use Rattle.dap_runs.specs.FaultLine.{fault_line, refused_text}
 
--- the status of the program where an engine gave up: a device failed, memory was wanting, or the
--- input is refused
+-- the status of the program after an error: a reader or a writer failed, an allocation failed, or
+-- the input is rejected
 abbrev pub refused_status : Refused → ℕ
 refused_status ReadFault = 4
 refused_status WriteFault = 4

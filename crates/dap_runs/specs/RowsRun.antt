@@ -6,12 +6,12 @@ use Rattle.dap_input.specs.declared.refused.Refused.{Refused}
 use Rattle.dap_input.specs.declared.refused.Refused.TheVariants.{WriteFault, Memory}
 use Rattle.dap_runs.specs.Reporting.{Answered, HasSent, IsTold}
 
--- what is told where no row has the number
+-- the line that is printed if no row has the number
 abbrev pub no_row : List ℕ
 no_row = codes "error: no row has this number: dapnorm rows prints them all\n"
 
--- The lines go out and are flushed, or a front of them and the writer fails, or nothing for want of
--- memory.
+-- The lines are written and flushed, or a prefix of them and the writer fails, or nothing because
+-- an allocation failed.
 abbrev pub RowsArePrinted : {W : Type 0} → Sink W → List ℕ → W → W → Result (Unit {0}) Refused
     → Type 0
 RowsArePrinted sink lines before after (Ok done) = AllSent sink before after lines

@@ -135,14 +135,14 @@ pub fn refusal_status(refused: CompareRefused) -> u8
 /// Compares two recordings, and answers the program's status. What is wrong is told on `errors`, in
 /// one line.
 ///
-/// Of recordings that are the same `same` goes to `writer`, and then a line for each pair of ids,
-/// `W FROM TO`, where W is `client-seq`, `adapter-seq`, `frame`, `reference`, `thread` or
-/// `breakpoint`; with [`Mode::PerStop`] it is `frame@K` or `reference@K` in the place of `frame`
-/// and `reference`, for the ids behind K stops. Of others `differ K` goes there, with the number of
-/// the first record where they differ.
+/// If the recordings are the same, writes `same` to `writer`, and then a line for each pair of ids,
+/// `W FROM TO`. W is `client-seq`, `adapter-seq`, `frame`, `reference`, `thread` or `breakpoint`.
+/// With [`Mode::PerStop`] it is `frame@K` or `reference@K` instead of `frame` and `reference`, for
+/// the ids after K stops. Otherwise writes `differ K`, with the number of the first record that
+/// differs.
 ///
-/// The status is 0 where they are the same, 1 where they differ, 2 where an input is refused, 4
-/// where a device failed and 5 for want of memory.
+/// The status is 0 if the recordings are the same, 1 if they differ, 2 if an input is rejected, 4
+/// if a reader or a writer failed, and 5 if an allocation failed.
 pub fn run_compare<A: Source, B: Source, W: Sink, E: Sink>(
     alloc: Global,
     reader_a: &mut A,

@@ -78,11 +78,12 @@ fn cause_word(cause: RulesCause) -> &'static str
         RulesCause::BadPlace => "BadPlace",
         RulesCause::Repeated => "Repeated",
         RulesCause::DigitsBehindHex => "DigitsBehindHex",
+        RulesCause::Clash => "Clash",
         RulesCause::Memory => "Memory",
     }
 }
 
-/// The line of a file of rules that is refused. It takes no memory.
+/// Returns the line for a rules file that is rejected. Does not allocate.
 fn rules_line(fault: RulesFault) -> ArrayString<LINE>
     ensures { result.bytes ≡ rules_line fault }
 {
@@ -130,14 +131,14 @@ pub fn report_rules<E: Sink>(errors: &mut E, refused: RulesRefused) -> u8
     }
 }
 
-/// Masks the recording of `reader` by the rules of a file, writes it to `writer`, and answers the
-/// program's status. What is wrong is told on `errors`, in one line.
+/// Masks the recording of `reader` by the rules of a file, writes it to `writer`, and returns the
+/// program's status. An error is reported on `errors`, in one line.
 ///
-/// The rules are read first, and nothing else where they are refused: `dapnorm: rules: line 3:
+/// The rules are read first. If they are rejected, nothing else is read: `dapnorm: rules: line 3:
 /// BadPlace`.
 ///
-/// The status is 0 where the recording was masked, 2 where the rules or the recording are refused,
-/// 4 where a device failed and 5 for want of memory.
+/// The status is 0 if the recording was masked, 2 if the rules or the recording are rejected, 4 if
+/// a reader or a writer failed, and 5 if an allocation failed.
 pub fn run_mask<F: Source, R: Source, W: Sink, E: Sink>(
     alloc: Global,
     rules: &mut F,

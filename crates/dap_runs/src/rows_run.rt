@@ -13,11 +13,11 @@ use std::alloc::Global;
 /// What is told where no row has the number.
 const NO_ROW: &str = "error: no row has this number: dapnorm rows prints them all\n";
 
-/// Prints the rows of the profile, or the one whose number this text writes, and answers the
-/// program's status. What is wrong is told on `errors`, in one line.
+/// Prints the rows of the profile, or the one with the number that this text writes, and returns
+/// the program's status. An error is reported on `errors`, in one line.
 ///
-/// The status is 0 where they were printed, 3 where no row has the number, 4 where the writer
-/// failed and 5 for want of memory.
+/// The status is 0 if they were printed, 3 if no row has the number, 4 if the writer failed, and 5
+/// if an allocation failed.
 pub fn tell_rows<W: Sink, E: Sink>(
     alloc: Global,
     number: Option<&str>,

@@ -10,19 +10,19 @@ pub const DONE: u8 = 0;
 /// Two recordings differ.
 pub const DIFFERENT: u8 = 1;
 
-/// An input is refused.
+/// An input was rejected.
 pub const REFUSED: u8 = 2;
 
-/// The words name no job.
+/// The command line is wrong.
 pub const USAGE: u8 = 3;
 
-/// A device failed.
+/// A read or a write failed.
 pub const FAULT: u8 = 4;
 
-/// Memory was wanting.
+/// An allocation failed.
 pub const MEMORY: u8 = 5;
 
-/// The status of the program for a refusal.
+/// Returns the status of the program for an error.
 pub fn refused_status(refused: Refused) -> u8
     ensures { result ≡ refused_status refused }
 {
@@ -33,7 +33,7 @@ pub fn refused_status(refused: Refused) -> u8
     }
 }
 
-/// The status of the program for an engine's answer.
+/// Returns the status of the program for the result of a command.
 pub(crate) fn status(answer: Result<(), Refused>) -> u8
     ensures { result ≡ status_of answer }
 {

@@ -1,4 +1,4 @@
--- Cases of a test, and what `&&` and `||` say of their parts.
+-- Cases of a test, and the parts of `&&` and `||`.
 use Rattle.std.proofs.Common.{◌≡◌, Bool, true, false, not, ◌&&◌, ◌||◌, refl, sym, ◌∙◌, true≢false}
 
 pub by_bool : {P : Type 0} → (b : Bool) → (b ≡ true → P) → (b ≡ false → P) → P

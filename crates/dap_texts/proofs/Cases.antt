@@ -1,4 +1,4 @@
--- Worked cases of the definitions, and why some actions cannot stand at one place.
+-- Worked cases of the definitions, and why some actions cannot be used at one place.
 use Rattle.std.proofs.Common.{◌≡◌, ℕ, true, false, List, [], ◌∷◌, refl}
 use Rattle.std.specs.Prelude.{codes}
 use Rattle.dap_texts.specs.Digits.{digits, hex}
@@ -54,7 +54,7 @@ short_group : uuid (codes "550e8400-e29b-41d-a716-44665544abcd")
     ≡ codes "550e8400-e29b-41d-a716-44665544abcd"
 short_group = refl
 
--- ---- actions that cannot stand at one place: done again, they make something else
+-- ---- actions that cannot be used at one place: a second pass changes the text again
 
 hex_digits : digits (hex (codes "1xA")) ≡ codes "0xA"
 hex_digits = refl
@@ -86,16 +86,16 @@ are_own = refl
 stay_apart : are_apart two_folders ≡ true
 stay_apart = refl
 
--- never in a word
+-- nothing is replaced in a word
 not_in_a_word : replaced (pair (codes "a") (codes "aa") ∷ []) (codes "ba") ≡ codes "baa"
 not_in_a_word = refl
 
--- from the left: the text that begins first
+-- from the left: the text that starts first
 from_the_left : replaced (pair (codes "ab") (codes "X") ∷ pair (codes "bcd") (codes "Y") ∷ [])
     (codes "abcd") ≡ codes "Xcd"
 from_the_left = refl
 
--- a word that is the beginning of a text: a second pass goes on
+-- a word that is a prefix of a text: a second pass replaces that text
 abbrev shrinks : List Pair
 shrinks = pair (codes "ab") (codes "a") ∷ []
 
@@ -108,7 +108,7 @@ shrunk_again = refl
 shrinks_not_apart : are_apart shrinks ≡ false
 shrinks_not_apart = refl
 
--- a word with no byte joins what stood around its text
+-- an empty word joins the bytes around its text
 abbrev joins : List Pair
 joins = pair (codes "ab") [] ∷ []
 

@@ -17,7 +17,7 @@ abbrev pub is_form : List ℕ → Bool
 is_form [] = true
 is_form (f ∷ form) = ((f == 45) || (f == 48)) && is_form form
 
--- the rest of a form that was begun comes
+-- the rest of a form comes next
 abbrev pub begun : List ℕ → List ℕ → Bool
 begun [] s = true
 begun (f ∷ form) s = begins_in_form (f ∷ form) s
@@ -134,7 +134,7 @@ uuid_from_said (other {after_digit} {b} {s} {t} h r) = rw h (ap (λ u. b ∷ u) 
 uuid_from_said (cleared {u} {s} {t} id e h r) = ap (λ x. nil_uuid ++ x) (uuid_from_said r)
     ∙ sym (uuid_cleared id s h) ∙ ap (λ x. uuid_from x [] false) (sym e)
 
--- the end of the form that was begun, and the relation for the rest
+-- the end of the form, and the relation for the rest
 pub record FormEnd (form s : List ℕ) : Type 0 where
   pub id : List ℕ
   pub rest : List ℕ

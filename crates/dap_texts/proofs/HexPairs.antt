@@ -1,4 +1,4 @@
--- A text that `long` or `uuid` leaves, it leaves after `hex` too.
+-- If `long` or `uuid` leaves a text unchanged, it also leaves the result of `hex` unchanged.
 use Rattle.std.proofs.Common.{◌≡◌, ℕ, zero, suc, ◌==◌, Bool, true, false, not, ◌&&◌, List}
 use Rattle.std.proofs.Common.{[], ◌∷◌, ◌++◌, drop, replicate, refl, sym, ap, ◌∙◌, subst}
 use Rattle.std.proofs.lemmas.Bool.{eqb-true}
@@ -13,7 +13,7 @@ use Rattle.dap_texts.proofs.Settled.{calm, calm_if_left, left_if_calm}
 begins_zero : (b : ℕ) (s : List ℕ) → begins_hex b s ≡ true → b ≡ 48
 begins_zero b s h = eqb-true b 48 (and_left (b == 48) (goes_on_as_hex s) h)
 
--- an x is no hexadecimal digit
+-- an x is not a hexadecimal digit
 x_no_digit : (x : ℕ) → is_x x ≡ true → is_ascii_hexdigit x ≡ false
 x_no_digit x h = by_bool (x == 120)
     (λ k. ap is_ascii_hexdigit (eqb-true x 120 k))
@@ -59,7 +59,7 @@ long_after_hex s h = left_if_calm (hex s) (calm_hex [] s (calm_if_left s h))
 
 -- ---- `uuid`
 
--- a number that ended does not go on with a hexadecimal digit
+-- no hexadecimal digit comes after a number
 number_ends : (s : List ℕ) → begins_with is_ascii_hexdigit (in_number s) ≡ false
 number_ends [] = refl
 number_ends (b ∷ s) = by_bool (is_ascii_hexdigit b) (λ k. rw k (number_ends s))
@@ -82,7 +82,7 @@ pub first_byte : (b : ℕ) (s : List ℕ) (d : Bool) → begins_uuid d (b ∷ s)
     → uuid_from (b ∷ s) [] d ≡ 48 ∷ uuid_from s (drop 1 nil_uuid) true
 first_byte b s d h = rw h refl
 
--- a byte that is no hexadecimal digit is kept, and no UUID goes on over it
+-- a byte that is not a hexadecimal digit is kept, and is not part of a UUID
 pub no_digit_kept : (b : ℕ) (s : List ℕ) (d : Bool) → is_ascii_hexdigit b ≡ false
     → uuid_from (b ∷ s) [] d ≡ b ∷ uuid_from s [] false
 no_digit_kept b s d h =
@@ -95,7 +95,7 @@ tail_same b c s t h = cc
 pub head_same : (b c : ℕ) (s t : List ℕ) → b ∷ s ≡ c ∷ t → b ≡ c
 head_same b c s t h = cc
 
--- the nil UUID is left, and so are the groups after its first one
+-- the nil UUID is unchanged, and so are the groups after its first one
 pub nil_left : (s : List ℕ) (d : Bool) → uuid_from s [] true ≡ s
     → uuid_from (nil_uuid ++ s) [] d ≡ nil_uuid ++ s
 nil_left s d h = by_bool (begins_uuid d (nil_uuid ++ s))
@@ -169,7 +169,7 @@ none_new false b s k h = by_bool (begins_in_form nil_uuid (b ∷ hex s))
     (λ l. no_test (begins_in_form nil_uuid (b ∷ s)) (form_before (b ∷ s) nil_uuid (rw k l)) h)
     (λ l. l)
 
--- what comes after the form, which is left
+-- the text after the form, which is unchanged
 record Rest (form t : List ℕ) : Type 0 where
   rest : List ℕ
   whole : t ≡ form ++ rest

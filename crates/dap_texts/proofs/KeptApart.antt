@@ -10,7 +10,7 @@ use Rattle.dap_texts.proofs.Booleans.{by_bool, and_left, and_right, and_both, or
 use Rattle.dap_texts.proofs.Booleans.{both_false, not_true, not_false, no_test}
 use Rattle.dap_texts.proofs.WordSteps.{prefix_of_begun, begun_among}
 
--- ---- lists over each other
+-- ---- lists that agree
 
 agree_turned : (s t : List ℕ) → agree s t ≡ true → agree t s ≡ true
 agree_turned [] [] h = refl
@@ -27,7 +27,7 @@ prefix_agrees (b ∷ x) (c ∷ w) t h =
     and_both _ _ (and_left (b == c) (is_prefix x (w ++ t)) h)
     (prefix_agrees x w t (and_right (b == c) (is_prefix x (w ++ t)) h))
 
--- ---- no text begins in a word
+-- ---- no text starts in a word
 
 -- the word, from one of its bytes on, agrees with one of the texts
 abbrev over_any : List Pair → List ℕ → Bool
@@ -66,7 +66,7 @@ none_over (p ∷ texts) b w t h =
     (λ k. not_false (begins_here p.text (b ∷ w ++ t)) k))
     (none_over texts b w t (or_right (agree_from (b ∷ w) p.text) (over_any texts (b ∷ w)) h))
 
--- no text begins anywhere
+-- no text starts anywhere
 abbrev is_clean : List Pair → List ℕ → Bool
 is_clean pairs [] = true
 is_clean pairs (b ∷ s) = none_begins pairs (b ∷ s) && is_clean pairs s
@@ -77,7 +77,7 @@ clean_over pairs [] t h c = c
 clean_over pairs (b ∷ w) t h c =
     and_both _ _ (none_over pairs b w t h) (clean_over pairs w t (over_rest pairs b w h) c)
 
--- ---- a text that begins at a byte that was kept began there before
+-- ---- a text that starts at a byte that was kept started there before
 
 -- the text, from one of its bytes on, agrees with one of the words
 abbrev under_any : List Pair → List ℕ → Bool

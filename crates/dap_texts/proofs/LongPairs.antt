@@ -1,4 +1,5 @@
--- A text that `uuid` leaves, it leaves after `long` too: then no UUID is left at all.
+-- If `uuid` leaves a text unchanged, it also leaves the result of `long` unchanged, in which no UUID
+-- remains.
 use Rattle.std.proofs.Common.{◌≡◌, ℕ, zero, suc, ◌≤◌, ◌==◌, Bool, true, false, not, ◌&&◌, ◌||◌}
 use Rattle.std.proofs.Common.{List, [], ◌∷◌, ◌++◌, length, drop, replicate, refl, sym, ap}
 use Rattle.std.proofs.Common.{◌∙◌, subst, append_assoc, append-nil, arith}
@@ -14,14 +15,14 @@ use Rattle.dap_texts.proofs.LongRuns.{all_more, all_shortened, run_ends}
 use Rattle.dap_texts.proofs.HexPairs.{plain_byte, first_byte, no_digit_kept, tail_same}
 use Rattle.dap_texts.proofs.HexPairs.{head_same}
 
--- ---- a text that `uuid` leaves has nil UUIDs alone
+-- ---- a text that `uuid` leaves unchanged has no UUID except the nil one
 
 abbrev quiet : Bool → List ℕ → Bool
 quiet d [] = true
 quiet d (b ∷ s) =
     (not (begins_uuid d (b ∷ s)) || is_prefix nil_uuid (b ∷ s)) && quiet (is_ascii_hexdigit b) s
 
--- what comes after the form
+-- the text after the form
 record Rest (form s : List ℕ) : Type 0 where
   rest : List ℕ
   whole : s ≡ form ++ rest
@@ -99,7 +100,7 @@ data Groups : List ℕ → Type 0 where
 nil_groups : Groups nil_uuid
 nil_groups = more 6 (more 2 (more 2 (more 2 (last 10))))
 
--- after a run that is too long for it, a form does not go on
+-- a run that is too long for a group is in no form
 abbrev ends_run : List ℕ → Bool
 ends_run [] = true
 ends_run (f ∷ form) = f == 45
@@ -143,7 +144,7 @@ zero_in_no_group : (form t : List ℕ) → begins_with is_ascii_hexdigit t ≡ f
     → begins_in_form (48 ∷ 48 ∷ form) (48 ∷ t) ≡ false
 zero_in_no_group form t h = zero_needs_digit form t h
 
--- a form in what `long` made was there before
+-- a form in the result of `long` was there before
 form_kept : (ds t form s : List ℕ) → (begins_in_form (48 ∷ 48 ∷ form) (ds ++ t) ≡ true
     → begins_in_form (48 ∷ 48 ∷ form) (ds ++ s) ≡ true) → begins_with is_ascii_hexdigit t ≡ false
     → begins_in_form (48 ∷ 48 ∷ form) (shortened ds ++ t) ≡ true
@@ -183,7 +184,7 @@ form_before ds (b ∷ s) (more n {form} g) h f = by_bool (is_ascii_hexdigit b)
     (form_before [] s g refl (and_right (b == 45) (begins_in_form form (long s)) y))))
     k (rw k at f))
 
--- ---- no UUID begins in what `long` made
+-- ---- no UUID starts in the result of `long`
 
 -- the run that a group fits was not long
 not_long : (ds t : List ℕ) → begins_with is_ascii_hexdigit t ≡ false
@@ -193,7 +194,7 @@ not_long ds t k f = by_bool (is_long ds)
     no_test (begins_in_form nil_uuid (48 ∷ t)) zero_is (zero_in_no_group (drop 2 nil_uuid) t k))
     (λ l. l)
 
--- a run that begins with eight zeros is long
+-- a run that starts with eight zeros is long
 zeros_within : (n : ℕ) (form ds t : List ℕ) → begins_with is_ascii_hexdigit t ≡ false
     → is_prefix (replicate n 48 ++ form) (ds ++ t) ≡ true → n ≤ length ds
 zeros_within zero form ds t k p = omega arith
@@ -218,7 +219,7 @@ nil_run_long (c ∷ ds) t k p =
     (sym (eqb-true 48 c (and_left (48 == c) (is_prefix (drop 1 nil_uuid) (ds ++ t)) p))) in
     and_both _ _ (le-leb 6 (length (c ∷ ds)) (omega (arith, many))) (rw first refl)
 
--- the end of the run, and what becomes of it
+-- the end of the run, and its result
 none_at_run : (ds s t : List ℕ) → begins_with is_ascii_hexdigit ds ≡ true
     → all_of is_ascii_hexdigit ds ≡ true → begins_with is_ascii_hexdigit s ≡ false
     → begins_with is_ascii_hexdigit t ≡ false → long_from ds s ≡ shortened ds ++ t
@@ -242,7 +243,7 @@ none_at_run (c ∷ ds) s t some h k l e q =
     only_second true y h k = k
     only_second false y h k = cc
 
--- a run is read over
+-- the bytes of a run are read
 inside_run : (ds t : List ℕ) → all_of is_ascii_hexdigit ds ≡ true
     → uuid_from (ds ++ t) [] true ≡ ds ++ uuid_from t [] true
 inside_run [] t h = refl

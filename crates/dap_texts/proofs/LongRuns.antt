@@ -19,7 +19,7 @@ pub all_more : (ds : List ℕ) (b : ℕ) → all_of is_ascii_hexdigit ds ≡ tru
     ≡ true → all_of is_ascii_hexdigit (ds ++ b ∷ []) ≡ true
 all_more ds b h k = all_append is_ascii_hexdigit ds (b ∷ []) h (and_both _ _ k refl)
 
--- hexadecimal digits make the run longer
+-- hexadecimal digits extend the run
 pub run_goes_on : (ds more s : List ℕ) → all_of is_ascii_hexdigit more ≡ true
     → long_from ds (more ++ s) ≡ long_from (ds ++ more) s
 run_goes_on ds [] s h = ap (λ r. long_from r s) (sym (append-nil ds))

@@ -26,9 +26,9 @@ hex_long h =
     let again : codes "0x0" ≡ codes "0x1" = h (codes "123456x1") refl in
     absurd (omega (arith, ap (λ t. get_or t 2 0) again))
 
--- ---- long texts, whose bytes only some proofs see
+-- ---- long texts, whose bytes are visible to some proofs only
 
--- a UUID with no decimal digit, and what stands after the first bytes of the nil one
+-- a UUID with no decimal digit, and the bytes after the first ones of the nil UUID
 marked : List ℕ
 marked = codes "abcdefab-abcd-abcd-abcd-abcdefabcdef"
 

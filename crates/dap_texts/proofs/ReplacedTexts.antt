@@ -8,9 +8,9 @@ use Rattle.dap_texts.specs.Words.{replaced}
 use Rattle.dap_texts.proofs.WordSteps.{by_option, prefix_rest, none_found, nothing_begins, found_is}
 use Rattle.dap_texts.proofs.WordSteps.{is_found}
 
--- ---- the relation holds of the result
+-- ---- the relation holds for the result
 
--- after a text that was found comes the rest
+-- the rest comes after a text that was found
 pub found_rest : (x : List ℕ) (b : ℕ) (s : List ℕ) → begins_here x (b ∷ s) ≡ true
     → (b ∷ s) ≡ x ++ drop (length (drop 1 x)) s
 found_rest [] b s h = cc
@@ -30,7 +30,7 @@ said_after pairs (b ∷ s) zero = by_option (found pairs (b ∷ s))
 pub replaced_is : (pairs : List Pair) (s : List ℕ) → Replaced pairs s (replaced pairs s)
 replaced_is pairs s = said_after pairs s 0
 
--- ---- it holds of no other result
+-- ---- it holds for no other result
 
 pub jumped : (pairs : List Pair) (s : List ℕ) (n : ℕ)
     → replaced_after pairs s n ≡ replaced pairs (drop n s)
@@ -44,7 +44,7 @@ pub kept_byte : (pairs : List Pair) (b : ℕ) (s : List ℕ) → found pairs (b 
     → replaced pairs (b ∷ s) ≡ b ∷ replaced pairs s
 kept_byte pairs b s h = rw h refl
 
--- if a text is found, its word is written and reading goes on after it
+-- if a text is found, its word is written and reading continues after it
 pub word_written : (pairs : List Pair) (p : Pair) (u s : List ℕ) → u ≡ p.text ++ s
     → begins_here p.text u ≡ true → found pairs u ≡ Some p
     → replaced pairs u ≡ p.word ++ replaced pairs s

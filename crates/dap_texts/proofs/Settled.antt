@@ -1,5 +1,5 @@
--- Texts that `digits` and `long` leave, and what one of the two makes of a text that the other
--- leaves.
+-- Texts that `digits` and `long` leave unchanged, and the result of each for a text that the other
+-- leaves unchanged.
 use Rattle.std.proofs.Common.{◌≡◌, ℕ, ◌≤◌, ◌==◌, Bool, true, false, cond, not, ◌&&◌, ◌||◌}
 use Rattle.std.proofs.Common.{List}
 use Rattle.std.proofs.Common.{[], ◌∷◌, ◌++◌, length, nat_le, refl, sym, ap, ap₂, ◌∙◌, subst}
@@ -14,15 +14,15 @@ use Rattle.dap_texts.proofs.Booleans.{by_bool, and_left, and_right, and_both, no
 use Rattle.dap_texts.proofs.Booleans.{no_test}
 use Rattle.dap_texts.proofs.LongRuns.{all_more, all_shortened}
 
--- ---- texts that `digits` leaves
+-- ---- texts that `digits` leaves unchanged
 
-abbrev done : Bool → List ℕ → Bool
+abbrev pub done : Bool → List ℕ → Bool
 done inside [] = true
 done inside (b ∷ s) = cond (is_ascii_digit b) (not inside && ((b == 48) && done true s))
     (done false s)
 
 mutual
-  done_digits : (s : List ℕ) → done false (digits_from false s) ≡ true
+  pub done_digits : (s : List ℕ) → done false (digits_from false s) ≡ true
   done_digits [] = refl
   done_digits (b ∷ s) = by_bool (is_ascii_digit b) (λ h. rw h (done_inside s))
       (λ h. rw (h, h) (done_digits s))
@@ -32,7 +32,7 @@ mutual
   done_inside (b ∷ s) = by_bool (is_ascii_digit b) (λ h. rw h (done_inside s))
       (λ h. rw (h, h) (done_digits s))
 
-left_done : (i : Bool) (s : List ℕ) → done i s ≡ true → digits_from i s ≡ s
+pub left_done : (i : Bool) (s : List ℕ) → done i s ≡ true → digits_from i s ≡ s
 left_done i [] h = refl
 left_done i (b ∷ s) h = go i (is_ascii_digit b) h (left_done true s) (left_done false s)
   where
@@ -51,7 +51,7 @@ pub no_digit : (b : ℕ) → is_ascii_hexdigit b ≡ false → is_ascii_digit b 
 no_digit b h = by_bool (is_ascii_digit b)
     (λ k. no_test (is_ascii_hexdigit b) (rw k refl) h) (λ k. k)
 
--- before a byte that is no digit, a text is done if both parts are
+-- a text is unchanged if the parts before and after a byte that is not a digit are
 done_parts : (i : Bool) (ds : List ℕ) (b : ℕ) (s : List ℕ) → is_ascii_digit b ≡ false
     → done i (ds ++ b ∷ s) ≡ (done i ds && done false s)
 done_parts i [] b s h = rw h refl
@@ -84,7 +84,7 @@ pub digits_after_long : (s : List ℕ) → digits s ≡ s → digits (long s) �
 digits_after_long s h =
     left_done false (long s) (done_after [] s (subst (λ t. done false t ≡ true) h (done_digits s)))
 
--- ---- texts that `long` leaves
+-- ---- texts that `long` leaves unchanged
 
 -- after the hexadecimal digits ds, no run is long
 abbrev pub calm : List ℕ → List ℕ → Bool
@@ -138,7 +138,7 @@ left_if_calm s h = calm_from [] s h
 
 -- ---- `long` after `digits`
 
--- as many digits at most, and a decimal digit only if there was one
+-- no more digits, and a decimal digit only if there was one
 record Smaller (now before : List ℕ) : Type 0 where
   few : length now ≤ length before
   digit : some_of is_ascii_digit now ≡ true → some_of is_ascii_digit before ≡ true

@@ -1,4 +1,4 @@
--- A text whose ASCII bytes alone are changed or left out is UTF-8, if it was.
+-- If only ASCII bytes of a UTF-8 text are replaced or removed, the result is UTF-8.
 use Rattle.std.proofs.Common.{◌≡◌, ◌⊎◌, inl, inr, ℕ, ◌<◌, ◌≤◌, ◌+◌, ◌/◌, Bool, true}
 use Rattle.std.proofs.Common.{false, cond, ltb, leb, ◌==◌, ◌||◌, List, [], ◌∷◌, ◌++◌, IsUtf8}
 use Rattle.std.proofs.Common.{refl, sym, ap, ◌∙◌, subst, arith, lit<, append_assoc, append-nil}

@@ -17,7 +17,7 @@ not_started : (b : ℕ) (s : List ℕ) (d : Bool) → begins_uuid d (b ∷ s) �
     → uuid_from (b ∷ s) [] d ≡ b ∷ uuid_from s [] (is_ascii_hexdigit b)
 not_started b s d h = rw h refl
 
--- the place if no UUID begins, and if one begins
+-- the place if no UUID starts, and if one starts
 stays : (place p : ℕ) (test : Bool) → p ≡ cond test 0 place → test ≡ false → p ≡ place
 stays place p test h k = h ∙ rw k refl
 

@@ -1,4 +1,4 @@
--- The pair that is found at the beginning of a text.
+-- The pair that is found at the start of a text.
 use Rattle.std.proofs.Common.{◌≡◌, ℕ, ◌≤◌, ◌==◌, Bool, true, false, cond, not, ◌&&◌}
 use Rattle.std.proofs.Common.{◌||◌, ◌⊎◌, inl, inr, List, [], ◌∷◌, ◌++◌, length, drop, Option, Some}
 use Rattle.std.proofs.Common.{None, nat_le, nat_lt, bytes_eq, refl, sym, ap, ap₂, ◌∙◌, subst}
@@ -67,7 +67,7 @@ none_found best (p ∷ pairs) s h =
     rw never (none_found best pairs s
     (and_right (not (begins_here p.text s)) (none_begins pairs s) h))
 
--- nothing is found only if nothing begins
+-- nothing is found only if nothing starts
 step_none : (best : Option Pair) (p : Pair) (s : List ℕ) → step best p s ≡ None
     → (best ≡ None) × (begins_here p.text s ≡ false)
 step_none best p s h = by_bool (begins_here p.text s)
@@ -89,7 +89,7 @@ nothing_begins best (p ∷ pairs) s h =
     let first = step_none best p s rest.0 in
     (first.0, and_both _ _ (not_false (begins_here p.text s) first.1) rest.1)
 
--- what is found is one of the pairs, and begins
+-- the pair that is found is one of the pairs, and its text starts here
 abbrev IsKnown : Option Pair → List Pair → List ℕ → Pair → Type 0
 IsKnown best pairs s q = (best ≡ Some q) ⊎ (Among pairs q × (begins_here q.text s ≡ true))
 
@@ -115,7 +115,7 @@ found_known best (p ∷ pairs) s q h =
       | inr (among, b) ↦ inr (inr among, b)
     ]
 
--- no pair that begins, and not the best before, is longer than what is found
+-- no text that starts here, including the best before, is longer than the one that is found
 abbrev at_most : Option Pair → Pair → Bool
 at_most None q = true
 at_most (Some p) q = nat_le (length p.text) (length q.text)
@@ -219,7 +219,7 @@ same_text (r ∷ pairs) p q h (inr a) (inr b) e =
     same_text pairs p q (and_right (not (is_text_among r.text pairs)) (have_own_texts pairs) h)
     a b e
 
--- the pair that the relation asks for is the one that the function finds
+-- the pair that the relation requires is the one that the function finds
 pub is_found : (pairs : List Pair) (s : List ℕ) (p : Pair) → have_own_texts pairs ≡ true
     → IsFound pairs p s → found pairs s ≡ Some p
 is_found pairs s p h f = by_option (found pairs s)

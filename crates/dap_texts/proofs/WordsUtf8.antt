@@ -1,4 +1,4 @@
--- A text with words in the place of texts is UTF-8, if it was, and if all of these are.
+-- If a text, all texts of the pairs and all words are UTF-8, then the result is UTF-8.
 use Rattle.std.proofs.Common.{◌≡◌, ◌⊎◌, inl, inr, ℕ, ◌<◌, ◌≤◌, ◌+◌, ◌/◌, Bool, true, false, cond}
 use Rattle.std.proofs.Common.{ltb}
 use Rattle.std.proofs.Common.{List, [], ◌∷◌, ◌++◌, length, take, IsUtf8, refl, sym, ap, ap₂, ◌∙◌}
@@ -20,7 +20,7 @@ abbrev AllCont : List ℕ → Type 0
 AllCont [] = Unit {0}
 AllCont (b ∷ s) = ((128 ≤ b) × (b < 192)) × AllCont s
 
--- one byte that goes on with no character, and then bytes that do
+-- one byte that starts a character, and then bytes that continue it
 abbrev IsShaped : List ℕ → Type 0
 IsShaped [] = ⊥
 IsShaped (b ∷ s) = ((b < 128) ⊎ (192 ≤ b)) × AllCont s
@@ -42,7 +42,7 @@ encode_shaped c = go (ltb c 128) (ltb c 2048) (ltb c 65536) refl
       ((omega arith, omega arith), ((omega arith, omega arith), ((omega arith, omega arith), tt))),
     )
 
--- a text that begins with a byte begins with a character
+-- a text that starts with a byte starts with a character
 record Char (b : ℕ) (s : List ℕ) : Type 0 where
   code : ℕ
   rest : List ℕ
@@ -85,7 +85,7 @@ not_both : (b : ℕ) → (b < 128) ⊎ (192 ≤ b) → 128 ≤ b → b < 192 →
 not_both b (inl low) h k = omega (arith, low, h)
 not_both b (inr high) h k = omega (arith, high, k)
 
--- after a text, the rest of a text is one
+-- if a text starts with a text, the rest is a text too
 rest_utf8 : (x y : List ℕ) → IsUtf8 (x ++ y) → IsUtf8 x → IsUtf8 y
 rest_utf8 x y u v =
     let within : length x ≤ length (x ++ y) = omega (arith, length-append x y) in
@@ -110,7 +110,7 @@ text_of (q ∷ pairs) p u (inl e) =
     subst (λ r. IsUtf8 r.text × IsUtf8 r.word) (sym e) (u.0, u.1)
 text_of (q ∷ pairs) p u (inr a) = text_of pairs p u.2 a
 
--- no text begins in the middle of a character
+-- no text starts in the middle of a character
 none_inside : (x t : List ℕ) (b : ℕ) (s : List ℕ) → begins_here x (x ++ t) ≡ true → IsUtf8 x
     → x ++ t ≡ b ∷ s → 128 ≤ b → b < 192 → ⊥
 none_inside [] t b s h u e l m = cc

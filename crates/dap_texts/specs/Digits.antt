@@ -3,7 +3,7 @@
 use Rattle.std.specs.Prelude.{ℕ, ◌==◌, Bool, true, false, cond, ◌&&◌, ◌||◌, List, [], ◌∷◌}
 use Rattle.std.specs.Char.{is_ascii_digit, is_ascii_hexdigit}
 
--- `inside` is true if a decimal digit stands before the text.
+-- `inside` is true if a decimal digit comes before the text.
 abbrev pub digits_from : Bool → List ℕ → List ℕ
 digits_from inside [] = []
 digits_from inside (b ∷ s) =
@@ -17,12 +17,12 @@ digits = digits_from false
 abbrev pub is_x : ℕ → Bool
 is_x b = (b == 120) || (b == 88)
 
--- The text begins with an `x` and a hexadecimal digit.
+-- The text starts with an `x` and a hexadecimal digit.
 abbrev pub goes_on_as_hex : List ℕ → Bool
 goes_on_as_hex (x ∷ h ∷ s) = is_x x && is_ascii_hexdigit h
 goes_on_as_hex _ = false
 
--- A hexadecimal number begins: `0x` or `0X`, and a hexadecimal digit after it.
+-- A hexadecimal number starts: `0x` or `0X`, and a hexadecimal digit after it.
 abbrev pub begins_hex : ℕ → List ℕ → Bool
 begins_hex b s = (b == 48) && goes_on_as_hex s
 

@@ -10,7 +10,7 @@ use Rattle.dap_texts.specs.Machines.{written_by, AreFoundAtPlaces}
 
 -- ---- runs of hexadecimal digits
 
--- The relation holds of a text and its result under `long`, and of no other result.
+-- The relation holds for a text and its result under `long`, and for no other result.
 abbrev pub LongAre : Type 0
 LongAre = (s t : List ℕ) → AreLongOf s t ↔ (t ≡ long s)
 
@@ -22,7 +22,7 @@ LongUtf8 = (s : List ℕ) → IsUtf8 s → IsUtf8 (long s)
 
 -- ---- UUIDs
 
--- The relation holds of a text and its result under `uuid`, and of no other result.
+-- The relation holds for a text and its result under `uuid`, and for no other result.
 abbrev pub UuidsAre : Type 0
 UuidsAre = (s t : List ℕ) → AreUuidsOf false s t ↔ (t ≡ uuid s)
 
@@ -53,7 +53,7 @@ UuidAfterHex = StaysAfter uuid hex
 abbrev pub UuidAfterLong : Type 0
 UuidAfterLong = StaysAfter uuid long
 
--- The second action can change what the first one settled.
+-- The second action can change a text that the first one leaves unchanged.
 abbrev pub Unsettles : (List ℕ → List ℕ) → (List ℕ → List ℕ) → Type 0
 Unsettles first second = StaysAfter first second → ⊥
 
@@ -77,7 +77,7 @@ UuidThenDigits = Unsettles uuid digits
 
 -- ---- words
 
--- The relation holds of a text and its result under `replaced`. It holds of no other result if no
+-- The relation holds for a text and its result under `replaced`. It holds for no other result if no
 -- two pairs have the same text.
 abbrev pub ReplacedIs : Type 0
 ReplacedIs = (pairs : List Pair) (s : List ℕ) → Replaced pairs s (replaced pairs s)
@@ -97,7 +97,7 @@ ReplacedTwice = (pairs : List Pair) (s t u : List ℕ) → are_apart pairs ≡ t
     → Replaced pairs s t → Replaced pairs t u → u ≡ t
 
 -- Two machines write the same text, except that each writes its own text at some places. If each
--- reading finds these at their places alone, then the results with the same word are equal.
+-- reading finds these only at their places, then the results with the same word are equal.
 abbrev pub TwoMachines : Type 0
 TwoMachines = (x y w : List ℕ) (parts : List Part) (s t : List ℕ) → IsReadAtPlaces x parts
     → IsReadAtPlaces y parts → Replaced (its_word x w) (filled x parts) s

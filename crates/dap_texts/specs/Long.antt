@@ -5,7 +5,7 @@ use Rattle.std.specs.Prelude.{length, nat_le}
 use Rattle.std.specs.Char.{is_ascii_digit, is_ascii_hexdigit}
 use Rattle.dap_texts.specs.Runs.{some_of, IsRun}
 
--- ---- in the subject's words
+-- ---- as a relation
 
 -- There are six or more hexadecimal digits, and a decimal digit is among them.
 abbrev pub is_long : List ℕ → Bool
@@ -16,7 +16,7 @@ abbrev pub shortened : List ℕ → List ℕ
 shortened run = cond (is_long run) (48 ∷ []) run
 
 -- t is s with each maximal run of hexadecimal digits shortened, and every other byte unchanged
--- (own). The bytes beside a run do not matter: the run in `ghost1a2b3c4` is `1a2b3c4`.
+-- (own). The bytes before and after a run do not matter: the run in `ghost1a2b3c4` is `1a2b3c4`.
 pub data AreLongOf : List ℕ → List ℕ → Type 0 where
   at_end : AreLongOf [] []
   other : {b : ℕ} {s t : List ℕ} → is_ascii_hexdigit b ≡ false → AreLongOf s t

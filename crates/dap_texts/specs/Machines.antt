@@ -14,18 +14,18 @@ filled x [] = []
 filled x (literal l ∷ parts) = l ++ filled x parts
 filled x (own_text ∷ parts) = x ++ filled x parts
 
--- The text begins at no byte of the literal, which the rest follows.
+-- The text starts at no byte of the literal. The rest comes after the literal.
 abbrev pub none_within : List ℕ → List ℕ → List ℕ → Bool
 none_within x [] rest = true
 none_within x (b ∷ l) rest = not (begins_here x (b ∷ l ++ rest)) && none_within x l rest
 
--- In the bytes that the machine writes, its own text begins at no byte of a literal.
+-- In the bytes that the machine writes, its own text starts at no byte of a literal.
 abbrev pub only_at_places : List ℕ → List Part → Bool
 only_at_places x [] = true
 only_at_places x (literal l ∷ parts) = none_within x l (filled x parts) && only_at_places x parts
 only_at_places x (own_text ∷ parts) = only_at_places x parts
 
--- A reader that goes from left to right finds the machine's own text at its places alone (own).
+-- A reader that goes from left to right finds the machine's own text only at its places (own).
 pub record IsReadAtPlaces (x : List ℕ) (parts : List Part) : Type 0 where
   pub some : begins_with (λ b. true) x ≡ true
   pub only : only_at_places x parts ≡ true
@@ -56,7 +56,7 @@ written_by pairs [] = []
 written_by pairs (same l ∷ pieces) = l ++ written_by pairs pieces
 written_by pairs (text_of k ∷ pieces) = (pair_at pairs k).text ++ written_by pairs pieces
 
--- No text of the machine begins at a byte of the list, which the rest follows.
+-- No text of the machine starts at a byte of the list. The rest comes after the list.
 abbrev pub none_in : List Pair → List ℕ → List ℕ → Bool
 none_in pairs [] rest = true
 none_in pairs (b ∷ l) rest = none_begins pairs (b ∷ l ++ rest) && none_in pairs l rest

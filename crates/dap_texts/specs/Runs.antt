@@ -11,13 +11,13 @@ abbrev pub some_of : (ℕ → Bool) → List ℕ → Bool
 some_of class [] = false
 some_of class (b ∷ s) = class b || some_of class s
 
--- The text begins with a byte of the class.
+-- The text starts with a byte of the class.
 abbrev pub begins_with : (ℕ → Bool) → List ℕ → Bool
 begins_with class [] = false
 begins_with class (b ∷ s) = class b
 
--- A run of a class and the rest after it: one byte or more, and the rest does not go on with the
--- class.
+-- A run of a class and the rest after it: one byte or more, and the rest does not start with a byte
+-- of the class.
 pub record IsRun (class : ℕ → Bool) (run rest : List ℕ) : Type 0 where
   pub some : begins_with class run ≡ true
   pub all : all_of class run ≡ true

@@ -15,7 +15,7 @@ pair_of w = record { text = string_bytes w.text; word = string_bytes w.word }
 abbrev pub pairs_of : List Word → List Pair
 pairs_of ws = map pair_of ws
 
--- ---- in the subject's words
+-- ---- as a relation
 
 -- The first list is a prefix of the second one.
 abbrev pub is_prefix : List ℕ → List ℕ → Bool
@@ -23,36 +23,36 @@ is_prefix [] s = true
 is_prefix (b ∷ x) [] = false
 is_prefix (b ∷ x) (c ∷ s) = (b == c) && is_prefix x s
 
--- The text begins here: it is not empty, and it is a prefix of s.
+-- The text starts here: it is not empty, and it is a prefix of s.
 abbrev pub begins_here : List ℕ → List ℕ → Bool
 begins_here [] s = false
 begins_here (b ∷ x) s = is_prefix (b ∷ x) s
 
--- None of the texts begins here.
+-- No text of the pairs starts here.
 abbrev pub none_begins : List Pair → List ℕ → Bool
 none_begins [] s = true
 none_begins (p ∷ pairs) s = not (begins_here p.text s) && none_begins pairs s
 
--- The pair is one of these.
+-- The list has the pair.
 abbrev pub Among : List Pair → Pair → Type 0
 Among [] p = ⊥
 Among (q ∷ pairs) p = (p ≡ q) ⊎ Among pairs p
 
--- No text that begins here is longer than x.
+-- No text that starts here is longer than x.
 abbrev pub is_longest : List Pair → List ℕ → List ℕ → Bool
 is_longest [] x s = true
 is_longest (p ∷ pairs) x s =
     (not (begins_here p.text s) || nat_le (length p.text) (length x)) && is_longest pairs x s
 
--- The pair with the longest text that begins here.
+-- The pair with the longest text that starts here.
 pub record IsFound (pairs : List Pair) (p : Pair) (s : List ℕ) : Type 0 where
   pub among : Among pairs p
   pub begins : begins_here p.text s ≡ true
   pub longest : is_longest pairs p.text s ≡ true
 
--- t is s with words in the place of texts (own). From left to right, the longest text that begins
--- at a byte is replaced by its word, and reading goes on after that text. A byte at which no text
--- begins is unchanged.
+-- t is s with words in the place of texts (own). From left to right, the longest text that starts
+-- at a byte is replaced by its word, and reading continues after that text. A byte at which no text
+-- starts is unchanged.
 pub data Replaced (pairs : List Pair) : List ℕ → List ℕ → Type 0 where
   at_end : Replaced pairs [] []
   other : {b : ℕ} {s t : List ℕ} → none_begins pairs (b ∷ s) ≡ true → Replaced pairs s t
@@ -60,7 +60,7 @@ pub data Replaced (pairs : List Pair) : List ℕ → List ℕ → Type 0 where
   replace : {u s t : List ℕ} → (p : Pair) → u ≡ p.text ++ s → IsFound pairs p u
       → Replaced pairs s t → Replaced pairs u (p.word ++ t)
 
--- One of the pairs has this text.
+-- Some pair has this text.
 abbrev pub is_text_among : List ℕ → List Pair → Bool
 is_text_among x [] = false
 is_text_among x (p ∷ pairs) = bytes_eq x p.text || is_text_among x pairs
@@ -81,8 +81,8 @@ abbrev pub is_longer_than : Option Pair → Pair → Bool
 is_longer_than None p = true
 is_longer_than (Some best) p = nat_lt (length best.text) (length p.text)
 
--- The pair with the longest text that begins here, among these and the best one before them. The
--- first one wins.
+-- The pair with the longest text that starts here, among these and the best one before them. If
+-- several are longest, it is the first one.
 abbrev pub best_of : Option Pair → List Pair → List ℕ → Option Pair
 best_of best [] s = best
 best_of best (p ∷ pairs) s =
@@ -91,7 +91,8 @@ best_of best (p ∷ pairs) s =
 abbrev pub found : List Pair → List ℕ → Option Pair
 found = best_of None
 
--- The bytes that are written for the pair found at a byte, and how many bytes after it are read.
+-- The bytes that are written for the pair found at a byte, and the number of bytes after this one
+-- that the pair replaces.
 abbrev pub written : Option Pair → ℕ → List ℕ
 written None b = b ∷ []
 written (Some p) b = p.word
@@ -100,7 +101,7 @@ abbrev pub covered : Option Pair → ℕ
 covered None = 0
 covered (Some p) = length (drop 1 p.text)
 
--- The result for the text after its first bytes, which were read already.
+-- The result for the text after its first bytes, which were read before.
 abbrev pub replaced_after : List Pair → List ℕ → ℕ → List ℕ
 replaced_after pairs [] n = []
 replaced_after pairs (b ∷ s) (suc n) = replaced_after pairs s n

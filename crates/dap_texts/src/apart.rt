@@ -5,8 +5,8 @@ ghost use Rattle.dap_texts.specs.Apart.{agree, agree_from, meet, meets_any, are_
 
 use crate::words::Word;
 
-/// Returns whether no word meets a text: neither contains the other, and the end of neither is the
-/// beginning of the other. Then a second pass changes nothing.
+/// Returns whether no word meets a text: neither contains the other, and no suffix of either is a
+/// prefix of the other. Then a second pass changes nothing.
 pub fn are_apart(words: &[Word]) -> bool
     ensures { result ≡ are_apart (pairs_of words.now) }
 {

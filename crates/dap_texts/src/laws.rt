@@ -32,8 +32,8 @@ pub fn one_after_another()
     ensures uuid_long { UuidAfterLong }
 {}
 
-/// Pairs of actions at one place, in order, that do not stay settled: for some text that the first
-/// leaves unchanged, it does not leave the result of the second unchanged.
+/// Pairs of actions at one place, in order, that do not stay settled: there is a text that the
+/// first leaves unchanged although it changes the result of the second.
 pub fn not_one_after_another()
     ensures digits_uuid { DigitsThenUuid }
     ensures hex_digits { HexThenDigits }

@@ -1,4 +1,4 @@
-//! Actions on one text. This crate knows nothing of rules and messages.
+//! Actions on one text. This crate has no rules and no messages.
 //!
 //! [`long`] and [`uuid`] replace numbers that change from run to run, and do not allocate.
 //! [`with_words`] replaces texts by words. `specs/` has the definitions, [`laws`] the theorems.

@@ -9,7 +9,7 @@ ghost use Rattle.dap_texts.specs.Placed.{place_at};
 const NIL: [u8; 36] = *b"00000000-0000-0000-0000-000000000000";
 
 /// Replaces each UUID by the nil UUID. A UUID that is part of a longer run of hexadecimal digits is
-/// left. Does not allocate.
+/// left unchanged. Does not allocate.
 pub fn uuid(text: String) -> String
     ensures { string_bytes result ≡ uuid (string_bytes text) }
 {
@@ -35,7 +35,7 @@ fn clear_uuids(bytes: &mut [u8])
     }
 }
 
-// Returns the place of the first byte in a UUID, or 36 if it is in none.
+// Returns the place of the first byte in a UUID, or 36 if it is not in a UUID.
 fn place_at(place: usize, after_digit: bool, bytes: &[u8]) -> usize
     ensures { result ≡ place_at place after_digit bytes.now }
 {

@@ -14,10 +14,10 @@ pub struct Word {
 }
 
 /// Appends `text` with words in the place of texts. From left to right, the longest text that
-/// begins at a byte is replaced by its word, and reading goes on after that text.
+/// starts at a byte is replaced by its word, and reading continues after that text.
 ///
 /// # Errors
-/// `AllocError`: an allocation failed. Then `out` has the bytes that it had.
+/// `AllocError`: an allocation failed. The bytes of `out` are then unchanged.
 pub fn replace_words(text: &str, words: &[Word], out: &mut Vec<u8>) -> Result<(), AllocError>
     ensures ok { OnOk result
         (out.new.items ≡ out.old.items ++ replaced (pairs_of words.now) text.now) }
@@ -33,7 +33,7 @@ pub fn replace_words(text: &str, words: &[Word], out: &mut Vec<u8>) -> Result<()
     }
 }
 
-// The same, but on an error a part of the result may follow the bytes of `out`.
+// Does the same, except that after an error a part of the result may follow the bytes of `out`.
 fn write_words(text: &str, words: &[Word], out: &mut Vec<u8>) -> Result<(), AllocError>
     ensures ok { OnOk result
         (out.new.items ≡ out.old.items ++ replaced (pairs_of words.now) text.now) }
@@ -68,7 +68,7 @@ pub fn with_words(alloc: Global, text: &str, words: &[Word]) -> Result<String, A
     Ok(String::from_utf8(out).unwrap())
 }
 
-// Returns the word of the longest text that begins here; the first one, if there are several.
+// Returns the word of the longest text that starts here; the first one, if there are several.
 fn found<'a>(words: &'a [Word], bytes: &[u8]) -> Option<&'a Word>
     ensures { option_map (λ w. pair_of w.now) result ≡ found (pairs_of words.now) bytes.now }
 {

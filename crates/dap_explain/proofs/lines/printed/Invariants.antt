@@ -2,7 +2,7 @@ use Rattle.std.proofs.Common.{All, string_bytes}
 use Rattle.dap_explain.specs.Lines.{IsPrinted}
 use Rattle.dap_explain.proofs.lines.printed.Given as goal
 
--- what is appended so far is printed
+-- The characters appended so far are printed.
 abbrev pub invariant-loop-character : goal.invariant-loop-character
 invariant-loop-character l =
     (goal.iterator-loop-character).can_next l.character-iterator

@@ -4,7 +4,7 @@ use Rattle.dap_mask.specs.Index.{AreRight, AsksNot, kept_for}
 use Rattle.dap_mask.specs.Rules.{rules_of}
 use Rattle.dap_mask.proofs.index.places_by_name.Given as goal
 
--- a name for which nothing is kept is one for which none of the rules so far asks
+-- a name without stored positions occurs in none of the rules of the kind so far
 abbrev pub invariant-loop-rule : goal.invariant-loop-rule
 invariant-loop-rule l = record {
   right : AreRight l.kind (rules_of l.rules) l.names;

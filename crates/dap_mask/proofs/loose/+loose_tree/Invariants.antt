@@ -7,7 +7,7 @@ use Rattle.dap_tree.specs.View.{items_view, members_view}
 use Rattle.dap_mask.specs.Loose.{loose_items, loose_members}
 use Rattle.dap_mask.proofs.loose.+loose_tree.Given as goal
 
--- what is done stands for the values so far
+-- the items so far represent the values so far
 abbrev pub invariant-loose_items-loop-value : goal.invariant-loose_items-loop-value
 invariant-loose_items-loop-value l = record {
   all : l.fn.values.items ≡ l.yielded ++ into_iter_items l.value-iterator;

@@ -18,7 +18,7 @@ decreases-mask_list l = 3 * length l.path.now + 2
 abbrev pub decreases-mask_each : goal.decreases-mask_each
 decreases-mask_each l = 3 * length l.path.now + 1
 
--- the items before the index are done, and those after it are as they were
+-- the items before the index are masked, and the items from the index on are unchanged
 abbrev pub invariant-mask_each-loop-item : goal.invariant-mask_each-loop-item
 invariant-mask_each-loop-item l =
     items_join (take l.item-index l.item-items) (map_items (edit (place_of l.path) (of_verb l.verb))

@@ -4,7 +4,7 @@ use Rattle.dap_mask.specs.Rules.{place_of}
 use Rattle.dap_mask.proofs.Lines.{with_steps}
 use Rattle.dap_mask.proofs.places.place_at.Given as goal
 
--- the steps so far, with those that are left, are all steps
+-- the steps so far and the remaining steps are all steps
 abbrev pub invariant-loop-left : goal.invariant-loop-left
 invariant-loop-left l =
     option_map (with_steps (place_of l.steps.items)) (steps_from l.left l.rest) ≡ place_at l.text

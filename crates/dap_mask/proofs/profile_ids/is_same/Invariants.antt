@@ -3,7 +3,7 @@ use Rattle.dap_mask.specs.Rules.{place_of, same_place}
 use Rattle.dap_mask.specs.RowSteps.{row_place_of}
 use Rattle.dap_mask.proofs.profile_ids.is_same.Given as goal
 
--- the places are the same if what is left of them is
+-- the places are the same if and only if their remaining steps are the same
 abbrev pub invariant-loop-step : goal.invariant-loop-step
 invariant-loop-step l =
     same_place (place_of (drop l.step-index l.place)) (row_place_of l.rest)

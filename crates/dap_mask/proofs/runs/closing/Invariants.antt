@@ -2,6 +2,6 @@ use Rattle.std.proofs.Common.{◌≡◌, ◌+◌, drop, false}
 use Rattle.dap_mask.specs.Runs.{closing}
 use Rattle.dap_mask.proofs.runs.closing.Given as goal
 
--- the quote that closes is among the bytes that are left
+-- the index plus the result for the remaining bytes is the result for the whole text
 abbrev pub invariant-loop-i : goal.invariant-loop-i
 invariant-loop-i l = l.i + closing l.escaped (drop l.i l.text) ≡ closing false l.text

@@ -2,7 +2,7 @@ use Rattle.std.proofs.Common.{◌≡◌, ◌≤◌, ◌++◌, take, drop}
 use Rattle.dap_mask.specs.Texts.{digits_from, digits}
 use Rattle.dap_mask.proofs.texts.squeeze_digits.Given as goal
 
--- what is kept, with what is left squeezed, is the whole text squeezed
+-- the result so far and the result for the remaining bytes are the result for the whole text
 abbrev pub invariant-loop-i : goal.invariant-loop-i
 invariant-loop-i l = record {
   behind : l.kept ≤ l.i;

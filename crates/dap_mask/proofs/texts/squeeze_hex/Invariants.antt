@@ -3,7 +3,7 @@ use Rattle.dap_mask.specs.Texts.{hex}
 use Rattle.dap_mask.specs.Standing.{hex_at}
 use Rattle.dap_mask.proofs.texts.squeeze_hex.Given as goal
 
--- what is kept, with what is left squeezed, is the whole text squeezed
+-- the result so far and the result for the remaining bytes are the result for the whole text
 abbrev pub invariant-loop-i : goal.invariant-loop-i
 invariant-loop-i l = record {
   same : length l.bytes ≡ length l.initial.bytes;

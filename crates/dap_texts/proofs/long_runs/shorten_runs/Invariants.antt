@@ -4,8 +4,8 @@ use Rattle.dap_texts.specs.Runs.{some_of}
 use Rattle.dap_texts.specs.Long.{long_from, long}
 use Rattle.dap_texts.proofs.long_runs.shorten_runs.Given as goal
 
--- what is kept before the run, and what becomes of the run and of the bytes that are left, is what
--- becomes of the whole text
+-- the bytes before the run, and the result for the run and the remaining bytes, are the result for
+-- the whole text
 abbrev pub invariant-loop-i : goal.invariant-loop-i
 invariant-loop-i l = record {
   same : length l.bytes ≡ length l.initial.bytes;

@@ -2,7 +2,7 @@ use Rattle.std.proofs.Common.{◌≡◌, ◌≤◌, drop, length}
 use Rattle.dap_texts.specs.Uuids.{nil_uuid, begins_in_form}
 use Rattle.dap_texts.proofs.uuids.begins_in_form.Given as goal
 
--- the whole text begins in the form if what is left begins in what is left of the form
+-- the whole text starts in the form if the remaining text starts in the rest of the form
 abbrev pub invariant-loop-i : goal.invariant-loop-i
 invariant-loop-i l = record {
   within : l.i ≤ length l.bytes;

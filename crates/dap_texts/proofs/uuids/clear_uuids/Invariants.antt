@@ -2,7 +2,7 @@ use Rattle.std.proofs.Common.{◌≡◌, ◌≤◌, ◌++◌, take, drop, length
 use Rattle.dap_texts.specs.Uuids.{nil_uuid, uuid_from, uuid}
 use Rattle.dap_texts.proofs.uuids.clear_uuids.Given as goal
 
--- the bytes so far, and what becomes of those that are left, are what becomes of the whole text
+-- the bytes so far, and the result for the remaining bytes, are the result for the whole text
 abbrev pub invariant-loop-i : goal.invariant-loop-i
 invariant-loop-i l = record {
   same : length l.bytes ≡ length l.initial.bytes;

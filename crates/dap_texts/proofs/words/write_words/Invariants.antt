@@ -2,7 +2,8 @@ use Rattle.std.proofs.Common.{◌≡◌, ◌≤◌, ◌-◌, ◌++◌, drop, tak
 use Rattle.dap_texts.specs.Words.{pairs_of, replaced}
 use Rattle.dap_texts.proofs.words.write_words.Given as goal
 
--- what was written, and what becomes of the bytes that are left, is what becomes of the whole text
+-- the bytes written so far, and the result for the remaining bytes, are the result for the whole
+-- text
 abbrev pub invariant-loop-i : goal.invariant-loop-i
 invariant-loop-i l = record {
   within : l.i ≤ length l.bytes;

@@ -5,7 +5,7 @@ use Rattle.dap_mask.specs.RulesFile.{rules_from}
 use Rattle.dap_mask.specs.Runs.{lines_of}
 use Rattle.dap_mask.proofs.rule_list.RuleList.take_lines.Given as goal
 
--- what the lines that are left say behind those so far is what all of them say
+-- the remaining lines after the lines so far have the meaning of all lines
 abbrev pub invariant-loop-cause : goal.invariant-loop-cause
 invariant-loop-cause l = record {
   small : l.number + length l.rest ≤ 65537;
