@@ -10,7 +10,7 @@ use Rattle.dap_rename.specs.declared.mode.Mode.{Mode}
 use Rattle.dap_input.specs.declared.limits.Limits.{Limits}
 use Rattle.dap_runs.specs.ComparingRun.{ComparisonIsTold, differ_line, same_line}
 
--- the first line, as `compare` has it, and the lines behind it that tell how they differ
+-- the first line, as `compare` prints it, and the lines after it that show the differences
 abbrev pub first_line : Diff → List ℕ
 first_line Same = same_line
 first_line (Differ number lines) = differ_line number

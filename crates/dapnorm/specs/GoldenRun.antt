@@ -59,8 +59,8 @@ stop_subject name (stop.Input why) = []
 stop_subject name stop.Memory = []
 stop_subject name why = name
 
--- what is said after it; records that the rules leave are counted anew, so the line says if there
--- are rules
+-- the words after it; after rules, records are counted in what they leave, so the line says if
+-- there are rules
 abbrev pub stop_words : Bool → GoldenStop → List ℕ
 stop_words has_rules stop.Unread = codes "read fault"
 stop_words has_rules (stop.Input (refused.Trace why)) = []
@@ -92,7 +92,8 @@ abbrev pub stop_line : Bool → List ℕ → GoldenStop → List ℕ
 stop_line has_rules name why =
     golden_line (stop_subject name why) (stop_words has_rules why) (stop_reason why)
 
--- the status: a device failed, memory was refused, or the input or the golden file is rejected
+-- the status: a read or a write failed, an allocation failed, or the input or the golden file is
+-- rejected
 abbrev pub input_status : GoldenRefused → ℕ
 input_status refused.Memory = 5
 input_status why = 2

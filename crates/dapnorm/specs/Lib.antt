@@ -2,7 +2,10 @@ pub mod DiffRun
 pub mod GoldenRun
 pub mod MemoryFiles
 pub mod OneFile
+pub mod RuledFile
 pub mod Run
+pub mod SavedRun
+pub mod TaskRun
 pub mod TwoFiles
 pub mod ViewRun
 pub use Rattle.dap_command_line.specs.CommandLine

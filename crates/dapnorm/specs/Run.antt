@@ -46,8 +46,8 @@ pub record CheckIsTold {R W E : Type 0} (source : Source R) (sink : Sink W) (err
   pub status_is : status ≡ status_of ended
 
 module _ {W E : Type 0} (sink : Sink W) (errors : Sink E) where
-  -- Help goes to the output, and the mistake of a user to the errors; and so does the line that
-  -- memory was wanting.
+  -- Help is written to the output, and the error of a user to the errors, as well as the line that
+  -- an allocation failed.
   abbrev pub TellsUsage : UsageFault → W → W → E → E → ℕ → Type 0
   TellsUsage (usage.Help text) before after old new status =
       IsSent sink before after (string_bytes text) 0 status × (new ≡ old)

@@ -56,14 +56,14 @@ fn status(diff: &Diff) -> u8
     }
 }
 
-/// Compares two recordings, tells what differs at the first record where they differ, and answers
-/// the program's status. What is wrong is told on `errors`, in one line.
+/// Compares two recordings, prints what differs at the first record that differs, and returns the
+/// program's status. An error is reported on `errors`, in one line.
 ///
-/// Of recordings that are the same `same` goes to `writer`. Of others `differ K` goes there, with
-/// the number of that record, and then the lines of [`diff`].
+/// If the recordings are the same, writes `same` to `writer`. Otherwise writes `differ K`, with the
+/// number of that record, and then the lines of [`diff`].
 ///
-/// The status is 0 where they are the same, 1 where they differ, 2 where an input is refused, 4
-/// where a device failed and 5 for want of memory.
+/// The status is 0 if the recordings are the same, 1 if they differ, 2 if an input is rejected, 4
+/// if a reader or a writer failed, and 5 if an allocation failed.
 pub fn run_diff<A: Source, B: Source, W: Sink, E: Sink>(
     alloc: Global,
     reader_a: &mut A,

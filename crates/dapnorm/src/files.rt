@@ -5,7 +5,7 @@ ghost use Rattle.dapnorm.specs.declared.files.OpenFault.{OpenFault};
 use dap_device::Source;
 use std::io::Error;
 
-/// Why an input was not opened.
+/// Why an input was not opened, or no file of an output was found.
 #[derive(Clone, Copy, Debug)]
 pub enum OpenFault {
     /// An allocation failed.

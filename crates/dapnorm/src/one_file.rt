@@ -27,7 +27,7 @@ pub struct OneFileRun<I> {
 }
 
 /// Returns the name of an input. Without one it is standard input.
-fn input_name<'a>(name: Option<&'a str>) -> &'a str
+pub(crate) fn input_name<'a>(name: Option<&'a str>) -> &'a str
     ensures { result.now ≡ input_name name.entry }
 {
     match name {
@@ -47,7 +47,7 @@ fn unopened_as(fault: OpenFault) -> Refused
 }
 
 /// Reports in one line that an input did not open, and returns the status of the program.
-fn report_unopened<E: Sink>(errors: &mut E, fault: OpenFault) -> u8
+pub(crate) fn report_unopened<E: Sink>(errors: &mut E, fault: OpenFault) -> u8
     requires { E.failures errors.old < 2 ^ 62 }
     ensures line { HasSent E.Sink errors.old errors.new
         (fault_line (refused_text (unopened_as fault))) }

@@ -30,7 +30,7 @@ use dap_trace::record;
 use itoa::Buffer;
 use std::alloc::Global;
 
-/// The line of an accepted recording, with its LF. It takes no memory.
+/// Returns the line of an accepted recording, with its LF. Does not allocate.
 fn accepted_line(checked: &Checked) -> ArrayString<LINE>
     ensures { result.bytes ≡ accepted_line checked.now }
 {
@@ -58,14 +58,14 @@ fn print<W: Sink>(writer: &mut W, answer: Result<Checked, Refused>) -> Result<()
     }
 }
 
-/// Does a job over a reader and a writer alone, which a job over two files and a masking are not,
-/// and answers the program's status. A refusal is told on `errors`, in one line.
+/// Does a job over one reader and one writer, and returns the program's status. An error is
+/// reported on `errors`, in one line.
 ///
-/// Of a recording that `check` accepts the numbers go to `writer`: `accepted records=R open=C,A`
-/// and LF, with the open requests of the client and of the adapter.
+/// For a recording that `check` accepts, the numbers go to `writer`: `accepted records=R open=C,A`
+/// and LF, with the numbers of unanswered requests of the client and of the adapter.
 ///
-/// The status is 0 where the job was done, 2 where the input is refused, 4 where a device failed
-/// and 5 for want of memory.
+/// The status is 0 if the job was done, 2 if the input is rejected, 4 if the reader or a writer
+/// failed, and 5 if an allocation failed.
 pub fn run_stream<R: Source, W: Sink, E: Sink>(
     alloc: Global,
     job: &Job,
@@ -192,11 +192,11 @@ pub fn run_stream_with<R: Source, W: Sink, E: Sink, T: NameTable + Drop>(
     tell_answer(errors, answer)
 }
 
-/// Tells the user why the words were no job, and answers the program's status.
+/// Prints why the arguments name no job, and returns the program's status.
 ///
-/// Help, or the version, that was asked for goes to `writer`: the status is 0, or 4 where the
-/// writer fails. What is wrong with the words goes to `errors`, with status 3, and want of memory,
-/// with status 5. A failure of `errors` is not told.
+/// Help, or the version, that was requested goes to `writer`: the status is 0, or 4 if the writer
+/// fails. An error in the arguments goes to `errors`, with status 3, and a failed allocation with
+/// status 5. A failure of `errors` is not reported.
 pub fn run_usage<W: Sink, E: Sink>(fault: &UsageFault, writer: &mut W, errors: &mut E) -> u8
     requires write_failures { W.failures writer.old < 2 ^ 62 }
     requires error_failures { E.failures errors.old < 2 ^ 62 }

@@ -38,7 +38,7 @@ pub struct TwoFilesRun<I> {
 }
 
 /// Returns whether a name is that of standard input.
-fn is_standard(name: &str) -> bool
+pub(crate) fn is_standard(name: &str) -> bool
     ensures { result ≡ is_standard name.now }
 {
     name == "-"
@@ -52,8 +52,20 @@ fn are_both_standard(a: &str, b: &str) -> bool
 }
 
 /// Opens two inputs, A before B.
-fn open_both<I: Source + Drop, F: Files<I>>(files: &F, a: &str, b: &str) -> Result<(I, I), OpenStop>
+///
+/// # Errors
+///
+/// - `TwoStandard`: both are standard input. Nothing is opened.
+/// - `Unopened`: this input did not open. B is not opened if A does not open.
+pub fn open_both<I: Source + Drop, F: Files<I>>(
+    files: &F,
+    a: &str,
+    b: &str,
+) -> Result<(I, I), OpenStop>
+    // The input of A is that of the first name, and the input of B that of the second.
     ensures opened { OpensBoth (F.opened files.now) (F.unopened files.now) a.now b.now result }
+
+    // Nothing was read of them.
     ensures given_a { IfOk result (λ inputs. I.given inputs.0 ≡ 0) }
     ensures given_b { IfOk result (λ inputs. I.given inputs.1 ≡ 0) }
     ensures failures_a { IfOk result (λ inputs. I.failures inputs.0 ≡ 0) }
@@ -82,8 +94,12 @@ fn unopened_as(which: Which, fault: OpenFault) -> CompareRefused
     }
 }
 
-/// Reports in one line why two inputs were not read, and returns the status of the program.
-fn report_stop<E: Sink>(errors: &mut E, stop: OpenStop) -> u8
+/// Reports in one line why two inputs were not read, and returns the status of the program. A failure
+/// to write the line is not reported.
+///
+/// The status is 3 if both are standard input, 4 if an input did not open, and 5 if an allocation
+/// failed.
+pub fn report_open_stop<E: Sink>(errors: &mut E, stop: OpenStop) -> u8
     requires { E.failures errors.old < 2 ^ 62 }
     ensures line { HasSent E.Sink errors.old errors.new (stop_line stop) }
     ensures status { result ≡ stop_status stop }
@@ -135,7 +151,7 @@ pub fn compare_files<I: Source + Drop, F: Files<I>, W: Sink, E: Sink, T: NameTab
     let (mut input_a, mut input_b) = match open_both(files, a, b) {
         Ok(inputs) => inputs,
         Err(stop) => {
-            let status = report_stop(errors, stop);
+            let status = report_open_stop(errors, stop);
             return TwoFilesRun {
                 status,
                 inputs: Err(stop),
@@ -189,7 +205,7 @@ pub fn diff_files<I: Source + Drop, F: Files<I>, W: Sink, E: Sink, T: NameTable 
     let (mut first, mut second) = match open_both(files, a, b) {
         Ok(inputs) => inputs,
         Err(stop) => {
-            let status = report_stop(errors, stop);
+            let status = report_open_stop(errors, stop);
             return TwoFilesRun {
                 status,
                 inputs: Err(stop),

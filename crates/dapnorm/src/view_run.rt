@@ -26,7 +26,7 @@ fn first_of(answer: Result<Option<Refused>, Refused>) -> Result<(), Refused>
     }
 }
 
-/// The line about a record that a recording does not have, with its LF. It takes no memory.
+/// Returns the line about a record that a recording does not have, with its LF. Does not allocate.
 fn no_record_line(number: u64, count: u64) -> ArrayString<LINE>
     ensures { result.bytes ≡ no_record_line number count }
 {
