@@ -13,7 +13,7 @@ import os
 import re
 import sys
 
-# A message is `--> ` (of the client) or `<-- ` (of the adapter), perhaps behind a time and the name
+# A message is `--> ` (of the client) or `<-- ` (of the adapter), perhaps after a time and the name
 # of the client, then perhaps the header part on lines of its own, and the content. A note of
 # something else has a time too.
 TIME = r"(?:\d+\.\d+|\[[\d:.]+\]) "

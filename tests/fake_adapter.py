@@ -10,6 +10,14 @@ Each FAULT is something that a real adapter may do wrong, or do otherwise:
     fails=COMMAND       the response to this request is a failure
     hangs=COMMAND       the request is never answered
     ends=COMMAND        the adapter ends when the request comes
+    dies=COMMAND        a signal kills the adapter when the request comes
+    breaks=COMMAND      the adapter ends within the response to this request
+    stalls=COMMAND      it sends a part of the response to this request, and then nothing more
+    pours=COMMAND       from this request on it sends outputs without end
+    orphans=COMMAND     it ends when the request comes, and a process that it started holds its output open
+    moves               the lines of stack frames are one more
+    changes             the values of variables have one more character
+    complains           it writes to standard error
     skips=EVENT         the event is not sent
     sends=COMMAND       `launch` sends this request to the client, and fails if the client does
     cuts                frames come in pieces of a few bytes
@@ -93,7 +101,16 @@ class FakeAdapter:
 
     def send(self, **message):
         self.seq += 1
-        send(self.target, {"seq": self.seq, **message}, 5 if "cuts" in self.faults else None)
+        message = {"seq": self.seq, **message}
+        if message["type"] == "response" and message["command"] in (self.faults.get("breaks"), self.faults.get("stalls")):
+            frame = io.BytesIO()
+            send(frame, message)
+            self.target.write(frame.getvalue()[:-10])
+            self.target.flush()
+            if "breaks" in self.faults:
+                sys.exit(0)
+        else:
+            send(self.target, message, 5 if "cuts" in self.faults else None)
 
     def event(self, event, /, **body):
         if self.faults.get("skips") != event:
@@ -117,7 +134,9 @@ class FakeAdapter:
     def on_launch(self, request):
         if "sends" in self.faults:
             self.send(type="request", command=self.faults["sends"], arguments={"args": ["python3", "program.py"], "cwd": "/"})
-            if not receive(self.source)["success"]:
+            while (message := receive(self.source))["type"] == "request":
+                getattr(self, f"on_{message['command']}", self.respond)(message)
+            if not message["success"]:
                 self.faults["fails"] = "launch"
                 return self.respond(request)
         self.launch = request
@@ -159,7 +178,8 @@ class FakeAdapter:
         self.respond(request, threads=[{"id": 1, "name": "MainThread"}])
 
     def on_stackTrace(self, request):
-        frames = [{"id": self.first + at, "name": name, "line": line, "column": 1} for at, (name, line, _) in enumerate(self.frames)]
+        moved = "moves" in self.faults
+        frames = [{"id": self.first + at, "name": name, "line": line + moved, "column": 1} for at, (name, line, _) in enumerate(self.frames)]
         self.respond(request, stackFrames=frames)
 
     def on_scopes(self, request):
@@ -168,16 +188,28 @@ class FakeAdapter:
 
     def on_variables(self, request):
         values = self.frames[int(request["arguments"]["variablesReference"] - self.first - 100)][2]
-        self.respond(request, variables=[{"name": name, "value": value, "variablesReference": 0} for name, value in sorted(values.items())])
+        more = "!" if "changes" in self.faults else ""
+        self.respond(request, variables=[{"name": name, "value": value + more, "variablesReference": 0} for name, value in sorted(values.items())])
 
     def serve(self):
         """Answers requests up to the end of the input or to `disconnect`."""
         if "says_its_number" in self.faults:
             self.event("output", output=f"process {os.getpid()}")
+        if "complains" in self.faults:
+            print("the fake adapter complains", file=sys.stderr, flush=True)
         while (request := receive(self.source)) is not None:
             command = request["command"]
             if self.faults.get("ends") == command:
                 return
+            if self.faults.get("dies") == command:
+                os.kill(os.getpid(), signal.SIGSEGV)
+            while self.faults.get("pours") == command:
+                self.event("output", output="x")
+                time.sleep(0.001)
+            if self.faults.get("orphans") == command:
+                if os.fork() == 0:
+                    time.sleep(20)
+                os._exit(3)
             if self.faults.get("hangs") != command:
                 getattr(self, f"on_{command}", self.respond)(request)
             if command == "disconnect":

@@ -5,7 +5,7 @@ import shutil
 import subprocess
 import sys
 
-from golden_sessions import EXAMPLES, FAKE, Author, read
+from golden_sessions import EXAMPLES, FAKE, PYTEST, Author, read
 from report import PROGRAM, run
 
 LOGS = os.path.join(EXAMPLES, "logs")
@@ -152,7 +152,8 @@ def with_python(folder, environment, pytest):
     os.chmod(os.path.join(folder, "bin", "python3"), 0o755)
     write(os.path.join(folder, "pytest", "__init__.py"), b"" if pytest else b"raise ImportError('there is no pytest')\n")
     write(os.path.join(folder, "pytest", "__main__.py"), FAKE_PYTEST)
-    return {**environment, "PATH": os.path.join(folder, "bin") + os.pathsep + environment["PATH"], "PYTHONPATH": folder}
+    places = os.pathsep.join([folder, environment["PYTHONPATH"]])
+    return {**environment, "PATH": os.path.join(folder, "bin") + os.pathsep + environment["PATH"], "PYTHONPATH": places}
 
 
 def ci(report, folder, environment):
@@ -164,9 +165,10 @@ def ci(report, folder, environment):
 
     def tried(wanted, word, around=good, options=(), **more):
         words = [shutil.which("sh"), os.path.join(EXAMPLES, "ci.sh"), tests, *options]
-        ran = subprocess.run(words, env={"ADAPTER": fake, **around, **more}, capture_output=True, text=True, timeout=120)
+        ran = subprocess.run(words, cwd=folder, env={"ADAPTER": fake, **around, **more}, capture_output=True, text=True, timeout=120)
         output = ran.stdout + ran.stderr
         report.check(f"the CI recipe says {word!r}", ran.returncode == wanted and word in output, repr((ran.returncode, output)))
+        return output
 
     tried(1, "no golden file below")
     author = Author(tests, good)
@@ -178,12 +180,26 @@ def ci(report, folder, environment):
     tried(1, "python3 has no pytest", without)
     tried(1, "dapnorm is not on PATH", PATH=tests)
     tried(0, "1 golden files are in order\nsame\n1 passed in 0.01s\n1 files of golden tests pass\n")
+    report.check("the CI recipe leaves no trace of tests that pass", not os.path.exists(os.path.join(folder, "dapnorm-traces")))
     text = read(author.golden)
-    tried(1, "a golden test fails", ADAPTER=f"{FAKE} 7 skips=exited", UPDATE_GOLDEN="1")
+    output = tried(1, "a golden test fails", ADAPTER=f"{FAKE} 7 skips=exited", UPDATE_GOLDEN="1")
+    kept = os.listdir(os.path.join(folder, "dapnorm-traces"))
+    good = sorted(it.rpartition(".")[2] for it in kept) == ["rec", "trace"] and f"the traces are kept in {folder}/dapnorm-traces\n" in output
+    report.check("the CI recipe keeps the trace of a test that fails", good, repr((kept, output)))
+    tried(1, "the traces are kept in ", ADAPTER=f"{FAKE} 7 dies=scopes", DAPNORM_TRACES=os.path.join(folder, "my traces"))
+    report.check("in the folder that DAPNORM_TRACES names", len(os.listdir(os.path.join(folder, "my traces"))) == 2)
     report.check("the CI recipe changes no golden file", read(author.golden) == text)
     write(author.script, b"# SKIP\n")
     tried(1, "no golden test passed")
     write(author.script, script)
+    other = os.path.join(tests, "other_golden_test.py")
+    write(other, b"# SKIP\n")
+    write(os.path.join(tests, "another.golden"), text)
+    tried(0, "2 files of golden tests pass\n1 golden tests were skipped\n")
+    output = tried(0, "another.golden: compared by no test\n")
+    report.check("it names golden files that no test compares, and no others", output.count("compared by no test") == 1, output)
+    os.remove(other)
+    os.remove(os.path.join(tests, "another.golden"))
     extra = os.path.join(tests, "a session.golden")
     raw = read(os.path.join(EXAMPLES, "captures", "dlv-l-stopentry.5.rec"))
     stops = run(["normalise", "--per-stop"], read(os.path.join(EXAMPLES, "captures", "debugpy-l-stopentry.1.rec")))[1]
@@ -197,3 +213,21 @@ def ci(report, folder, environment):
         tried(status, word)
     write(extra, opened)
     tried(0, "2 golden files are in order", options=["--open"])
+
+
+def ci_with_pytest(report, folder, environment):
+    """examples/ci.sh with pytest itself, if some Python here has it: a skipped test is named with its reason, and a failure keeps its trace."""
+    if PYTEST is None:
+        print("pytest is not installed: ci.sh is tried with a stand-in for it only", flush=True)
+        return
+    os.makedirs(os.path.join(folder, "bin"))
+    os.symlink(PYTEST, os.path.join(folder, "bin", "python3"))
+    around = {**environment, "PATH": os.path.join(folder, "bin") + os.pathsep + environment["PATH"]}
+    author = Author(os.path.join(folder, "tests"), around)
+    author.update(f"{FAKE} 7")
+    write(os.path.join(author.folder, "other_golden_test.py"), b"import pytest\ndef test_other():\n    pytest.skip('no such adapter')\n")
+    for faults, wanted, words in (("", 0, ("SKIPPED [1]", "no such adapter", "1 golden tests were skipped")), (" moves", 1, ("a golden test fails", "the traces are kept in"))):
+        command = [shutil.which("sh"), os.path.join(EXAMPLES, "ci.sh"), author.folder]
+        ran = subprocess.run(command, cwd=folder, env={**around, "ADAPTER": f"{FAKE} 7{faults}"}, capture_output=True, text=True, timeout=120)
+        output = ran.stdout + ran.stderr
+        report.check(f"the CI recipe says {words} with pytest", ran.returncode == wanted and all(it in output for it in words), output)
