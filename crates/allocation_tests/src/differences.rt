@@ -1,4 +1,4 @@
-//! Each allocation fails in turn while the differences of two trees are written.
+//! Makes each allocation fail in turn while the differences of two trees are written.
 use crate::examples::was_wanted;
 use dap_difference::difference_text;
 use dap_tree::{Tree, read_tree};
@@ -12,7 +12,7 @@ const B: &[u8] = b"{\"a b\":[1,{\"c\":3},4],\"b\":true}";
 
 const LINES: &[u8] = b"A \"a b\"[1].c 2\nB \"a b\"[1].c 3\nB \"a b\"[2] 4\nB b true\nA d null\n";
 
-/// The lines of two trees.
+/// Returns the lines of the differences of two trees.
 fn lines(alloc: Global, a: &Tree, b: &Tree) -> Result<Vec<u8>, AllocError> {
     if a.sound() && b.sound() {
         difference_text(alloc, a, b)
@@ -21,7 +21,7 @@ fn lines(alloc: Global, a: &Tree, b: &Tree) -> Result<Vec<u8>, AllocError> {
     }
 }
 
-/// Asks for the lines with this growth refused. Whether it was.
+/// Checks the lines while allocation `turn` fails. Returns whether it failed.
 fn tells(rt: &impl Abort, alloc: Global, (a, b): (&Tree, &Tree), turn: u16) -> bool {
     refuse_growth(alloc, turn);
     let answer = lines(alloc, a, b);
@@ -33,7 +33,7 @@ fn tells(rt: &impl Abort, alloc: Global, (a, b): (&Tree, &Tree), turn: u16) -> b
     is_refused
 }
 
-/// The tree of a content that has one.
+/// Returns the tree of a content that has one.
 fn tree(rt: &impl Abort, alloc: Global, content: &[u8]) -> Tree {
     match read_tree(alloc, content) {
         Ok(tree) => tree,

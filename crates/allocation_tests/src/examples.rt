@@ -1,4 +1,4 @@
-//! What the tests start with, and the check that they share.
+//! Defines the inputs and the assertion that the tests share.
 ghost use Rattle.std.specs.Prelude.{◌<◌, ◌^◌};
 ghost use Rattle.dap_rename.specs.IndexNames.{index_numbers};
 ghost use Rattle.dap_rename.specs.Names.{AreEmpty};
@@ -9,7 +9,7 @@ use std::alloc::Global;
 use std::hash::{BuildHasherDefault, FoldHasher};
 use std::process::Abort;
 
-/// The program's limits of a frame.
+/// The program's limits for a frame.
 pub const LIMITS: FrameLimits = FrameLimits {
     header: 4096,
     content: 16_777_216,
@@ -18,7 +18,7 @@ pub const LIMITS: FrameLimits = FrameLimits {
 /// A name table over an index with its default hasher.
 pub type IndexTable = IndexNames<BuildHasherDefault<FoldHasher>>;
 
-/// Returns empty name tables, each for at most this many ids of its kind.
+/// Returns empty name tables, each with room for at most `ids` ids of its kind.
 pub fn index_tables(alloc: Global, ids: usize) -> Tables<IndexTable>
     requires { ids < 2 ^ 31 }
     ensures { AreEmpty index_numbers result }

@@ -1,4 +1,4 @@
-//! Each allocation of a framer, of `write_frame`, of a tree that is read and of its copy fails in
+//! Makes each allocation of a framer, of `write_frame`, of reading a tree and of copying it fail in
 //! turn.
 use crate::examples::{LIMITS, was_wanted};
 use dap_frame::{Fed, FrameFault, Framer, write_frame};
@@ -7,8 +7,8 @@ use fault_injection::{refuse_growth, was_refused};
 use std::alloc::Global;
 use std::process::Abort;
 
-/// Asks for what `write_frame` answers and leaves behind a text, with this growth refused. Whether
-/// it was.
+/// Checks the result of `write_frame` and its buffer while allocation `turn` fails. Returns whether
+/// it failed.
 fn writes_frame(rt: &impl Abort, alloc: Global, turn: u16) -> bool {
     let mut out = Vec::from_slice(alloc, b"before").expect(rt, "no memory");
     refuse_growth(alloc, turn);
@@ -34,19 +34,19 @@ fn write_frame_is_refused_in_turn(rt: HostRuntime) {
     }
 }
 
-/// A frame whose content has spaces and its members out of order.
+/// A frame whose content has spaces and unordered members.
 const LOOSE: &[u8] = b"Content-Length: 15\r\n\r\n{ \"b\":1,\"a\":2 }";
 
 /// The content of that frame.
 const FIRST_CONTENT: &[u8] = b"{ \"b\":1,\"a\":2 }";
 
-/// What a framer made of one piece of at most 20 bytes.
+/// The result of a framer for one chunk of at most 20 bytes.
 enum Made {
-    /// It took so many bytes.
+    /// It consumed this many bytes.
     Took(usize),
-    /// It took so many bytes and gave the content that is wanted.
+    /// It consumed this many bytes and returned the expected content.
     Gave(usize),
-    /// It wanted memory and is as before.
+    /// An allocation failed, and the framer is unchanged.
     Wanted,
     /// Anything else.
     Failed,
@@ -70,8 +70,8 @@ fn feed(framer: &mut Framer, bytes: &[u8]) -> Made {
     }
 }
 
-/// Asks that a framer gives its content with this growth refused, and is as before where it was.
-/// Whether it was.
+/// Checks that a framer returns its content while allocation `turn` fails, and that the failure
+/// leaves the framer unchanged. Returns whether it failed.
 fn feeds_all(rt: &impl Abort, alloc: Global, turn: u16) -> bool {
     let mut framer = Framer::new(alloc, LIMITS);
     let mut rest = LOOSE;
@@ -105,7 +105,7 @@ fn a_framer_is_refused_in_turn(rt: HostRuntime) {
     }
 }
 
-/// Whether the tree is sound and written so.
+/// Returns whether the tree is serialisable and is written as this text.
 fn is_written(alloc: Global, tree: &Tree, text: &str) -> bool {
     tree.sound() && matches!(write_tree(alloc, tree), Ok(written) if written.as_str() == text)
 }
@@ -115,7 +115,7 @@ const CONTENT: &[u8] =
 
 const TEXT: &str = "{\"a\":null,\"b\":[1,{\"c\":\"a text of some forty bytes, more or less\"}]}";
 
-/// Asks for the tree of the content, or for want of memory where a growth was refused.
+/// Checks that the result is the tree of the content, or `Memory` if an allocation failed.
 fn is_tree(
     rt: &impl Abort,
     alloc: Global,

@@ -1,9 +1,9 @@
-//! Tests in which each allocation of a call fails in turn: calls of the crates below the engines,
-//! on objects that are used again afterwards. Each call returns what it returns with ample memory,
-//! or the error for a failed allocation, and nothing else.
+//! Tests in which each allocation of a call fails in turn. They call the crates below the command
+//! functions, on objects that are used again afterwards. Each call returns the same as without a
+//! failure, or the error for a failed allocation, and nothing else.
 //!
 //! tests/fault_injection.py runs them under a shim in which allocations fail. Without the shim each
-//! test makes one turn with ample memory.
+//! test makes one turn in which no allocation fails.
 #![tactic(auto)]
 
 #[cfg(test)]

@@ -1,4 +1,5 @@
-//! Each allocation of a call on messages fails in turn. What the call borrowed is as before.
+//! Makes each allocation of a call on messages fail in turn. The values that the call borrows are
+//! unchanged.
 use crate::examples::was_wanted;
 use dap_message::{Message, MessageFault, Side, typed};
 use dap_tree::{Sort, Tree, TreeFault, read_tree, write_tree};
@@ -6,22 +7,23 @@ use fault_injection::{refuse_growth, was_refused};
 use std::alloc::Global;
 use std::process::Abort;
 
-/// A response of the adapter to `initialize` that tells one capability.
+/// A response of the adapter to `initialize` that declares one capability.
 const INITIALIZED: &str =
     "{\"body\":{\"supportsStepBack\":true},\"command\":\"initialize\",\"request_seq\":1,\"seq\":1,\"success\":true,\"type\":\"response\"}";
 
-/// A response of the adapter with five ids and a text that is not short.
+/// A response of the adapter with five ids and a long string.
 const FRAMES: &str =
     "{\"body\":{\"stackFrames\":[{\"column\":1,\"id\":1000,\"line\":3,\"name\":\"a function with a name of some forty bytes\"},{\"column\":1,\"id\":1001,\"line\":9,\"name\":\"g\"},{\"column\":1,\"id\":1000,\"line\":3,\"name\":\"f\"}]},\"command\":\"stackTrace\",\"request_seq\":2,\"seq\":2,\"success\":true,\"type\":\"response\"}";
 
-/// A request with a frame id, and the response to it with a reference.
+/// A request with a frame id, and the response to it with a variables reference.
 const EVALUATE: &str =
     "{\"arguments\":{\"expression\":\"x\",\"frameId\":5},\"command\":\"evaluate\",\"seq\":2,\"type\":\"request\"}";
 
 const RESULT: &str =
     "{\"body\":{\"result\":\"1\",\"variablesReference\":6},\"command\":\"evaluate\",\"request_seq\":2,\"seq\":2,\"success\":true,\"type\":\"response\"}";
 
-/// A side, a canonical text, and the ids of the message in the order of the text.
+/// A side, the canonical content of a message, and the ids of the message in the order of the
+/// content.
 #[derive(Clone, Copy)]
 struct Known {
     side: Side,
@@ -57,11 +59,11 @@ const KNOWN: [Known; 3] = [
     },
 ];
 
-/// A frame whose column is a text.
+/// A stack frame whose column is a string.
 const TEXT_AS_COLUMN: &str =
     "{\"body\":{\"stackFrames\":[{\"column\":\"1\",\"id\":1000,\"line\":3,\"name\":\"f\"}]},\"command\":\"stackTrace\",\"request_seq\":2,\"seq\":2,\"success\":true,\"type\":\"response\"}";
 
-/// The message of an adapter, with ample memory.
+/// Returns the message of an adapter with this content.
 fn message(alloc: Global, text: &str) -> Result<Message, MessageFault> {
     match read_tree(alloc, text.as_bytes()) {
         Ok(tree) => typed(alloc, Side::Adapter, tree),
@@ -73,7 +75,7 @@ fn content(alloc: Global, message: Result<Message, MessageFault>) -> Result<Stri
     message?.content(alloc)
 }
 
-/// Asks for the content with this growth of typing refused. Whether it was.
+/// Checks the content while allocation `turn` of `typed` fails. Returns whether it failed.
 fn types_turn(
     rt: &impl Abort,
     alloc: Global,
@@ -94,8 +96,8 @@ fn types_turn(
     is_refused
 }
 
-/// Texts, and the length of the content of each, or why it is no message. The 34 other capabilities
-/// come in.
+/// Contents, and for each the length of its canonical content, or why it is not a message. In the
+/// first one, the 34 other capabilities are added.
 const TYPED: [(&str, Result<usize, MessageFault>); 4] = [
     (INITIALIZED, Ok(1314)),
     (FRAMES, Ok(FRAMES.len())),
@@ -123,24 +125,24 @@ fn typing_is_refused_in_turn(rt: HostRuntime) {
     }
 }
 
-/// The message of what is known.
+/// Returns the message of a known content.
 fn message_of(rt: &impl Abort, alloc: Global, known: Known) -> Message {
     let tree = read_tree(alloc, known.text.as_bytes()).expect(rt, "no tree");
     typed(alloc, known.side, tree).expect(rt, "no message")
 }
 
-/// What is asked of a message, which leaves it as it is.
+/// A call that leaves its message unchanged.
 #[derive(Clone, Copy)]
 enum Call {
-    /// Its ids.
+    /// Returns its ids.
     Ids,
-    /// Its content.
+    /// Returns its content.
     Content,
-    /// Its content behind a text.
+    /// Appends its content to a buffer.
     ContentBehind,
-    /// The content of a copy of it.
+    /// Returns the content of a copy.
     Copy,
-    /// The text of a copy of its tree.
+    /// Returns the text of a copy of its tree.
     CopyOfTree,
 }
 
@@ -162,7 +164,8 @@ fn has_content(alloc: Global, message: &Message, known: Known) -> Result<bool, M
     Ok(content.as_str() == known.text)
 }
 
-/// Whether the content stands behind a text, or why it was not written; the text stays.
+/// Returns whether the content is appended to a buffer, or the error. An error leaves the buffer
+/// unchanged.
 fn has_content_behind(
     rt: &impl Abort,
     alloc: Global,
@@ -203,7 +206,7 @@ fn has_copy_of_tree(alloc: Global, message: &Message, known: Known) -> Result<bo
     }
 }
 
-/// Whether the call gives what is known.
+/// Returns whether the call returns the known value.
 fn gives(
     rt: &impl Abort,
     alloc: Global,
@@ -220,7 +223,8 @@ fn gives(
     }
 }
 
-/// Asks for what is known with this growth refused, and again with memory. Whether it was.
+/// Checks a call while allocation `turn` fails, and again without a failure. Returns whether it
+/// failed.
 fn gives_turn(
     rt: &impl Abort,
     alloc: Global,
@@ -258,8 +262,8 @@ fn calls_on_a_message_are_refused_in_turn(rt: HostRuntime) {
     }
 }
 
-/// Asks for the ids behind one that was found with this growth refused, and again where they were
-/// not added. Whether it was.
+/// Checks the ids that are appended to a list while allocation `turn` fails, and again if they were
+/// not appended. Returns whether it failed.
 fn adds_ids(
     rt: &impl Abort,
     alloc: Global,

@@ -1,4 +1,4 @@
-//! Each allocation of name tables, and of the renaming between names, fails in turn.
+//! Makes each allocation of name tables, and of the renaming between names, fail in turn.
 use crate::examples::{IndexTable, index_tables, was_wanted};
 use dap_message::{Message, MessageFault, Side, typed};
 use dap_rename::{IndexNames, Mode, NameFault, NameTable, Names, PlainNames, Renaming};
@@ -8,7 +8,8 @@ use std::alloc::Global;
 use std::hash::RandomState;
 use std::process::Abort;
 
-/// Asks for the name of a number that is new, again where memory was wanted. Whether it was.
+/// Checks the canonical number of a new id, and again if an allocation failed. Returns whether an
+/// allocation failed.
 fn names_new<T: NameTable>(
     rt: &impl Abort,
     alloc: Global,
@@ -30,7 +31,8 @@ fn names_new<T: NameTable>(
     true
 }
 
-/// Names forty numbers in a table for as many, and one more. Whether a growth was refused.
+/// Interns forty ids in a table with room for forty, and one more. Returns whether an allocation
+/// failed.
 fn names_turn<T: NameTable>(rt: &impl Abort, alloc: Global, table: &mut T, turn: u16) -> bool {
     let mut is_wanted = false;
     refuse_growth(alloc, turn);
@@ -41,7 +43,7 @@ fn names_turn<T: NameTable>(rt: &impl Abort, alloc: Global, table: &mut T, turn:
     }
     assert!(rt; table.name(1_000) == Err(NameFault::Full));
     assert!(rt; table.name(-90) == Ok(1));
-    // Hearing of a refusal ends it.
+    // `was_refused` ends the request, so it is called last.
     is_wanted || was_refused(alloc)
 }
 
@@ -70,12 +72,13 @@ fn request(alloc: Global) -> Result<Message, MessageFault> {
     }
 }
 
-/// The pairs between the names and themselves.
+/// Returns the number of pairs between the names and themselves.
 fn own_pairs(alloc: Global, names: &Names<IndexTable>) -> Result<usize, NameFault> {
     Ok(Renaming::between(alloc, names, names)?.pairs().len())
 }
 
-/// Asks for the two pairs between the names of a request with this growth refused. Whether it was.
+/// Checks that the names of a request have two pairs with themselves while allocation `turn` fails.
+/// Returns whether it failed.
 fn pairs_turn(rt: &impl Abort, alloc: Global, names: &Names<IndexTable>, turn: u16) -> bool {
     refuse_growth(alloc, turn);
     let answer = own_pairs(alloc, names);
@@ -88,7 +91,7 @@ fn pairs_turn(rt: &impl Abort, alloc: Global, names: &Names<IndexTable>, turn: u
     is_refused
 }
 
-/// The names of a request.
+/// Returns the names of a request.
 fn request_names(rt: &impl Abort, alloc: Global) -> Names<IndexTable> {
     let mut names = Names::new(alloc, index_tables(alloc, 9), Mode::Whole);
     let request = request(alloc).expect(rt, "no message");

@@ -1,5 +1,5 @@
-//! Each allocation of a record reader, a recorder, a session and names fails in turn. After a
-//! failed allocation each is as before, and accepts the same input again.
+//! Makes each allocation of a record reader, a recorder, a session and names fail in turn. After a
+//! failed allocation each of them is unchanged, and accepts the same input again.
 use crate::examples::{IndexTable, LIMITS, index_tables, was_wanted};
 use dap_frame::FrameFault;
 use dap_message::{Message, MessageFault, Side, typed};
@@ -34,14 +34,14 @@ const SCOPES_REQUEST: &str =
 const OTHER_REQUEST: &str =
     "{\"command\":\"a command with a name of some forty bytes\",\"seq\":9,\"type\":\"request\"}";
 
-/// A response of an adapter with two ids and its envelope's.
+/// A response of an adapter with two ids in its body, and the same response renamed.
 const SCOPES: &str =
     "{\"body\":{\"scopes\":[{\"name\":\"a\",\"variablesReference\":70},{\"name\":\"b\",\"variablesReference\":80}]},\"command\":\"scopes\",\"request_seq\":8,\"seq\":2,\"success\":true,\"type\":\"response\"}";
 
 const RENAMED_SCOPES: &str =
     "{\"body\":{\"scopes\":[{\"name\":\"a\",\"variablesReference\":1},{\"name\":\"b\",\"variablesReference\":2}]},\"command\":\"scopes\",\"request_seq\":1,\"seq\":1,\"success\":true,\"type\":\"response\"}";
 
-/// The message of a side, with ample memory.
+/// Returns the message of a side with this content.
 fn message(rt: &impl Abort, alloc: Global, side: Side, text: &str) -> Message {
     typed_text(alloc, side, text).expect(rt, "no message")
 }
@@ -53,12 +53,12 @@ fn typed_text(alloc: Global, side: Side, text: &str) -> Result<Message, MessageF
     }
 }
 
-/// What a call made of one piece.
+/// The result of a call for one chunk.
 #[derive(Clone, Copy, PartialEq, Eq)]
 enum Made {
-    /// It took so many bytes.
+    /// It consumed this many bytes.
     Took(usize),
-    /// It wanted memory and is as before.
+    /// An allocation failed, and nothing changed.
     Wanted,
     /// Anything else.
     Failed,
@@ -72,7 +72,7 @@ fn told(fed: &FedRecord) -> Made {
     }
 }
 
-/// Gives a reader at most 20 bytes. A record that ends has to be that of `initialize`.
+/// Passes at most 20 bytes to a reader. The only record that may end is that of `initialize`.
 fn read(reader: &mut RecordReader, bytes: &[u8]) -> Made {
     let piece = bytes.get(..20).unwrap_or(bytes);
     match reader.feed(piece) {
@@ -86,7 +86,8 @@ fn is_initialize(record: &Record) -> bool {
     record.side == Side::Client && record.content.as_slice() == INITIALIZE.as_bytes()
 }
 
-/// Asks that a reader takes all of a recording with this growth refused. Whether it was.
+/// Checks that a reader consumes a recording while allocation `turn` fails. Returns whether it
+/// failed.
 fn reads_all(rt: &impl Abort, alloc: Global, bytes: &[u8], turn: u16) -> bool {
     let mut reader = RecordReader::new(alloc, LIMITS);
     let mut rest = bytes;
@@ -117,7 +118,7 @@ fn a_reader_of_records_is_refused_in_turn(rt: HostRuntime) {
     }
 }
 
-/// Gives a recorder the bytes of a side. Where it wants memory its text is as before.
+/// Passes bytes of a side to a recorder. If an allocation fails, its text must be unchanged.
 fn record(recorder: &mut Recorder, side: Side, bytes: &[u8]) -> Made {
     let before = recorder.text().len();
     match recorder.piece(side, bytes) {
@@ -127,7 +128,7 @@ fn record(recorder: &mut Recorder, side: Side, bytes: &[u8]) -> Made {
     }
 }
 
-/// Asks that a recorder takes all of a piece. Whether it wanted memory.
+/// Checks that a recorder consumes all of a chunk. Returns whether an allocation failed.
 fn records_all(rt: &impl Abort, recorder: &mut Recorder, side: Side, piece: &[u8]) -> bool {
     let mut rest = piece;
     let mut is_wanted = false;
@@ -152,7 +153,7 @@ const PIECES: [(Side, &[u8]); 4] = [
     (Side::Client, b"}"),
 ];
 
-/// Asks for the recording of the pieces with this growth refused. Whether it was.
+/// Checks the recording of the chunks while allocation `turn` fails. Returns whether it failed.
 fn records_pieces(rt: &impl Abort, alloc: Global, turn: u16) -> bool {
     let mut recorder = Recorder::new(alloc, LIMITS);
     let mut is_wanted = false;
@@ -178,7 +179,8 @@ fn a_recorder_is_refused_in_turn(rt: HostRuntime) {
     }
 }
 
-/// Asks for the record behind a text with this growth refused. Whether it was.
+/// Checks the record that is appended to a buffer while allocation `turn` fails. Returns whether it
+/// failed.
 fn writes_record(rt: &impl Abort, alloc: Global, turn: u16) -> bool {
     let mut out = Vec::from_slice(alloc, b"before").expect(rt, "no memory");
     refuse_growth(alloc, turn);
@@ -203,8 +205,8 @@ fn write_record_is_refused_in_turn(rt: HostRuntime) {
     }
 }
 
-/// Asks that a session accepts a message, again where it wanted memory, and is as before where it
-/// did. Whether it did.
+/// Checks that a session accepts a message, and after a failed allocation is unchanged and accepts
+/// it again. Returns whether an allocation failed.
 fn accepts(
     rt: &impl Abort,
     alloc: Global,
@@ -224,7 +226,8 @@ fn accepts(
     true
 }
 
-/// Asks that a session accepts the messages with this growth refused. Whether it was.
+/// Checks that a session accepts the messages while allocation `turn` fails. Returns whether it
+/// failed.
 fn accepts_all(rt: &impl Abort, alloc: Global, messages: &[Message], turn: u16) -> bool {
     let mut session = Session::new(alloc);
     let mut is_wanted = false;
@@ -235,7 +238,7 @@ fn accepts_all(rt: &impl Abort, alloc: Global, messages: &[Message], turn: u16) 
         }
     }
     assert!(rt; session.open(Side::Client) == 2);
-    // Hearing of a refusal ends it.
+    // `was_refused` ends the request, so it is called last.
     is_wanted || was_refused(alloc)
 }
 
@@ -255,7 +258,7 @@ fn a_session_is_refused_in_turn(rt: HostRuntime) {
     }
 }
 
-/// What names made of a message.
+/// Returns the message that the names rename.
 fn renamed(names: &mut Names<IndexTable>, message: Message) -> Result<Message, NameFault> {
     names.rename(message)
 }
@@ -273,8 +276,8 @@ fn has_content(alloc: Global, message: &Message, text: &str) -> bool {
     matches!(message.content(alloc), Ok(content) if content.as_str() == text)
 }
 
-/// Asks for the renamed message with this growth refused, of names that are empty again where it
-/// was. Whether it was.
+/// Checks the renamed message while allocation `turn` fails. If it fails, the names must still be
+/// empty. Returns whether it failed.
 fn renames(rt: &impl Abort, alloc: Global, turn: u16) -> bool {
     let mut names = Names::new(alloc, index_tables(alloc, 4), Mode::Whole);
     let first = message(rt, alloc, Side::Adapter, SCOPES);
@@ -303,17 +306,18 @@ fn names_are_refused_in_turn(rt: HostRuntime) {
     }
 }
 
-/// An event behind which names begin again.
+/// An event after which the numbering restarts.
 const STOPPED: &str =
     "{\"body\":{\"reason\":\"step\"},\"event\":\"stopped\",\"seq\":2,\"type\":\"event\"}";
 
-/// Whether the names have so many stops, and so many references in their present class.
+/// Returns whether the names have this many stops, and this many variables references since the
+/// last one.
 fn have_counts(names: &Names<IndexTable>, stops: u64, references: usize) -> bool {
     names.stops() == stops && names.len(Sort::Reference) == references
 }
 
-/// Asks that a stop is renamed with this growth refused, or the names are as before. Whether it was
-/// refused.
+/// Checks that a stop is renamed while allocation `turn` fails. If it fails, the names must be
+/// unchanged. Returns whether it failed.
 fn begins_again(rt: &impl Abort, alloc: Global, turn: u16) -> bool {
     let mut names = Names::new(alloc, index_tables(alloc, 4), Mode::PerStop);
     let scopes = message(rt, alloc, Side::Adapter, SCOPES);

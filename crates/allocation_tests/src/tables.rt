@@ -1,5 +1,5 @@
-//! Each allocation of a small name table, of a renaming, and of a content that is too long to be
-//! written fails in turn.
+//! Makes each allocation of a small name table, of a renaming, and of writing a content that is too
+//! long fail in turn.
 use crate::examples::was_wanted;
 use dap_frame::{FrameFault, FrameLimits, write_frame};
 use dap_recording::write_record;
@@ -10,8 +10,8 @@ use std::alloc::Global;
 use std::hash::{BuildHasherDefault, FoldHasher};
 use std::process::Abort;
 
-/// Numbers that come to a table for two, and the name of each. A full table is told before any
-/// growth.
+/// Ids for a table with room for two, and the canonical number of each. A full table returns `Full`
+/// without an allocation.
 const NAMED: [(i64, Result<i64, NameFault>); 4] = [
     (70, Ok(1)),
     (-3, Ok(2)),
@@ -19,7 +19,8 @@ const NAMED: [(i64, Result<i64, NameFault>); 4] = [
     (0, Err(NameFault::Full)),
 ];
 
-/// Asks for the name of a number, again where memory was wanted. Whether it was.
+/// Checks the canonical number of an id, and again if an allocation failed. Returns whether an
+/// allocation failed.
 fn names<T: NameTable>(
     rt: &impl Abort,
     alloc: Global,
@@ -37,8 +38,8 @@ fn names<T: NameTable>(
     false
 }
 
-/// Asks for the names with this growth refused, then for one behind a cut. Whether a growth was
-/// refused.
+/// Checks the canonical numbers while allocation `turn` fails, then one more after the table is
+/// truncated. Returns whether an allocation failed.
 fn names_turn<T: NameTable>(rt: &impl Abort, alloc: Global, table: &mut T, turn: u16) -> bool {
     let mut is_wanted = false;
     refuse_growth(alloc, turn);
@@ -49,7 +50,7 @@ fn names_turn<T: NameTable>(rt: &impl Abort, alloc: Global, table: &mut T, turn:
     assert!(rt; table.len() == 2);
     table.cut(1);
     is_wanted |= names(rt, alloc, table, (0, Ok(2)), turn);
-    // Hearing of a refusal ends it.
+    // `was_refused` ends the request, so it is called last.
     is_wanted || was_refused(alloc)
 }
 
@@ -67,7 +68,7 @@ fn tables_for_two_are_refused_in_turn(rt: HostRuntime) {
     }
 }
 
-/// Two pairs of ids of a sort, and why they are no renaming.
+/// Two pairs of ids of one kind, and why they are not a renaming.
 const PAIRS: [([Pair; 2], Option<PairFault>); 4] = [
     (
         [
@@ -139,7 +140,7 @@ const PAIRS: [([Pair; 2], Option<PairFault>); 4] = [
     ),
 ];
 
-/// Why the pairs are no renaming; one that is made has just these.
+/// Returns why the pairs are not a renaming. A renaming must contain exactly these pairs.
 fn fault_of(rt: &impl Abort, alloc: Global, pairs: &[Pair]) -> Option<PairFault> {
     match Renaming::new(alloc, pairs) {
         Ok(renaming) => {
@@ -150,7 +151,8 @@ fn fault_of(rt: &impl Abort, alloc: Global, pairs: &[Pair]) -> Option<PairFault>
     }
 }
 
-/// Asks what is made of the pairs with this growth refused, and again. Whether it was.
+/// Checks the renaming of the pairs while allocation `turn` fails, and again without a failure.
+/// Returns whether it failed.
 fn pairs_turn(
     rt: &impl Abort,
     alloc: Global,
@@ -180,14 +182,13 @@ fn pairs_are_refused_in_turn(rt: HostRuntime) {
     }
 }
 
-/// Contents of one byte.
+/// Limits for contents of one byte.
 const NARROW: FrameLimits = FrameLimits {
     header: 4096,
     content: 1,
 };
 
-/// What is left of a text behind which a longer content was to be written, as a frame and as a
-/// record, and what is answered.
+/// Returns the results of appending a content that is too long, as a frame and as a record.
 fn writes_too_much(out: &mut Vec<u8>) -> [Result<(), FrameFault>; 2] {
     [
         write_frame(out, b"{}", NARROW),
@@ -195,7 +196,7 @@ fn writes_too_much(out: &mut Vec<u8>) -> [Result<(), FrameFault>; 2] {
     ]
 }
 
-/// Asks for the refusal with this growth refused. Whether it was.
+/// Checks these results while allocation `turn` fails. Returns whether it failed.
 fn writes_turn(rt: &impl Abort, alloc: Global, turn: u16) -> bool {
     let mut out = Vec::from_slice(alloc, b"before").expect(rt, "no memory");
     refuse_growth(alloc, turn);

@@ -1,5 +1,6 @@
-//! Each allocation of a call that writes a tree, or reads one into buffers that it reuses, fails in
-//! turn. What the call borrowed is as before, and the same call returns the same with memory.
+//! Makes each allocation of a call that writes a tree, or that reads one with reused buffers, fail
+//! in turn. The values that the call borrows are unchanged, and the same call without a failure
+//! returns the same result.
 use crate::examples::was_wanted;
 use dap_tree::{Scratch, Tree, TreeFault, read_tree, read_tree_with, write_tree, write_tree_to};
 use fault_injection::{refuse_growth, was_refused};
@@ -22,19 +23,19 @@ const WRITTEN: [Written; 4] = [
     ),
 ];
 
-/// The text of a tree, which has to be sound.
+/// Returns the text of a tree, which must be serialisable.
 fn text_of(rt: &impl Abort, alloc: Global, tree: &Tree) -> Result<String, TreeFault> {
     assert!(rt; tree.sound());
     write_tree(alloc, tree)
 }
 
-/// Whether the text of the tree is this one, or why it was not given.
+/// Returns whether the tree has this text, or the error of writing it.
 fn has_text(rt: &impl Abort, alloc: Global, tree: &Tree, wanted: &str) -> Result<bool, TreeFault> {
     let text = text_of(rt, alloc, tree)?;
     Ok(text.as_str() == wanted)
 }
 
-/// Asks for the answer `true`, or for want of memory where this growth was refused.
+/// Checks that the result is `true`, or `Memory` if an allocation failed.
 fn is_true(rt: &impl Abort, answer: Result<bool, TreeFault>, (is_refused, turn): (bool, u16)) {
     if answer == Err(TreeFault::Memory) {
         was_wanted(rt, is_refused, turn);
@@ -43,7 +44,8 @@ fn is_true(rt: &impl Abort, answer: Result<bool, TreeFault>, (is_refused, turn):
     }
 }
 
-/// Asks for the text with this growth refused, and again. Whether it was.
+/// Checks the text while allocation `turn` fails, and again without a failure. Returns whether it
+/// failed.
 fn writes_turn(rt: &impl Abort, alloc: Global, tree: &Tree, wanted: &str, turn: u16) -> bool {
     refuse_growth(alloc, turn);
     let answer = has_text(rt, alloc, tree, wanted);
@@ -65,14 +67,14 @@ fn the_text_of_a_tree_is_refused_in_turn(rt: HostRuntime) {
     }
 }
 
-/// Appends the text of a tree, which has to be sound.
+/// Appends the text of a tree, which must be serialisable.
 fn append(rt: &impl Abort, alloc: Global, tree: &Tree, out: &mut Vec<u8>) -> Result<(), TreeFault> {
     assert!(rt; tree.sound());
     write_tree_to(alloc, tree, out)
 }
 
-/// Asks for the text behind another with this growth refused, and again where it was not written.
-/// Whether it was.
+/// Checks the text that is appended to a buffer while allocation `turn` fails, and again if it was
+/// not appended. Returns whether it failed.
 fn appends_turn(rt: &impl Abort, alloc: Global, tree: &Tree, wanted: &str, turn: u16) -> bool {
     let mut out = Vec::from_slice(alloc, b"before").expect(rt, "no memory");
     refuse_growth(alloc, turn);
@@ -101,13 +103,13 @@ fn a_text_behind_another_is_refused_in_turn(rt: HostRuntime) {
     }
 }
 
-/// Contents, and the text of the tree of each, or why it has none.
+/// Contents, and for each the text of its tree, or the error of reading it.
 const READ: [(&[u8], Result<&str, TreeFault>); 6] = [
     (
         b"{ \"b\":[1,{\"c\":\"a \\\"text\\\" of some forty bytes, more or less\"}],\"a\":null}",
         Ok("{\"a\":null,\"b\":[1,{\"c\":\"a \\\"text\\\" of some forty bytes, more or less\"}]}"),
     ),
-    // The last of two members with one name counts, so that all of the content is looked at twice.
+    // The last of two members with the same name counts, so the content is parsed twice.
     (b"{\"a\":1.5,\"a\":1}", Ok("{\"a\":1}")),
     (b"{\"a\":1.5}", Err(TreeFault::Fraction)),
     (b"{\"a\":[1,2", Err(TreeFault::Json)),
@@ -115,7 +117,7 @@ const READ: [(&[u8], Result<&str, TreeFault>); 6] = [
     (b"", Err(TreeFault::Json)),
 ];
 
-/// Whether the tree of a content, read with room that is kept, has this text; or why there is none.
+/// Returns whether the tree of a content, read with reused buffers, has this text or this error.
 fn has_tree(
     rt: &impl Abort,
     alloc: Global,
@@ -130,7 +132,8 @@ fn has_tree(
     }
 }
 
-/// Asks for the tree with this growth refused, and again with the same room. Whether it was.
+/// Checks the tree while allocation `turn` fails, and again with the same buffers. Returns whether
+/// it failed.
 fn reads_turn(
     rt: &impl Abort,
     alloc: Global,

@@ -1,4 +1,4 @@
--- The bytes that are left of pieces, as they are read.
+-- The bytes that remain of the chunks while they are read.
 use Rattle.std.proofs.Common.{◌≡◌, ℕ, ◌+◌, ◌-◌, ◌<◌, ◌≤◌, min, List, ◌∷◌, ◌++◌, length, take, drop}
 use Rattle.std.proofs.Common.{sym, subst, ◌∙◌, ap}
 use Rattle.std.proofs.Common.{get_or, arith, length-append, length-drop, length-take}
@@ -10,7 +10,7 @@ use Rattle.std.specs.Borrow.{Bor}
 use Rattle.callers.specs.Arriving.{HasBytes}
 use Rattle.callers.specs.Pieces.{joined}
 
--- What is left of a list at one of its elements.
+-- A list from one of its elements on.
 pub drop_at : {X : Type 0} (xs : List X) (i : ℕ) (x : X) → i < length xs → x ≡ get_or xs i x
     → drop i xs ≡ x ∷ drop (i + 1) xs
 drop_at xs i x within is = drop_more xs i x within ∙ ap (λ y. y ∷ drop (i + 1) xs) (sym is)
@@ -19,7 +19,7 @@ module _ (piece : Bor (List ℕ)) (later : List (Bor (List ℕ))) where
   first : joined (piece ∷ later) ≡ piece.now ++ joined later
   first = flat_map-cons (λ (p : Bor (List ℕ)). p.now) piece later
 
-  -- Where all of a piece has been read, the later ones are left.
+  -- After all of a chunk has been read, the later chunks remain.
   pub passed : (read : ℕ) → length piece.now ≤ read
       → drop (read - length piece.now) (joined later) ≡ drop read (joined (piece ∷ later))
   passed read le =
@@ -27,7 +27,7 @@ module _ (piece : Bor (List ℕ)) (later : List (Bor (List ℕ))) where
       sym (ap (drop read) first ∙ ap (λ n. drop n (piece.now ++ joined later)) split
       ∙ drop-append-add piece.now (joined later) (read - length piece.now))
 
-  -- Bytes that are read of a piece are the first of those that are left.
+  -- Bytes read from a chunk are the first of the remaining bytes.
   pub read_on : (read count : ℕ) (bytes : List ℕ) → read + count ≤ length piece.now
       → bytes ≡ take count (drop read piece.now)
       → drop read (joined (piece ∷ later)) ≡ bytes ++ drop (read + count) (joined (piece ∷ later))
@@ -44,7 +44,7 @@ module _ (piece : Bor (List ℕ)) (later : List (Bor (List ℕ))) where
       ∙ ap (λ xs. xs ++ drop count (drop read all)) taken
       ∙ ap (λ xs. bytes ++ xs) (drop-drop count read all)
 
--- Behind the read bytes some are left of the present piece.
+-- The current chunk has unread bytes.
 pub some_left : (pieces : List (Bor (List ℕ))) (at read : ℕ) (piece : Bor (List ℕ))
     → at < length pieces → piece ≡ get_or pieces at piece → HasBytes read (drop at pieces)
     → read < length piece.now
@@ -52,7 +52,7 @@ some_left pieces at read piece within is some =
     let here : HasBytes read (piece ∷ drop (at + 1) pieces) =
     subst (HasBytes read) (drop_at pieces at piece within is) some in here
 
--- What a buffer holds into which the first bytes of a rest were copied.
+-- A buffer into which the first bytes of the rest were copied.
 module _ (rest buffer copied : List ℕ) (count : ℕ)
     (fits : count ≡ min (length rest) (length buffer)) (is : copied ≡ take count rest) where
   all_copied : length copied ≡ count

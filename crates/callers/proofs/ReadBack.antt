@@ -1,4 +1,4 @@
--- What a framer at the start of a stream makes of one whole frame.
+-- The result of a framer at the start of a stream for one complete frame.
 use Rattle.std.proofs.Common.{◌≡◌, ◌<◌, ⊎_elim, ℕ, List, [], length, take, drop}
 use Rattle.std.proofs.Common.{Some, None}
 use Rattle.std.proofs.Common.{MatchOption, refl, sym, ◌∙◌, subst, append-nil, take-append-drop}
@@ -12,7 +12,7 @@ use Rattle.dap_frame.specs.Laws.{FrameNotFaulty, FrameNotOpen, OneFrame, Written
 use Rattle.dap_frame.specs.Limits.{IsSound}
 use Rattle.dap_frame.specs.Reading.{GivesFault, GivesFed, Reading, Stands, limits_of}
 
--- What was written for a content that is not too long is a frame with it.
+-- The bytes written for a content within the limit are a frame with that content.
 pub whole_frame : WrittenIsFrame → (limits own : FrameLimits) → IsSound limits → own ≡ limits
     → (content written : List ℕ) → (limits.content < length content → ⊥)
     → written ≡ frame_text content → IsFrame own written content
@@ -24,7 +24,7 @@ whole_frame law limits own sound same content written short is =
 
 module _ (limits : FrameLimits) (frame content : List ℕ) (is_frame : IsFrame limits frame content)
     (new : Reading) where
-  -- The frame ends in it, so some content is given.
+  -- The frame ends within these bytes, so a content is returned.
   pub some_content : FrameNotOpen → limits_of new ≡ limits → (fed : Fed)
       → GivesFed limits [] frame fed new → fed.content ≡ None → ⊥
   some_content not_open same fed gives none =
@@ -35,7 +35,7 @@ module _ (limits : FrameLimits) (frame content : List ℕ) (is_frame : IsFrame l
       (subst (IsOpen limits) (sym (append-nil frame))
       (subst (λ l. IsOpen l frame) same all.1.is_open))
 
-  -- It is that of the frame.
+  -- The content returned is the content of the frame.
   pub same_content : OneFrame → (fed : Fed) → GivesFed limits [] frame fed new
       → (read : List ℕ) → fed.content ≡ Some read → read ≡ content
   same_content one fed gives read some =
@@ -45,7 +45,7 @@ module _ (limits : FrameLimits) (frame content : List ℕ) (is_frame : IsFrame l
       (one limits (take fed.used frame) frame (drop fed.used frame) [] read content
       (take-append-drop fed.used frame ∙ sym (append-nil frame)) front.0 is_frame).1
 
-  -- A fault is told only for want of memory.
+  -- The only possible error is a failed allocation.
   pub only_memory : FrameNotFaulty → (fault : FrameFault) → GivesFault limits [] frame fault new
       → fault ≡ Memory
   only_memory not_faulty Memory gives = refl

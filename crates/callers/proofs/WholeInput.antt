@@ -1,4 +1,4 @@
--- What `check` tells of an input that comes in pieces is true of all of its bytes.
+-- The result of `check` for an input that arrives in chunks holds for all of its bytes.
 use Rattle.std.proofs.Common.{◌≡◌, ℕ, true, false, List, ◌++◌, Option, Some, None}
 use Rattle.std.proofs.Common.{Result, Ok, Err, IfErr, IfOk, sym, ◌∙◌, ap, subst, append-nil, arith}
 use Rattle.std.proofs.Common.{true≢false}
@@ -25,11 +25,11 @@ use Rattle.callers.specs.declared.judged_pieces.Arriving.{Arriving}
 use Rattle.callers.specs.Arriving.{bytes_left, given_so_far}
 use Rattle.callers.specs.Pieces.{IsJudged}
 
--- an input that comes in pieces, as a source
+-- An input that arrives in chunks, as a source.
 abbrev pub arriving : Source Arriving
 arriving = record { left = λ s. Some (bytes_left s); given = given_so_far; failures = λ s. 0 }
 
--- It is told that the record is cut.
+-- The result is that the record is incomplete.
 abbrev TellsCut : Option (ℕ × Reason) → Type 0
 TellsCut (Some (n, cut)) = Unit {0}
 TellsCut told = ⊥
@@ -45,14 +45,14 @@ module _ (limits : Limits) (mode : Mode) (old new : Arriving) where
     counted = has.counted;
   }
 
-  -- It never fails.
+  -- The source never fails.
   good : (stop : Option Stop) → HasPaused arriving old new stop → has_failed stop ≡ true → ⊥
   good None paused failed = true≢false (sym failed)
   good (Some End) paused failed = true≢false (sym failed)
   good (Some Full) paused failed = true≢false (sym failed)
   good (Some Failed) paused failed = absurd (omega (arith, paused))
 
-  -- Where it has ended, all of it came.
+  -- At the end of the input, all of its bytes were read.
   all_came : (bytes : List ℕ) (stop : Option Stop) → HasPaused arriving old new stop
       → stop ≡ Some End → bytes_left old ≡ bytes ++ bytes_left new → bytes ≡ bytes_left old
   all_came bytes None paused end split = absurd (let e = end in cc)
@@ -94,7 +94,7 @@ module _ (limits : Limits) (mode : Mode) (old new : Arriving) where
   refuses sound stays (Incomplete client adapter) answer = absurd (true≢false (sym answer.asked))
   refuses sound stays because answer = refuses_next sound stays because answer.0 answer.1
 
-  -- The same of whatever is answered.
+  -- The same for every result.
   pub answered : (result : Result Checked Refused) → Checks arriving limits mode false old new
       result
       → IfOk result (IsJudged limits mode (bytes_left old))

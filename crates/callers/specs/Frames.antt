@@ -1,5 +1,5 @@
--- The stack frames that a content tells. Source: DAP specification, StackTraceResponse, over what
--- the library shows of a message.
+-- The stack frames in a content. Source: DAP specification, `StackTraceResponse`, over the
+-- library's view of a message.
 use Rattle.std.specs.Prelude.{◌≡◌, ℕ, ℤ, List, map, string_bytes}
 use Rattle.dap_tree.specs.Doc.{Doc}
 use Rattle.dap_tree.specs.Json.{IsRead, ExplainsText}
@@ -10,22 +10,22 @@ use Rattle.callers.specs.declared.told_frames.Place.{Place}
 use Rattle.callers.specs.declared.told_frames.NoFrames.{NoFrames}
 use Rattle.callers.specs.declared.told_frames.NoFrames.TheVariants.{Tree, Message, Memory}
 
--- a place as its two parts: the bytes of the function's name, and the line
+-- The two parts of a location: the bytes of the function's name, and the line.
 abbrev pub told : Place → List ℕ × ℤ
 told place = (string_bytes place.function, place.line)
 
--- the same two parts of a stack frame
+-- The same two parts of a stack frame.
 abbrev pub place_of_frame : StackFrame → List ℕ × ℤ
 place_of_frame frame = (frame.name, frame.line)
 
--- The content is that of a message of an adapter, and these are the places of the frames that it
--- lists, in its order.
+-- The content is a message of an adapter, and these are the locations of the frames that it lists,
+-- in its order.
 pub record TellsFrames (content : List ℕ) (places : List Place) : Type 0 where
   pub message : Doc
   pub is_message : IsTypedContent Adapter content message
   pub same : map told places ≡ map place_of_frame (frames_of message)
 
--- The content is no tree, or the tree is no message, for this reason.
+-- The content is not a tree, or the tree is not a message, for this reason.
 abbrev pub Explains : List ℕ → NoFrames → Type 0
 Explains content (Tree fault) = ExplainsText content fault
 Explains content (Message fault) = (d : Doc) × IsRead content d × Refuses d fault

@@ -14,28 +14,28 @@ use Rattle.dap_normal.specs.Normalising.{IsCanonical, Normalises, RefusesBytes}
 
 module _ {W : Type 0} (sink : Sink W) (limits : Limits) (mode : Mode) (recording : List ℕ)
     (old new : W) where
-  -- The golden file of the recording went out as a whole, and was flushed.
+  -- The complete golden file of the recording was written and flushed.
   pub record HasMade : Type 0 where
     pub golden : List ℕ
     pub canonical : IsCanonical limits mode recording golden
     pub written : AllSent sink old new golden
 
-  -- The file could not be written: a front of its text went out, perhaps all of it.
+  -- The file could not be written: a prefix of its text was written, possibly all of it.
   pub record HasNotMade : Type 0 where
     pub golden : List ℕ
     pub canonical : IsCanonical limits mode recording golden
     pub written : FrontWritten sink old new golden
 
-  -- The file is made; or it could not be written; or the recording is refused, and nothing was
+  -- The file was written; or it could not be written; or the recording is rejected and nothing was
   -- written.
   abbrev pub Makes : {U : Type 0} → Result U Refused → Type 0
   Makes (Ok done) = HasMade
   Makes (Err WriteFault) = HasNotMade
   Makes (Err refused) = RefusesBytes limits mode recording refused × (new ≡ old)
 
--- The later recording is accepted, and the answer is true exactly where the golden file is its
--- normal text. If the file was made of some recording, that is where a one-to-one renaming of ids
--- carries the messages of the later one, in order, to those of that recording.
+-- The later recording is accepted, and the result is true if and only if the golden file is its
+-- normal text. If the golden file is that of some recording, this means: a one-to-one renaming of
+-- ids maps the messages of the later recording, in order, to those of that recording.
 pub record IsHeldTo (limits : Limits) (mode : Mode) (golden later : List ℕ) (held : Bool) : Type 0
   where
     pub messages : List Sent

@@ -1,4 +1,4 @@
--- A recording that comes in pieces. Source: own, over what the library accepts.
+-- A recording that arrives in chunks. Source: own, over the recordings that the library accepts.
 use Rattle.std.specs.Prelude.{ℕ, List}
 use Rattle.std.specs.Borrow.{Bor}
 use Rattle.std.specs.List.{flat_map}
@@ -9,11 +9,11 @@ use Rattle.dap_normal.specs.Accepting.{IsAccepted}
 use Rattle.dap_normal.specs.Checking.{AreCounted}
 use Rattle.dap_normal.specs.declared.checked.Checked.{Checked}
 
--- the bytes of the pieces, in order
+-- The bytes of the chunks, in order.
 abbrev pub joined : List (Bor (List ℕ)) → List ℕ
 joined pieces = flat_map (λ piece. piece.now) pieces
 
--- The bytes are an accepted recording, of which these are the numbers.
+-- The bytes are an accepted recording with these counts.
 pub record IsJudged (limits : Limits) (mode : Mode) (bytes : List ℕ) (checked : Checked) : Type 0
   where
     pub messages : List Sent

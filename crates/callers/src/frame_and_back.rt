@@ -1,11 +1,16 @@
-//! A frame written and read back.
+//! Writes a frame and reads it back.
 ghost use Rattle.std.specs.Prelude.{◌≡◌, ◌<◌, ◌↔◌, ◌⊎◌, length, Err, IfErr, IfOk};
 ghost use Rattle.dap_frame.specs.Limits.{IsSound};
 
 use dap_frame::{Content, FrameFault, FrameLimits, Framer, laws, write_frame};
 use std::alloc::Global;
 
-/// Writes the frame of a content, reads what it wrote, and gives the content that it read.
+/// Writes the frame of a content, reads the frame, and returns the content read.
+///
+/// # Errors
+///
+/// - `ContentTooLong`: the content exceeds its limit.
+/// - `Memory`: an allocation failed.
 pub fn write_and_read(
     alloc: Global,
     content: &[u8],

@@ -1,4 +1,4 @@
-//! A golden file that is made, and later held to.
+//! Writes a golden file and compares later recordings with it.
 ghost use Rattle.std.specs.Prelude.{◌<◌, ◌^◌, IfErr, IfOk};
 ghost use Rattle.dap_input.specs.Limits.{AreSound};
 ghost use Rattle.dap_normal.specs.Normalising.{RefusesBytes};
@@ -8,7 +8,13 @@ use dap_device::write_and_flush;
 use dapnorm::{Limits, Mode, Refused, Sink, laws, normalise_bytes};
 use std::alloc::Global;
 
-/// Writes the golden file of a recording. Of a recording that is refused it writes nothing.
+/// Writes the golden file of a recording.
+///
+/// # Errors
+///
+/// - The first error of the recording, if it is rejected. Nothing is written.
+/// - `WriteFault`: the writer failed.
+/// - `Memory`: an allocation failed. Nothing is written.
 pub fn make_golden<W: Sink>(
     alloc: Global,
     recording: &[u8],
@@ -27,7 +33,12 @@ pub fn make_golden<W: Sink>(
     }
 }
 
-/// Whether a later recording is as the golden file says: the same session, but for its ids.
+/// Returns whether a later recording matches the golden file: the same session, ignoring ids.
+///
+/// # Errors
+///
+/// - The first error of the later recording, if it is rejected.
+/// - `Memory`: an allocation failed.
 pub fn holds_to(
     alloc: Global,
     golden: &[u8],
@@ -37,8 +48,8 @@ pub fn holds_to(
 ) -> Result<bool, Refused>
     requires { AreSound limits }
 
-    // Of whatever recording the golden file was made, true exactly where a renaming of ids carries
-    // the messages of the later one to those of it.
+    // For any recording of which `golden` is the golden file: true if and only if a renaming of ids
+    // maps the messages of `later` to its messages.
     ensures held { IfOk result (IsHeldTo limits mode golden.now later.now) }
     ensures refused { IfErr result (RefusesBytes limits mode later.now) }
 {

@@ -1,4 +1,4 @@
-//! A recording judged in pieces, as they come.
+//! Validates a recording that arrives in chunks.
 ghost use Rattle.std.specs.Prelude.{◌≡◌, drop, IfErr, IfOk};
 ghost use Rattle.dap_input.specs.Limits.{AreSound};
 ghost use Rattle.dap_normal.specs.Normalising.{RefusesBytes};
@@ -7,8 +7,8 @@ ghost use Rattle.callers.specs.Pieces.{IsJudged, joined};
 use dapnorm::{Checked, DeviceFault, Limits, Mode, Refused, Source, check, laws};
 use std::alloc::Global;
 
-/// An input that comes in pieces: which piece is the present one, and how many bytes of it have
-/// been read.
+/// An input that arrives in chunks: the index of the current chunk, and the number of its bytes
+/// that have been read.
 #[derive(Drop)]
 pub struct Arriving<'a, 'p> {
     pieces: &'a [&'p [u8]],
@@ -20,7 +20,7 @@ pub struct Arriving<'a, 'p> {
 impl<'a, 'p> Arriving<'a, 'p> {
     ghost use Rattle.callers.specs.Arriving.{HasBytes, bytes_left, given_so_far};
 
-    /// An input of which nothing has been read.
+    /// Returns an input of which nothing has been read.
     pub fn new(pieces: &'a [&'p [u8]]) -> Arriving<'a, 'p>
         ensures left { bytes_left result ≡ joined pieces.entry.now }
         ensures given { given_so_far result ≡ 0 }
@@ -33,7 +33,7 @@ impl<'a, 'p> Arriving<'a, 'p> {
         }
     }
 
-    /// Goes on to the next piece of which some bytes are left.
+    /// Advances to the next chunk that has unread bytes.
     fn go_on(&mut self)
         ensures left { bytes_left self.new ≡ bytes_left self.old }
         ensures given { given_so_far self.new ≡ given_so_far self.old }
@@ -68,7 +68,7 @@ impl Source for Arriving<'_, '_> {
         let left = piece.len() - self.read;
         let count = left.min(buffer.len());
         buffer[..count].copy_from_slice(&rest[..count]);
-        // No sum: of a piece it is not known here that its length fits.
+        // Not `self.read + count`: nothing here bounds the length of a chunk.
         self.read = piece.len() - (left - count);
         self.given += count as u64;
         Ok(count)
@@ -83,7 +83,12 @@ impl Source for Arriving<'_, '_> {
     }
 }
 
-/// Judges a recording that comes in these pieces, wherever they are cut.
+/// Validates a recording that arrives in these chunks, of any size.
+///
+/// # Errors
+///
+/// - The first error of the recording, if it is rejected.
+/// - `Memory`: an allocation failed.
 pub fn judge(
     alloc: Global,
     pieces: &[&[u8]],

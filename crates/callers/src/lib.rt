@@ -1,5 +1,5 @@
-//! Five callers of the library, as a user of it writes them. Each says in its contract what it
-//! makes of the library's promises, and is proved from them. `docs/CALLING.md` shows all five.
+//! Five examples that call the library as a user would. The contract of each one states a result
+//! that is proved from the contracts of the library. `docs/LIBRARY.md` shows all five.
 #![tactic(auto)]
 
 mod frame_and_back;

@@ -1,4 +1,4 @@
-//! Two recordings compared through their normal forms.
+//! Compares two recordings through their normal forms.
 ghost use Rattle.std.specs.Prelude.{IfErr, IfOk};
 ghost use Rattle.dap_input.specs.Limits.{AreSound};
 ghost use Rattle.callers.specs.Compared.{AreCompared, IsOfOne};
@@ -6,7 +6,12 @@ ghost use Rattle.callers.specs.Compared.{AreCompared, IsOfOne};
 use dapnorm::{Limits, Mode, Refused, normalise_bytes};
 use std::alloc::Global;
 
-/// Whether two recordings are of one session, but for their ids.
+/// Returns whether two recordings are of the same session, ignoring ids.
+///
+/// # Errors
+///
+/// - The first error of one of the recordings, if it is rejected.
+/// - `Memory`: an allocation failed.
 pub fn are_same(
     alloc: Global,
     a: &[u8],
@@ -16,7 +21,7 @@ pub fn are_same(
 ) -> Result<bool, Refused>
     requires { AreSound limits }
 
-    // True exactly where a renaming of ids carries the messages of the one to those of the other.
+    // True if and only if a renaming of ids maps the messages of `a` to those of `b`.
     ensures told { IfOk result (AreCompared limits mode a.now b.now) }
     ensures refused { IfErr result (IsOfOne limits mode a.now b.now) }
 {

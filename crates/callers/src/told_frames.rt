@@ -1,4 +1,4 @@
-//! A message read, and its stack frames told.
+//! Reads a message and lists its stack frames.
 ghost use Rattle.std.specs.Prelude.{◌≡◌, map, IfErr, IfOk};
 ghost use Rattle.dap_message.specs.ViewItems.{frames_left};
 ghost use Rattle.callers.specs.Frames.{Explains, TellsFrames, place_of_frame, told};
@@ -7,26 +7,33 @@ use dap_message::{Frames, MessageFault, Side, typed};
 use dap_tree::{TreeFault, read_tree};
 use std::alloc::{AllocError, Global};
 
-/// Where a thread stands: a function and a line of it.
+/// The location of a stack frame: a function and a line.
 #[derive(Debug, Drop)]
 pub struct Place {
     pub function: String,
     pub line: i128,
 }
 
-/// Why a content tells no frames.
+/// Why no frames can be read from a content.
 #[derive(Clone, Copy, Debug, PartialEq, Eq, Drop)]
 pub enum NoFrames {
-    /// The content is no tree.
+    /// The content is not a tree.
     Tree(TreeFault),
-    /// The tree is no message.
+    /// The tree is not a message.
     Message(MessageFault),
-    /// Memory was refused.
+    /// An allocation failed.
     Memory,
 }
 
-/// The stack frames that a message of an adapter lists, in its order; none where it is no
-/// successful response to `stackTrace`.
+/// Returns the stack frames that a message of an adapter lists, in its order. The list is empty if
+/// the message is not a successful response to `stackTrace`.
+///
+/// # Errors
+///
+/// - `Tree`: the content is not JSON, contains a number that is not an integer of 64 bits, or an
+///   allocation failed.
+/// - `Message`: the tree is not a message that satisfies the profile, or an allocation failed.
+/// - `Memory`: an allocation failed while the frames were copied.
 pub fn tell_frames(alloc: Global, content: &[u8]) -> Result<Vec<Place>, NoFrames>
     ensures told { IfOk result (λ places. TellsFrames content.now places.items) }
     ensures refused { IfErr result (Explains content.now) }
@@ -45,7 +52,7 @@ pub fn tell_frames(alloc: Global, content: &[u8]) -> Result<Vec<Place>, NoFrames
     }
 }
 
-/// The places of frames, in their order.
+/// Returns the locations of the frames, in their order.
 fn places(alloc: Global, frames: Frames<'_>) -> Result<Vec<Place>, AllocError>
     ensures { IfOk result
         (λ places. map told places.items ≡ map place_of_frame (frames_left frames.entry)) }

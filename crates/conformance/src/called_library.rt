@@ -1,4 +1,4 @@
-//! The callers of the library, run.
+//! Runs the examples of the crate `callers`.
 use crate::comparing::{EXCHANGED, FRAMES, NEW_FRAME, STALE_FRAME};
 use crate::examples::LIMITS;
 use crate::recordings::{ANSWERED_TWICE, CONFIGURED, Line, recording};
@@ -8,11 +8,11 @@ use dapnorm::{MemorySink, Mode, Refused, Rule};
 use std::alloc::Global;
 use std::process::Abort;
 
-/// Two recordings, the mode of names, and whether they are of one session.
+/// Two recordings, the mode, and whether they are of the same session.
 const PAIRS: [(&[Line], &[Line], Mode, Result<bool, Refused>); 6] = [
     (&FRAMES, &EXCHANGED, Mode::Whole, Ok(true)),
     (&FRAMES, &CONFIGURED, Mode::Whole, Ok(false)),
-    // The frame of a second stop has the id of the first one, or one of its own.
+    // The frame of a second stop has the id of the first one, or a new id.
     (&STALE_FRAME, &NEW_FRAME, Mode::Whole, Ok(false)),
     (&STALE_FRAME, &NEW_FRAME, Mode::PerStop, Ok(true)),
     (&[], &[], Mode::Whole, Ok(true)),
@@ -24,7 +24,7 @@ const PAIRS: [(&[Line], &[Line], Mode, Result<bool, Refused>); 6] = [
     ),
 ];
 
-/// Whether a recording holds to the golden file of another.
+/// Returns whether a recording matches the golden file of another.
 fn held(alloc: Global, recording: &[u8], later: &[u8], mode: Mode) -> Result<bool, Refused> {
     let Ok(mut file) = MemorySink::new(alloc, 8192) else {
         return Err(Refused::Memory);
@@ -44,8 +44,8 @@ fn callers_tell_whether_sessions_are_the_same(rt: HostRuntime) {
     }
 }
 
-/// The records and the open requests of a client that are told of a recording in three pieces, the
-/// middle one empty.
+/// Returns the number of records and of unanswered client requests of a recording in three chunks,
+/// of which the middle one is empty.
 fn judged(alloc: Global, bytes: &[u8], at: usize, mode: Mode) -> Option<(u64, usize)> {
     let (front, rest) = bytes.split_at(at.min(bytes.len()));
     match judge(alloc, &[front, b"", rest], LIMITS, mode) {
@@ -69,7 +69,8 @@ fn callers_judge_what_comes_in_pieces(rt: HostRuntime) {
     }
 }
 
-/// Whether the frames of a content are a function `f` at line 3 and a function `g` at line 9.
+/// Returns whether the frames of a content are a function `f` at line 3 and a function `g` at line
+/// 9.
 fn tells_both(alloc: Global, content: &[u8]) -> bool {
     match tell_frames(alloc, content) {
         Ok(places) => match places.as_slice() {
@@ -83,7 +84,7 @@ fn tells_both(alloc: Global, content: &[u8]) -> bool {
     }
 }
 
-/// Whether what is read back is what was written.
+/// Returns whether the content read back is the content written.
 fn is_read_back(alloc: Global, content: &[u8]) -> bool {
     match write_and_read(alloc, content, LIMITS.frame) {
         Ok(read) => read.as_slice() == content,
@@ -91,13 +92,13 @@ fn is_read_back(alloc: Global, content: &[u8]) -> bool {
     }
 }
 
-/// Contents of three bytes at most.
+/// Limits for contents of at most three bytes.
 const THREE_BYTES: FrameLimits = FrameLimits {
     header: 4096,
     content: 3,
 };
 
-/// Whether a content of four bytes is too long where three may stand.
+/// Returns whether a content of four bytes is too long if three are allowed.
 fn is_too_long(alloc: Global) -> bool {
     match write_and_read(alloc, b"four", THREE_BYTES) {
         Ok(_) => false,

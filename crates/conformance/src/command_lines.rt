@@ -1,8 +1,8 @@
-//! The words of command lines whose jobs differ only past the limits of the program.
+//! Tests command lines whose jobs differ only beyond the limits of the program.
 use dapnorm::{Job, job};
 use std::alloc::Global;
 
-/// Words, and the job that they name.
+/// Arguments, and the job that they select.
 const JOBS: [(&[&str], Job<'static>); 4] = [
     (
         &["dapnorm", "check"],

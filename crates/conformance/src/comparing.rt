@@ -1,4 +1,5 @@
-//! The renaming that `compare` gives carries the messages of one recording to those of the other.
+//! Tests that the renaming returned by `compare` maps the messages of one recording to those of the
+//! other.
 use crate::examples::LIMITS;
 use crate::recordings::{INITIALIZE, INITIALIZE_RESPONSE, Line, STACK_TRACE, STOPPED, recording};
 use dap_message::{Message, MessageFault, Side, typed};
@@ -8,7 +9,7 @@ use dapnorm::{CompareRefused, MemorySource, Verdict, compare};
 use std::alloc::Global;
 use std::process::Abort;
 
-/// Two frames.
+/// A session with two stack frames.
 pub const FRAMES: [Line; 4] = [
     INITIALIZE,
     INITIALIZE_RESPONSE,
@@ -19,7 +20,7 @@ pub const FRAMES: [Line; 4] = [
     ),
 ];
 
-/// The same with their ids exchanged.
+/// The same session with the two frame ids exchanged.
 pub const EXCHANGED: [Line; 4] = [
     INITIALIZE,
     INITIALIZE_RESPONSE,
@@ -30,7 +31,7 @@ pub const EXCHANGED: [Line; 4] = [
     ),
 ];
 
-/// The configured session of an adapter that numbers nothing.
+/// The configured session of an adapter whose sequence numbers are all 0.
 const UNNUMBERED: [Line; 5] = [
     (
         ">",
@@ -70,7 +71,7 @@ const STACK_TRACE_AGAIN: Line = (
     "{\"arguments\":{\"threadId\":1},\"command\":\"stackTrace\",\"seq\":3,\"type\":\"request\"}",
 );
 
-/// Two stops. The frame of the second has the id of the first.
+/// A session with two stops. The frame of the second one has the id of the first one.
 pub const STALE_FRAME: [Line; 8] = [
     INITIALIZE,
     INITIALIZE_RESPONSE,
@@ -85,7 +86,7 @@ pub const STALE_FRAME: [Line; 8] = [
     ),
 ];
 
-/// The same two stops. The frame of the second has an id of its own.
+/// The same session with two stops. The frame of the second one has a new id.
 pub const NEW_FRAME: [Line; 8] = [
     INITIALIZE,
     INITIALIZE_RESPONSE,
@@ -112,7 +113,7 @@ fn message(alloc: Global, (marker, content): Line) -> Result<Message, MessageFau
     }
 }
 
-/// The messages of a recording.
+/// Returns the messages of a recording.
 fn messages(rt: &impl Abort, alloc: Global, lines: &[Line]) -> Vec<Message> {
     let mut messages = Vec::new(alloc);
     for line in lines {
@@ -122,13 +123,13 @@ fn messages(rt: &impl Abort, alloc: Global, lines: &[Line]) -> Vec<Message> {
     messages
 }
 
-/// What `compare` answers. It promises nothing, so that the tests are cheap to prove.
+/// Returns the result of `compare`. Has no contract, to make the tests cheap to prove.
 fn verdict_on(alloc: Global, a: &[u8], b: &[u8], mode: Mode) -> Result<Verdict, CompareRefused> {
     let (mut a, mut b) = (MemorySource::new(a), MemorySource::new(b));
     compare(alloc, &mut a, &mut b, LIMITS, mode)
 }
 
-/// Asks that a renaming carries the messages of the one recording to those of the other.
+/// Checks that a renaming maps the messages of the first recording to those of the second.
 fn are_carried(rt: &impl Abort, alloc: Global, (a, b, mode): (&[Line], &[Line], Mode)) {
     let bytes_a = recording(rt, alloc, a);
     let bytes_b = recording(rt, alloc, b);

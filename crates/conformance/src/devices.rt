@@ -1,25 +1,25 @@
-//! A sink for tests, which counts its flushes. It tells no bytes.
+//! A sink for tests that counts its flushes. Its model does not include the bytes written.
 ghost use Rattle.std.specs.Prelude.{◌≡◌, None, IfOk};
 
 use dapnorm::{DeviceFault, Sink};
 use std::alloc::{AllocError, Global};
 
-/// For how many bytes a sink makes memory beforehand.
+/// The number of bytes that a sink allocates in advance.
 const ROOM: usize = 4096;
 
-/// Keeps what is written to it.
+/// Stores the bytes that are written to it.
 #[derive(Drop)]
 pub struct TestSink {
     bytes: Vec<u8>,
     fails_to_flush: bool,
-    /// How often it was flushed.
+    /// The number of flushes.
     pub flushes: u64,
     unflushed: bool,
     failures: u64,
 }
 
 impl TestSink {
-    /// A sink that has taken nothing, and may fail at each flush.
+    /// Returns an empty sink, whose flushes fail if `fails_to_flush` is set.
     pub fn new(alloc: Global, fails_to_flush: bool) -> Result<TestSink, AllocError>
         ensures { IfOk result (λ s. s.failures ≡ 0) }
     {
@@ -32,7 +32,7 @@ impl TestSink {
         })
     }
 
-    /// What went out.
+    /// Returns the bytes written.
     pub fn bytes(&self) -> &[u8] {
         self.bytes.as_slice()
     }

@@ -1,4 +1,4 @@
-//! What the tests begin with.
+//! Defines the limits that the tests share.
 use dap_frame::FrameLimits;
 use dapnorm::Limits;
 

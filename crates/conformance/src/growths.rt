@@ -1,16 +1,16 @@
-//! What is asked where a growth of memory may have been refused: the answer is that of ample
-//! memory, or want of memory, and never another.
+//! Assertions for calls in which an allocation may have failed: the result is the same as without a
+//! failure, or the error for a failed allocation, and nothing else.
 use crate::devices::TestSink;
 use crate::recordings::{Line, recording};
 use std::alloc::Global;
 use std::process::Abort;
 
-/// Asks that the growth of this turn was refused.
+/// Asserts that an allocation failed in this turn.
 pub fn was_wanted(rt: &impl Abort, is_refused: bool, turn: u16) {
     assert!(rt; is_refused, "memory was there at turn {turn}");
 }
 
-/// Whether the records of some leading lines have been written, and not flushed.
+/// Returns whether the records of some leading lines were written and not flushed.
 pub fn has_leading_records(
     rt: &impl Abort,
     alloc: Global,

@@ -1,5 +1,5 @@
-//! Tests that cross crates: masks whose rules are used again after a failed allocation,
-//! comparisons, and the callers of the library.
+//! Tests across crates: masks whose rules are used again after a failed allocation, comparisons,
+//! and the examples of the crate `callers`.
 #![tactic(auto)]
 
 #[cfg(test)]

@@ -1,8 +1,8 @@
-//! Masks over devices in memory: each growth refused in turn, also with the same rules again, and
-//! flushes that fail.
+//! Tests masks over memory: each allocation fails in turn, including with rules that are used
+//! again, and flushes fail.
 //!
-//! tests/fault_injection.py runs the tests on growths under a shim that refuses. Without it each
-//! makes one turn with ample memory.
+//! tests/fault_injection.py runs the tests on allocations under a shim in which allocations fail.
+//! Without the shim each test makes one turn in which no allocation fails.
 ghost use Rattle.std.specs.Prelude.{◌<◌, ◌^◌};
 
 use crate::devices::TestSink;
@@ -22,7 +22,7 @@ use std::process::Abort;
 const RULES: &[u8] =
     b"# What changes from run to run.\nblank event stopped body.reason\ndrop event initialized\n";
 
-/// Files of rules, and why one is refused.
+/// Files of rules, and why one is rejected.
 const FILES: [(&[u8], Option<RulesFault>); 3] = [
     (RULES, None),
     (
@@ -41,7 +41,7 @@ const FILES: [(&[u8], Option<RulesFault>); 3] = [
     ),
 ];
 
-/// Why a file is refused.
+/// Returns why a file is rejected.
 fn fault_of(alloc: Global, text: &[u8]) -> Option<RulesFault> {
     MaskRules::read(alloc, text).err()
 }
@@ -53,7 +53,8 @@ fn wants_memory(fault: Option<RulesFault>) -> bool {
     }
 }
 
-/// Asks why the file is refused with this growth refused, and again. Whether it was.
+/// Checks why the file is rejected while allocation `turn` fails, and again without a failure.
+/// Returns whether it failed.
 fn reads_turn(
     rt: &impl Abort,
     alloc: Global,
@@ -83,7 +84,7 @@ fn rules_are_refused_in_turn(rt: HostRuntime) {
     }
 }
 
-/// What `mask` answers.
+/// Returns the result of `mask`.
 fn masked<R: Source, W: Sink>(
     alloc: Global,
     rules: &MaskRules,
@@ -97,7 +98,7 @@ fn masked<R: Source, W: Sink>(
     mask(alloc, rules, reader, writer, LIMITS)
 }
 
-/// Lines with bytes behind them, what is answered, and the lines that are left.
+/// Lines, the bytes after them, the result, and the masked lines.
 type Masked = (
     &'static [Line],
     &'static [u8],
@@ -105,7 +106,7 @@ type Masked = (
     &'static [Line],
 );
 
-/// A stop without its reason.
+/// A `stopped` event whose reason is blanked.
 const BLANKED: Line = (
     "<",
     "{\"body\":{\"reason\":\"\"},\"event\":\"stopped\",\"seq\":2,\"type\":\"event\"}",
@@ -144,8 +145,8 @@ fn input_of(rt: &impl Abort, alloc: Global, lines: &[Line], rest: &[u8]) -> Vec<
     input
 }
 
-/// Asks for the answer and what is left, flushed once; or for want of memory where a growth was
-/// refused, some leading records and no flush.
+/// Checks the result, the masked lines and a single flush. If an allocation failed, checks for some
+/// leading records and no flush.
 fn is_answer(
     rt: &impl Abort,
     alloc: Global,
@@ -163,7 +164,7 @@ fn is_answer(
     }
 }
 
-/// Asks for what is masked with this growth refused. Whether it was.
+/// Checks the masked recording while allocation `turn` fails. Returns whether it failed.
 fn masks_turn(
     rt: &impl Abort,
     alloc: Global,
@@ -186,7 +187,7 @@ fn mask_is_refused_in_turn(rt: HostRuntime) {
     let rules = MaskRules::read(alloc, RULES).ok().expect(&rt, "no rules");
     for (lines, rest, wanted, left) in &MASKED {
         let input = input_of(&rt, alloc, lines, rest);
-        // The same rules serve in each turn, and in a last one with ample memory.
+        // The same rules are used in each turn, including the last one without a failure.
         for turn in 1..10_000u16 {
             let run = (&rules, input.as_slice());
             if !masks_turn(&rt, alloc, run, (*wanted, left), turn) {
@@ -196,7 +197,7 @@ fn mask_is_refused_in_turn(rt: HostRuntime) {
     }
 }
 
-/// Asks for a write fault behind all that is left where the flush fails.
+/// Checks that all masked records are written and `WriteFault` is returned if the flush fails.
 fn fails_to_flush(rt: &impl Abort, alloc: Global, rules: &MaskRules, input: &[u8], left: &[Line]) {
     let mut sink = TestSink::new(alloc, true).expect(rt, "no memory");
     let answer = masked(alloc, rules, &mut MemorySource::new(input), &mut sink);

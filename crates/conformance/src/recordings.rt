@@ -1,4 +1,4 @@
-//! Recordings for tests, written out apart from the crates that are tested.
+//! Recordings for tests, written independently of the crates that are tested.
 use std::alloc::{AllocError, Global};
 use std::process::Abort;
 
@@ -40,7 +40,7 @@ pub const STOPPED: Line = (
     "{\"body\":{\"reason\":\"step\"},\"event\":\"stopped\",\"seq\":2,\"type\":\"event\"}",
 );
 
-/// A session from its start to where its configuration is done: 473 bytes.
+/// A session from its start until its configuration is done: 473 bytes.
 pub const CONFIGURED: [Line; 5] = [
     INITIALIZE,
     INITIALIZE_RESPONSE,
@@ -49,10 +49,10 @@ pub const CONFIGURED: [Line; 5] = [
     CONFIGURATION_DONE_RESPONSE,
 ];
 
-/// A session whose third record answers the first again.
+/// A session whose third record is a second response to the first.
 pub const ANSWERED_TWICE: [Line; 3] = [INITIALIZE, INITIALIZE_RESPONSE, INITIALIZE_RESPONSE];
 
-/// The recording of these lines.
+/// Returns the recording of these lines.
 pub fn recording(rt: &impl Abort, alloc: Global, lines: &[Line]) -> Vec<u8> {
     let mut bytes = Vec::new(alloc);
     for (marker, content) in lines {
@@ -61,7 +61,7 @@ pub fn recording(rt: &impl Abort, alloc: Global, lines: &[Line]) -> Vec<u8> {
     bytes
 }
 
-/// Writes the record of a content after bytes.
+/// Appends the record of a content.
 fn add_record(
     alloc: Global,
     bytes: &mut Vec<u8>,

@@ -1,8 +1,8 @@
-//! The text of a refusal that no command prints.
+//! Tests the message of a rejection that no command prints.
 use dapnorm::Refused;
 use std::alloc::Global;
 
-/// Whether a refusal is printed as this text.
+/// Returns whether a rejection is printed as this text.
 fn is_printed(alloc: Global, refused: Refused, text: &str) -> bool {
     matches!(format!(in alloc; "{refused}"), Ok(printed) if printed.as_str() == text)
 }

@@ -1,4 +1,4 @@
--- Where a parse takes the words, a `compare` or a `diff` among them has both files.
+-- If the parser accepts the arguments, a `compare` or `diff` among them has both files.
 use Rattle.std.proofs.Common.{◌≡◌, ◌<◌, ◌||◌, not, cond, is_some, Bool, true, false, List, [], ◌∷◌}
 use Rattle.std.proofs.Common.{◌++◌, Option, Some, None, length, nat_le, codes, refl, sym, ◌∙◌, ap}
 use Rattle.std.proofs.Common.{subst, arith, true≢false, length-append}
@@ -27,7 +27,7 @@ use Rattle.dap_command_line.specs.CommandLine.{two_files}
 use Rattle.dap_command_line.specs.CommandLine as line
 use Rattle.dap_command_line.proofs.CommandWalk.{finished_keeps}
 
--- ---- each row that a parse found has a value
+-- ---- each row that the parser found has a value
 
 abbrev HaveValues : List Row → Type 0
 HaveValues [] = Unit {0}
@@ -68,12 +68,12 @@ default_added rows a was = by_row (has_row a.id rows)
     by_row true = was
     by_row false = by_defaults a.defaults
 
--- a use of the argument leaves each row with a value
+-- A use of the argument leaves each row with a value.
 abbrev UseHasValues : Bool → Rule → Type 0
 UseHasValues again a = (values : List Text) (rows : List Row)
     → use_passes again a values rows ≡ true → HaveValues rows → HaveValues (used a values rows)
 
--- an argument that takes one value
+-- An argument with one value.
 set_use : (again : Bool) (a : Rule) → action_of a ≡ Set
     → (unwrap_or_range a.range).start_inclusive ≡ 1 → UseHasValues again a
 set_use again a is_set one [] rows passes was =
@@ -84,7 +84,7 @@ set_use again a is_set one (v ∷ vs) rows passes was =
     (values_added a.id (reading_by a) CommandLine (v ∷ vs) (without a.id rows) (omega arith)
     (row_removed a.id rows was))
 
--- a flag, which stands for a value of its own where none is given
+-- A flag, which has a value of its own if none is given.
 flag_use : (again : Bool) (a : Rule) → action_of a ≡ SetTrue → 0 < length a.missing
     → UseHasValues again a
 flag_use again a is_flag some values rows passes was =
@@ -98,7 +98,7 @@ flag_use again a is_flag some values rows passes was =
     given [] = some
     given (v ∷ vs) = omega arith
 
--- the flag for help, which no parse takes
+-- The flag for help, which the parser never accepts.
 no_use : (again : Bool) (a : Rule) → action_of a ≡ Help → UseHasValues again a
 no_use again a is_help values rows passes was =
     let action =
@@ -107,7 +107,7 @@ no_use again a is_help values rows passes was =
     absurd (true≢false (sym action
     ∙ ap (λ x. action_passes x again a (values_or_missing a values) rows) is_help))
 
--- ---- what a search finds is one of the list
+-- ---- the result of a search is an element of the list
 
 find_all : {X : Type 0} (Q : X → Type 0) (p : X → Bool) (xs : List X) (x : X) → AllByRecursion Q xs
     → find p xs ≡ Some x → Q x
@@ -120,12 +120,12 @@ find_all {X} Q p (y ∷ xs) x all e = by_hit (p y) (λ found. find_all Q p xs x 
 
 -- ---- the subcommands `compare` and `diff`
 
--- each of them as it is built, by its name
+-- Each of the two as it is built, by its name.
 abbrev built_of_two : Text → Shape
 built_of_two name =
     built_leaf (inherited (with_leaf_noted (marked_built program.top)) (of_two_files name).top)
 
--- its arguments: two files, its flag and the flag for help
+-- Its arguments: two files, its flag and the flag for help.
 abbrev first_file : Rule
 first_file = with_index 1 (filled (file (codes "A")))
 
@@ -194,7 +194,7 @@ level_has_files name words passes =
 
 -- ---- the subcommand `mask`
 
--- `mask` as it is built
+-- `mask` as it is built.
 abbrev built_masker : Shape
 built_masker = built_leaf (inherited (with_leaf_noted (marked_built program.top)) masker.top)
 
@@ -228,9 +228,9 @@ level_has_rules words passes =
     ≡ true = (both (list_all (λ (a : Rule). a.is_free) built_masker.rules) _ needs.1).1 in
     first_given (codes "RULES") rows have (both (is_given (codes "RULES") rows) _ required).0
 
--- ---- what words give that are taken with a subcommand
+-- ---- the rows of arguments that are accepted with a subcommand
 
--- each subcommand of this name is this one
+-- Every subcommand with this name is this one.
 abbrev IsOnly : Text → Shape → Type 0
 IsOnly word shape =
     AllByRecursion (λ (s : Shape). bytes_eq s.name word ≡ true → s ≡ shape) (built program).subs
@@ -348,7 +348,7 @@ by_name false false false false false false false false true normalised checked 
 by_name false false false false false false false false false normalised checked row masked files
     apart has both_there two_there one = absurd (true≢false (sym one))
 
--- Words that a parse takes with one of the subcommands name a job.
+-- Arguments that the parser accepts with one of the subcommands select a job.
 pub takes_job : (words : List Text) → takes program words ≡ true
     → names_job (subcommand_of program words) ≡ true
     → is_some (job_named (subcommand_of program words)) ≡ true

@@ -1,5 +1,5 @@
--- What a parse that takes the words has found: what holds of the rows at the start, and stays with
--- each use of an argument, holds at the end.
+-- The rows that the parser finds: a property that holds at the start and is preserved by each use
+-- of an argument holds at the end.
 use Rattle.std.proofs.Common.{◌≡◌, ◌&&◌, ◌||◌, not, cond, is_some, ℕ, zero, suc, Bool, true, false}
 use Rattle.std.proofs.Common.{List, [], ◌∷◌, Option, Some, None, length, drop, refl}
 use Rattle.std.specs.Prelude.{encode_utf8, slice_get}
@@ -78,7 +78,7 @@ module _ (c : List Rule) (again : Bool) (P : List Row → Type 0)
 
   -- ---- a bundle of flags
 
-  -- what reads on from a flag keeps it too
+  -- The part of the walk that continues after a flag preserves the property too.
   abbrev KeepsOn : (Held → Bool) → (Held → Held × Outcome) → Type 0
   KeepsOn passes met = (h : Held) → passes h ≡ true → P h.rows → P (met h).0.rows
 
@@ -124,7 +124,7 @@ module _ (c : List Rule) (again : Bool) (P : List Row → Type 0)
       char_keeps k (slice_get (chars flags) 0) flags skip so_far h
       (λ more skips o. bundle_keeps k more skips o) passes was
 
-  -- ---- a word
+  -- ---- an argument
 
   option_word_keeps : (found : Option Rule) (id word : Text) (h : Held) → P h.rows
       → P (option_word found id word h).0.rows
@@ -186,7 +186,7 @@ module _ (c : List Rule) (again : Bool) (P : List Row → Type 0)
   to_positional_keeps (Some a) word w h passes was =
       positional_by h (is_pending a h.pending && takes_several a) passes was
 
--- The walk of a command whose arguments are these.
+-- The walk of a command with these arguments.
 module _ (s : Shape) (names : Names) (P : List Row → Type 0)
     (each_use : (p : Rule → Bool) (a : Rule) (values : List Text) (rows : List Row)
     → find p s.rules ≡ Some a → use_passes s.args_override_self a values rows ≡ true → P rows
@@ -253,7 +253,7 @@ module _ (s : Shape) (names : Names) (P : List Row → Type 0)
     defaults_keep (a ∷ rules) rows was =
         defaults_keep rules (with_default rows a) (defaults rows a was)
 
-    -- The rows at the end of a walk that passes.
+    -- The rows at the end of a successful walk.
     pub finished_keeps : (words : List Text) (w : Walk) → walk_passes s names w words ≡ true
         → settle_passes s.rules s.args_override_self (fold (walked s.rules names) w words).held
         ≡ true → P w.held.rows

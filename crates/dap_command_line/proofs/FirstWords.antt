@@ -1,4 +1,5 @@
--- What the first words show is what a parse finds, whatever comes after them.
+-- The kinds of errors that leading arguments decide are those that the parser finds, whatever
+-- arguments follow.
 use Rattle.std.proofs.Common.{◌≡◌, ◌∙◌, ◌++◌, cond, is_some, false, List, [], ◌∷◌, Option, Some}
 use Rattle.std.proofs.Common.{None, ap, append-nil, append_assoc, refl, subst, sym}
 use Rattle.std.proofs.lemmas.List.Sums.{fold-append}
@@ -17,29 +18,29 @@ use Rattle.dap_command_line.specs.FirstWords.{words_show}
 
 -- ---- kinds
 
--- no kind is some kind
+-- The empty list is not a nonempty list.
 no_kind : {P : Type 0} {k : ErrorKind} {ks : Kinds} → [] ≡ k ∷ ks → P
 no_kind e = absurd (let f : ⊥ = cc in f)
 
--- a step that fails is the first
+-- A step that fails is the first.
 kept : (kinds next : Kinds) {k : ErrorKind} {ks : Kinds} → kinds ≡ k ∷ ks
     → or_else kinds next ≡ k ∷ ks
 kept kinds next fails = ap (λ step. or_else step next) fails
 
--- a step that does not fail is passed over
+-- A step that does not fail is skipped.
 passed : (kinds : Kinds) {next other : Kinds} → kinds ≡ [] → next ≡ other
     → or_else kinds next ≡ other
 passed kinds {next} none same = ap (λ step. or_else step next) none ∙ same
 
--- neither step fails
+-- Neither step fails.
 parts : (a : Kinds) {b : Kinds} → or_else a b ≡ [] → (a ≡ []) × (b ≡ [])
 parts [] none = (refl, none)
 parts (k ∷ ks) none = no_kind (sym none)
 
--- ---- a walk over more words
+-- ---- a walk over more arguments
 
 module _ (s : Shape) (names : Names) where
-  -- a walk that fails at its first words fails so
+  -- A walk that fails at its leading arguments fails in the same way with more arguments.
   walk_fails : (words more : List Text) (w : Walk) (k : ErrorKind) (ks : Kinds)
       → walk_fault s names w words ≡ k ∷ ks → walk_fault s names w (words ++ more) ≡ k ∷ ks
   unfolding walk_fault
@@ -57,7 +58,7 @@ module _ (s : Shape) (names : Names) where
       by_turn [] later fails = later fails
       by_turn (t ∷ ts) later fails = fails
 
-  -- a walk that does not fail at its first words goes on behind them
+  -- A walk that does not fail at its leading arguments continues after them.
   walk_goes_on : (words more : List Text) (w : Walk) → walk_fault s names w words ≡ []
       → walk_fault s names w (words ++ more)
       ≡ walk_fault s names (fold (walked s.rules names) w words) more
@@ -68,14 +69,14 @@ module _ (s : Shape) (names : Names) where
       passed (turn_fault s names w word) two.0
       (walk_goes_on words more (walked s.rules names w word) two.1)
 
-  -- the subcommand that was met gets one more word
+  -- The subcommand that was reached receives one more argument.
   one_more : (w : Walk) (word name : Text) (words : List Text) → w.stopped ≡ Some (name, words)
       → (walked s.rules names w word).stopped ≡ Some (name, words ++ word ∷ [])
   unfolding walked
   one_more w word name words is =
       ap (λ stop. (walked_from s.rules names stop w word).stopped) is
 
-  -- and all further ones
+  -- It receives all further arguments.
   stop_grows : (more : List Text) (w : Walk) (name : Text) (words : List Text)
       → w.stopped ≡ Some (name, words)
       → (fold (walked s.rules names) w more).stopped ≡ Some (name, words ++ more)
@@ -85,12 +86,12 @@ module _ (s : Shape) (names : Names) where
       (one_more w word name words is)
       ∙ ap (λ all. Some (name, all)) (append_assoc words (word ∷ []) more)
 
-  -- a turn after that does nothing
+  -- A step after that does nothing.
   skipped : (stop : Option (Text × List Text)) (p : Text × List Text) (kinds : Kinds)
       → stop ≡ Some p → cond (is_some stop) [] kinds ≡ []
   skipped stop p kinds is = ap (λ met. cond (is_some met) [] kinds) is
 
-  -- and the command itself finds nothing more
+  -- The command itself finds no further error.
   walk_rests : (more : List Text) (w : Walk) (name : Text) (words : List Text)
       → w.stopped ≡ Some (name, words) → walk_fault s names w more ≡ []
   unfolding walk_fault
@@ -106,7 +107,8 @@ module _ (a : App) (more : List Text) (k : ErrorKind) (ks : Kinds) where
   abbrev start : Walk
   start = walk_from nothing_held
 
-  -- what the command's own words show, where the walk over them stands, and where it stopped
+  -- The errors that the command's own arguments decide, the state of the walk over them, and where
+  -- it stopped.
   abbrev fault_in : List Text → Kinds
   fault_in words = walk_fault a.top (names_of a) start words
 
@@ -154,13 +156,13 @@ module _ (a : App) (more : List Text) (k : ErrorKind) (ks : Kinds) where
       → built_fault a nothing_held (words ++ more) ≡ k ∷ ks
   built_fails words shows = by_walk words (fault_in words) refl shows
 
--- no words show nothing
+-- No arguments decide nothing.
 pub nothing_shown : (a : App) → built_shows a [] ≡ []
 unfolding walk_fault
 nothing_shown a = refl
 
--- What holds of the kinds that a parse finds holds of those that some first words show, if the
--- words after the name of the program are split as all words are.
+-- A property of the kinds that the parser finds also holds for those that leading arguments decide,
+-- if the arguments after the name of the program are split in the same way.
 pub first_decides : (a : App) (words : List Text) (P : Kinds → Type 0) → P (fault_of a words)
     → ((front rest : List Text) → (words_show a front ≡ [] → ⊥)
     → argument_words a (front ++ rest) ≡ argument_words a front ++ rest) → FirstDecides a words P
@@ -174,7 +176,7 @@ first_decides a words P found splits front rest is some =
         ∙ ap (built_fault (built a) nothing_held) (splits front rest some)
         ∙ built_fails (built a) rest k ks (argument_words a front) shown) found
 
--- the words after the name of the program, if there are any
+-- The arguments after the name of the program, if there are any.
 pub program_splits : (front rest : List Text) → (words_show program front ≡ [] → ⊥)
     → argument_words program (front ++ rest) ≡ argument_words program front ++ rest
 program_splits [] rest some = absurd (some (nothing_shown (built program)))

@@ -1,4 +1,4 @@
--- What is told of words is told for what a parse finds in them.
+-- The `UsageFault` returned for arguments matches the errors that the parser finds in them.
 use Rattle.std.proofs.Common.{◌≡◌, inl, inr}
 use Rattle.clap.specs.Values.{kind_of}
 use Rattle.clap.specs.Words.{HasKind, Kinds}

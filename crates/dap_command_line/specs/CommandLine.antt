@@ -1,4 +1,4 @@
--- The program's command line, as `clap` reads it, and the job that it names. Source: own.
+-- The program's command line, as `clap` reads it, and the job that it selects. Source: own.
 use Rattle.std.specs.Prelude.{◌≡◌, ◌⊎◌, ◌||◌, Bool, false, List, [], Option, Some, None}
 use Rattle.std.specs.Prelude.{codes}
 use Rattle.std.specs.Prelude.{if◌then◌else◌, option_map, option_and_then, true}
@@ -16,61 +16,61 @@ use Rattle.dap_command_line.specs.declared.jobs.UsageFault.TheVariants as usage
 use Rattle.dap_command_line.specs.declared.jobs.Job.{Job}
 use Rattle.dap_command_line.specs.declared.jobs.Job.TheVariants as job
 
--- a subcommand that takes no words
+-- A subcommand without arguments.
 abbrev pub plain : Text → App
 plain name = new_app name
 
--- the flag `--complete`
+-- The flag `--complete`.
 abbrev pub complete_flag : Rule
 complete_flag =
     record (new_rule (codes "complete")) { long = Some (codes "complete"); action = Some SetTrue }
 
--- the flag `--per-stop`
+-- The flag `--per-stop`.
 abbrev pub per_stop_flag : Rule
 per_stop_flag =
     record (new_rule (codes "per-stop")) { long = Some (codes "per-stop"); action = Some SetTrue }
 
--- the subcommand `normalise`, with its flag
+-- The subcommand `normalise`, with its flag.
 abbrev pub normaliser : App
 normaliser = with_rule (new_app (codes "normalise")) per_stop_flag
 
--- the subcommand `check`, with its flags
+-- The subcommand `check`, with its flags.
 abbrev pub checker : App
 checker = with_rule (with_rule (new_app (codes "check")) complete_flag) per_stop_flag
 
--- the subcommand `rows`, with the number of a row
+-- The subcommand `rows`, with the number of a row.
 abbrev pub row_teller : App
 row_teller =
     with_rule (new_app (codes "rows")) (record (new_rule (codes "N")) { action = Some Set })
 
--- the name of a file, which is needed
+-- The name of a file, which is required.
 abbrev pub file : Text → Rule
 file name = record (new_rule name) { required = true; action = Some Set }
 
--- a subcommand with its two files and its flag
+-- A subcommand with its two files and its flag.
 abbrev pub of_two_files : Text → App
 of_two_files name =
     with_rule (with_rule (with_rule (new_app name) (file (codes "A"))) (file (codes "B")))
     per_stop_flag
 
--- the subcommands `compare` and `diff`
+-- The subcommands `compare` and `diff`.
 abbrev pub comparer : App
 comparer = of_two_files (codes "compare")
 
 abbrev pub differ : App
 differ = of_two_files (codes "diff")
 
--- the subcommand `mask`, with the file of its rules
+-- The subcommand `mask`, with the file of its rules.
 abbrev pub masker : App
 masker = with_rule (new_app (codes "mask")) (file (codes "RULES"))
 
--- the command, which has a version and wants a subcommand
+-- The program's command, which has a version and requires a subcommand.
 abbrev pub bare : App
 bare = record (new_app (codes "dapnorm")) {
   top = record (new_app (codes "dapnorm")).top { has_version = true; subcommand_required = true };
 }
 
--- what a parse reads of the program's command
+-- The part of the program's command that decides how arguments are parsed.
 abbrev pub program : App
 program =
     with_subcommand
@@ -88,11 +88,11 @@ program =
     comparer.top)
     differ.top
 
--- The command is this one, and its subcommands inherit no argument.
+-- The model of the command is this one, and its subcommands inherit no argument.
 abbrev pub IsCommand : App → Command → Type 0
 IsCommand app command = (app_of command ≡ app) × ((fields_of command).has_globals ≡ false)
 
--- a job by the texts that it was given
+-- A job, with the byte strings of its arguments.
 pub data Told : Type 0 where
   compact : Told
   recording : Told
@@ -115,35 +115,35 @@ told (job.Rows number) = rows (option_map (λ text. text.now) number)
 told (job.Compare a b per_stop) = compare a.now b.now per_stop
 told (job.Diff a b per_stop) = diff a.now b.now per_stop
 
--- the text behind a reference that may be there
+-- The byte string of an optional reference.
 abbrev pub text_in : Option (Bor Text) → Option Text
 text_in = option_map (λ text. text.now)
 
--- the texts behind two references that may be there
+-- The byte strings of two optional references.
 abbrev pub texts_in : Option (Bor Text × Bor Text) → Option (Text × Text)
 texts_in = option_map (λ texts. (texts.0.now, texts.1.now))
 
--- a flag is set
+-- The flag is set.
 abbrev pub is_set : Option Text → Bool
 is_set None = false
 is_set (Some text) = bytes_eq text (codes "true")
 
--- two names, where both are given
+-- Two names, if both are present.
 abbrev pub two_files : Option Text → Option Text → Option (Text × Text)
 two_files (Some a) (Some b) = Some (a, b)
 two_files _ _ = None
 
--- whether names begin again at each stop, as the words say
+-- Whether the numbering of ids restarts at each stop, by the flag `--per-stop`.
 abbrev pub asks_per_stop : List Row → Bool
 asks_per_stop given = is_set (first_of (codes "per-stop") given)
 
--- a job over two files
+-- A job with two files.
 abbrev pub over_files : (Text → Text → Bool → Told) → List Row → Option Told
 over_files job given =
     option_map (λ files. job files.0 files.1 (asks_per_stop given))
     (two_files (first_of (codes "A") given) (first_of (codes "B") given))
 
--- the job of a subcommand with the words that it was given
+-- The job of a subcommand with its arguments.
 abbrev pub job_of : Text → List Row → Option Told
 job_of name given =
     if bytes_eq name (codes "compact") then Some compact
@@ -175,21 +175,22 @@ names_job (Some p) =
 abbrev pub job_named : Option (Text × List Row) → Option Told
 job_named = option_and_then (λ p. job_of p.0 p.1)
 
--- Help or the version is asked for, which is no mistake.
+-- Help or the version is requested, which is not an error.
 abbrev pub is_asked : ErrorKind → Bool
 is_asked kind.DisplayHelp = true
 is_asked kind.DisplayVersion = true
 is_asked found = false
 
--- What is told of an error of this kind: a text that was asked for, or else a mistake; or that
--- memory was wanting.
+-- The `UsageFault` returned for an error of this kind: the requested text, a usage error, or a
+-- failed allocation.
 abbrev pub IsToldOf : ErrorKind → UsageFault → Type 0
 IsToldOf found (usage.Help text) = is_asked found ≡ true
 IsToldOf found (usage.Usage text) = is_asked found ≡ false
 IsToldOf found usage.Memory = Unit {0}
 
--- What is told of words with which a parse finds these kinds of errors: a text where they ask for
--- it, a mistake where they make one or name no job, or that memory was wanting.
+-- The `UsageFault` returned for arguments in which the parser finds these kinds of errors: the
+-- requested text if one kind is such a request, a usage error if one kind is an error or there is
+-- no kind, or a failed allocation.
 abbrev pub IsToldFor : Kinds → UsageFault → Type 0
 IsToldFor kinds (usage.Help text) =
     (found : ErrorKind) × IsAmong found kinds × (is_asked found ≡ true)

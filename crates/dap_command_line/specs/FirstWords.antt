@@ -1,4 +1,4 @@
--- What the first words of a command line show, whatever comes after them. Source: own.
+-- What the leading arguments of a command line decide, whatever arguments follow. Source: own.
 use Rattle.std.specs.Prelude.{◌≡◌, ◌≢◌, ◌++◌, List, [], Option}
 use Rattle.std.specs.List.{find}
 use Rattle.std.specs.Option.{option_map_or}
@@ -7,24 +7,25 @@ use Rattle.clap.specs.Simple.{App, argument_words, built, label_of, names_of}
 use Rattle.clap.specs.Walk.{Text, answers_to, nothing_held, walk, walk_from}
 use Rattle.clap.specs.Kinds.{Kinds, or_else}
 
--- what the words after the name of a subcommand show
+-- The kinds of errors that the arguments after the name of a subcommand decide.
 abbrev pub subcommand_shows : App → Option (Text × List Text) → Kinds
 subcommand_shows a stop =
     option_map_or (λ p. option_map_or (λ s. walk_fault s [] (walk_from nothing_held) p.1)
     (find (λ s. answers_to p.0 (label_of s)) a.subs) []) stop []
 
--- The same of a command as it is built, and of the words after its name.
+-- The same for a built command and the arguments after its name.
 abbrev pub built_shows : App → List Text → Kinds
 built_shows a words =
     or_else (walk_fault a.top (names_of a) (walk_from nothing_held) words)
     (subcommand_shows a (walk a.top.rules (names_of a) nothing_held words).stopped)
 
--- What the words show: the first word that requests help or the version, or is a mistake, says
--- which. Empty if no word does. No word shows that an argument is missing.
+-- The kinds of errors that the arguments decide: those of the first argument that requests help or
+-- the version, or is an error. Empty if no argument does. A missing argument is not decided by any
+-- argument.
 abbrev pub words_show : App → List Text → Kinds
 words_show a words = built_shows (built a) (argument_words a words)
 
--- If some first words show anything, that is reported, whatever comes after them.
+-- If some leading arguments decide kinds of errors, those are reported, whatever arguments follow.
 abbrev pub FirstDecides : App → List Text → (Kinds → Type 0) → Type 0
 FirstDecides a words Reports = (front rest : List Text) → words ≡ front ++ rest
     → words_show a front ≢ [] → Reports (words_show a front)

@@ -1,16 +1,16 @@
--- What a job says of the names of ids. Source: own.
+-- The mode in which a job numbers ids. Source: own.
 use Rattle.std.specs.Prelude.{Bool, true, false}
 use Rattle.dap_rename.specs.declared.mode.Mode.{Mode}
 use Rattle.dap_rename.specs.declared.mode.Mode.TheVariants.{Whole, PerStop}
 use Rattle.dap_command_line.specs.declared.jobs.Job.{Job}
 use Rattle.dap_command_line.specs.declared.jobs.Job.TheVariants.{Normalise, Check, Compare, Diff}
 
--- the mode of names that the option `--per-stop` says
+-- The mode that the option `--per-stop` selects.
 abbrev pub mode_for : Bool → Mode
 mode_for true = PerStop
 mode_for false = Whole
 
--- in which mode a job gives names; one that gives none is of the whole
+-- The mode in which a job numbers ids. It is `Whole` for a job that does not number ids.
 abbrev pub job_mode : Job → Mode
 job_mode (Normalise per_stop) = mode_for per_stop
 job_mode (Check complete per_stop) = mode_for per_stop

@@ -1,4 +1,4 @@
-//! The definition of the command line, as `clap` takes it.
+//! Defines the command line for `clap`.
 ghost use Rattle.std.specs.Prelude.{◌≡◌, codes, IfOk, false};
 ghost use Rattle.clap.specs.Words.{app_of, rule_of, with_subcommand};
 ghost use Rattle.clap.specs.declared.Command.TheViews.{out-Command as fields_of};
@@ -9,10 +9,10 @@ ghost use Rattle.dap_command_line.specs.CommandLine.{plain, program, row_teller}
 use clap::{Arg, ArgAction, Command};
 use std::alloc::{AllocError, Global};
 
-/// The version of the program, and what it checks recordings against.
+/// The version of the program, and the profile that it checks recordings against.
 const VERSION: &str = "0.1.0 (profile of 188 rows)";
 
-/// The program's command before its subcommands.
+/// Returns the program's command without its subcommands.
 fn bare_command<'a>(alloc: Global) -> Command<'a>
     ensures { app_of result ≡ bare }
 {
@@ -22,7 +22,7 @@ fn bare_command<'a>(alloc: Global) -> Command<'a>
         .subcommand_required(true)
 }
 
-/// A subcommand that takes no words is added to `command`.
+/// Adds a subcommand without arguments to `command`.
 fn with_plain<'a>(
     command: Command<'a>,
     alloc: Global,
@@ -36,7 +36,7 @@ fn with_plain<'a>(
     command.subcommand(Command::new(alloc, name).about(about).after_help(example))
 }
 
-/// The flag of a subcommand that gives names.
+/// Returns the flag `--per-stop` of a subcommand that renumbers ids.
 fn per_stop_flag<'a>(alloc: Global) -> Arg<'a>
     ensures rule { rule_of result ≡ per_stop_flag }
     ensures local { result.global ≡ false }
@@ -49,7 +49,7 @@ fn per_stop_flag<'a>(alloc: Global) -> Arg<'a>
         )
 }
 
-/// The subcommand `normalise`.
+/// Returns the subcommand `normalise`.
 fn normalise_command<'a>(alloc: Global) -> Result<Command<'a>, AllocError>
     ensures { IfOk result (IsCommand normaliser) }
 {
@@ -58,7 +58,7 @@ fn normalise_command<'a>(alloc: Global) -> Result<Command<'a>, AllocError>
         .arg(per_stop_flag(alloc))
 }
 
-/// The subcommand `check`.
+/// Returns the subcommand `check`.
 fn check_command<'a>(alloc: Global) -> Result<Command<'a>, AllocError>
     ensures { IfOk result (IsCommand checker) }
 {
@@ -72,7 +72,7 @@ fn check_command<'a>(alloc: Global) -> Result<Command<'a>, AllocError>
         .arg(per_stop_flag(alloc))
 }
 
-/// The name of a file, which is needed.
+/// Returns the argument for the name of a file, which is required.
 fn file<'a>(alloc: Global, name: &'a str, help: &'a str) -> Arg<'a>
     ensures rule { rule_of result ≡ file name.entry.now }
     ensures local { result.global ≡ false }
@@ -83,7 +83,7 @@ fn file<'a>(alloc: Global, name: &'a str, help: &'a str) -> Arg<'a>
         .help(help)
 }
 
-/// A subcommand of two files.
+/// Returns a subcommand with two files.
 fn two_files_command<'a>(
     alloc: Global,
     name: &'a str,
@@ -98,7 +98,7 @@ fn two_files_command<'a>(
         .arg(per_stop_flag(alloc))
 }
 
-/// The subcommand `mask`.
+/// Returns the subcommand `mask`.
 fn mask_command<'a>(alloc: Global) -> Result<Command<'a>, AllocError>
     ensures { IfOk result (IsCommand masker) }
 {
@@ -107,7 +107,7 @@ fn mask_command<'a>(alloc: Global) -> Result<Command<'a>, AllocError>
         .arg(file(alloc, "RULES", "The file of the rules"))
 }
 
-/// The subcommand `rows`.
+/// Returns the subcommand `rows`.
 fn rows_command<'a>(alloc: Global) -> Result<Command<'a>, AllocError>
     ensures { IfOk result (IsCommand row_teller) }
 {
@@ -119,7 +119,7 @@ fn rows_command<'a>(alloc: Global) -> Result<Command<'a>, AllocError>
         .arg(number)
 }
 
-/// A subcommand is added to `command`.
+/// Adds a subcommand to `command`.
 fn with_other<'a>(
     command: Command<'a>,
     other: Command<'a>,
@@ -132,7 +132,7 @@ fn with_other<'a>(
     command.subcommand(other.after_help(example))
 }
 
-/// The subcommand `normalise` is added to `command`.
+/// Adds the subcommand `normalise` to `command`.
 fn with_normalise<'a>(command: Command<'a>, alloc: Global) -> Result<Command<'a>, AllocError>
     ensures { IfOk result (λ c. app_of c
         ≡ with_subcommand (app_of command.entry) normaliser.top) }
@@ -145,7 +145,7 @@ fn with_normalise<'a>(command: Command<'a>, alloc: Global) -> Result<Command<'a>
     )
 }
 
-/// The subcommand `check` is added to `command`.
+/// Adds the subcommand `check` to `command`.
 fn with_check<'a>(command: Command<'a>, alloc: Global) -> Result<Command<'a>, AllocError>
     ensures { IfOk result (λ c. app_of c
         ≡ with_subcommand (app_of command.entry) checker.top) }
@@ -158,7 +158,7 @@ fn with_check<'a>(command: Command<'a>, alloc: Global) -> Result<Command<'a>, Al
     )
 }
 
-/// The subcommand `mask` is added to `command`.
+/// Adds the subcommand `mask` to `command`.
 fn with_mask<'a>(command: Command<'a>, alloc: Global) -> Result<Command<'a>, AllocError>
     ensures { IfOk result (λ c. app_of c
         ≡ with_subcommand (app_of command.entry) masker.top) }
@@ -171,7 +171,7 @@ fn with_mask<'a>(command: Command<'a>, alloc: Global) -> Result<Command<'a>, All
     )
 }
 
-/// The subcommand `rows` is added to `command`.
+/// Adds the subcommand `rows` to `command`.
 fn with_rows<'a>(command: Command<'a>, alloc: Global) -> Result<Command<'a>, AllocError>
     ensures { IfOk result (λ c. app_of c
         ≡ with_subcommand (app_of command.entry) row_teller.top) }
@@ -180,7 +180,7 @@ fn with_rows<'a>(command: Command<'a>, alloc: Global) -> Result<Command<'a>, All
     with_other(command, rows, "Example: dapnorm rows 62")
 }
 
-/// A subcommand of two files is added to `command`.
+/// Adds a subcommand with two files to `command`.
 fn with_two_files<'a>(
     command: Command<'a>,
     alloc: Global,
@@ -195,7 +195,7 @@ fn with_two_files<'a>(
     with_other(command, other, example)
 }
 
-/// The definition of the command line.
+/// Returns the definition of the command line.
 pub(crate) fn command<'a>(alloc: Global) -> Result<Command<'a>, AllocError>
     ensures { IfOk result (λ c. app_of c ≡ program) }
 {

@@ -1,42 +1,43 @@
-//! What the words of a command line ask for.
+//! The tasks that a command line can select.
 ghost use Rattle.std.specs.Prelude.{◌≡◌};
 ghost use Rattle.dap_command_line.specs.Jobs.{job_mode, mode_for};
 
 use dap_rename::Mode;
 
-/// What the program was asked to do.
+/// The task that the program runs.
 #[derive(Clone, Copy, Debug, PartialEq, Eq)]
 pub enum Job<'a> {
-    /// Make the contents of frames canonical.
+    /// Rewrite the contents of frames as canonical JSON.
     Compact,
-    /// Make a recording of a trace.
+    /// Convert a trace into a recording.
     Record,
-    /// Write the normal form of a recording; with `per_stop` names begin again at each stop.
+    /// Write the normal form of a recording. With `per_stop`, the numbering of ids restarts at each
+    /// stop.
     Normalise {
         per_stop: bool,
     },
-    /// Judge a recording; with `complete` each request must have a response.
+    /// Validate a recording. With `complete`, each request must have a response.
     Check {
         complete: bool,
         per_stop: bool,
     },
-    /// Print a recording in lines.
+    /// Print a recording as lines.
     Show,
-    /// Mask a recording by the rules of the file of this name.
+    /// Mask a recording by the rules in the file with this name.
     Mask {
         rules: &'a str,
     },
-    /// Print the rows of the profile, or the one whose number this text writes.
+    /// Print the rows of the profile, or only the row with the number in this argument.
     Rows {
         number: Option<&'a str>,
     },
-    /// Compare the recordings of two files, by their names.
+    /// Compare the recordings in the files with these names.
     Compare {
         a: &'a str,
         b: &'a str,
         per_stop: bool,
     },
-    /// Tell what differs between the recordings of two files, by their names.
+    /// Print the differences between the recordings in the files with these names.
     Diff {
         a: &'a str,
         b: &'a str,
@@ -44,7 +45,7 @@ pub enum Job<'a> {
     },
 }
 
-/// The mode of names that the option says.
+/// Returns the mode that the option `--per-stop` selects.
 fn mode_for(per_stop: bool) -> Mode
     ensures { result ≡ mode_for per_stop }
 {
@@ -52,7 +53,8 @@ fn mode_for(per_stop: bool) -> Mode
 }
 
 impl Job<'_> {
-    /// In which mode ids get their names; a job that gives none is of the whole.
+    /// Returns the mode in which the job numbers ids. It is `Whole` for a job that does not number
+    /// ids.
     pub fn mode(&self) -> Mode
         ensures { result ≡ job_mode self.now }
     {
@@ -66,13 +68,13 @@ impl Job<'_> {
     }
 }
 
-/// Why the words name no job.
+/// Why the arguments do not select a job.
 #[derive(Debug, Drop)]
 pub enum UsageFault {
-    /// The words are wrong: what is wrong with them, for the user.
+    /// The arguments are invalid. Contains the message for the user.
     Usage(String),
-    /// Help or the version was asked for: the text of it.
+    /// The arguments request help or the version. Contains the text to print.
     Help(String),
-    /// Memory was refused.
+    /// An allocation failed.
     Memory,
 }

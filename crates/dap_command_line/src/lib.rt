@@ -1,4 +1,4 @@
-//! The command line: its definition, and the job that its words ask for.
+//! Defines the command line, and reads the job that its arguments select.
 #![tactic(auto)]
 
 mod definition;

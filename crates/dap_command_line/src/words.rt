@@ -1,4 +1,4 @@
-//! Reads the words of a command line with `clap`.
+//! Reads the arguments of a command line with `clap`.
 ghost use Rattle.std.specs.Prelude.{[], ◌≡◌, codes, IfOk, IfErr, Some, true, map, option_map};
 ghost use Rattle.clap.specs.Words.{fault_of as faults_of, first_of, found_of, kind_of, rows_of};
 ghost use Rattle.clap.specs.Words.{subcommand_of, subcommand_rows_of, takes};
@@ -15,7 +15,7 @@ use clap::error::ErrorKind;
 use clap::{ArgMatches, Error};
 use std::alloc::Global;
 
-/// Whether a flag's value is there and set.
+/// Returns whether the value of a flag is present and true.
 fn is_true(value: Option<&str>) -> bool
     ensures { result ≡ is_set (text_in value.entry) }
 {
@@ -25,7 +25,7 @@ fn is_true(value: Option<&str>) -> bool
     }
 }
 
-/// Both of two names, where both are there.
+/// Returns both names, if both are present.
 fn both<'a>(first: Option<&'a str>, second: Option<&'a str>) -> Option<(&'a str, &'a str)>
     ensures { texts_in result ≡ two_files (text_in first.entry) (text_in second.entry) }
 {
@@ -35,7 +35,7 @@ fn both<'a>(first: Option<&'a str>, second: Option<&'a str>) -> Option<(&'a str,
     }
 }
 
-/// The names of the two files that a subcommand was given.
+/// Returns the names of the two files of a subcommand.
 fn files_of<'a>(rows: &ArgMatches<'a>) -> Option<(&'a str, &'a str)>
     ensures { texts_in result ≡ two_files (first_of (codes "A") (rows_of (found_of rows.now)))
         (first_of (codes "B") (rows_of (found_of rows.now))) }
@@ -43,7 +43,7 @@ fn files_of<'a>(rows: &ArgMatches<'a>) -> Option<(&'a str, &'a str)>
     both(rows.get_str("A"), rows.get_str("B"))
 }
 
-/// The masking by a file of rules, where it is named.
+/// Returns the job `Mask`, if the file of its rules is named.
 fn masking<'a>(rules: Option<&'a str>) -> Option<Job<'a>>
     ensures { option_map told result ≡ option_map mask (text_in rules.entry) }
 {
@@ -53,14 +53,14 @@ fn masking<'a>(rules: Option<&'a str>) -> Option<Job<'a>>
     }
 }
 
-/// Whether a subcommand's names begin again at each stop.
+/// Returns whether the numbering of ids restarts at each stop in this subcommand.
 fn asks_per_stop(rows: &ArgMatches<'_>) -> bool
     ensures { result ≡ asks_per_stop (rows_of (found_of rows.now)) }
 {
     is_true(rows.get_str("per-stop"))
 }
 
-/// The job of a subcommand with its matches.
+/// Returns the job of a subcommand with its matches.
 fn job_by<'a>(name: &str, rows: &ArgMatches<'a>) -> Option<Job<'a>>
     ensures { option_map told result ≡ job_of name.now (rows_of (found_of rows.now)) }
 {
@@ -95,7 +95,7 @@ fn job_by<'a>(name: &str, rows: &ArgMatches<'a>) -> Option<Job<'a>>
     }
 }
 
-/// The job that a parse's matches name.
+/// Returns the job that the matches of the program select.
 fn told_by<'a>(matches: &ArgMatches<'a>) -> Option<Job<'a>>
     ensures { option_map told result ≡ job_named (subcommand_rows_of matches.now) }
 {
@@ -105,7 +105,7 @@ fn told_by<'a>(matches: &ArgMatches<'a>) -> Option<Job<'a>>
     }
 }
 
-/// The text for the user: help or the version that was asked for, or a mistake.
+/// Returns the message for the user: the requested help or version, or the usage error.
 fn fault_of(alloc: Global, error: &Error) -> UsageFault
     ensures memory { kind_of error.now ≡ ErrorKind.OutOfMemory → result ≡ Memory }
     ensures told { IsToldOf (kind_of error.now) result }
@@ -120,14 +120,15 @@ fn fault_of(alloc: Global, error: &Error) -> UsageFault
     }
 }
 
-/// Whether the words ask for help or for the version, which are no mistakes.
+/// Returns whether the arguments request help or the version, which is not an error.
 fn is_asked(kind: ErrorKind) -> bool
     ensures { result ≡ is_asked kind }
 {
     matches!(kind, ErrorKind::DisplayHelp | ErrorKind::DisplayVersion)
 }
 
-/// The fault of words that a parse takes and that name no job. No words are known that do.
+/// Returns the `UsageFault` for arguments that the parser accepts and that select no job. No such
+/// arguments are known.
 fn no_job(alloc: Global) -> UsageFault
     ensures { IsToldFor [] result }
 {
@@ -137,34 +138,34 @@ fn no_job(alloc: Global) -> UsageFault
     }
 }
 
-/// Reads the words of a command line, of which the first is the program's name.
+/// Reads the arguments of a command line. The first one is the program's name.
 ///
 /// # Errors
 ///
-/// - `Help`: the words ask for help or the version. It has the text.
-/// - `Usage`: the words are wrong. It has the text that `clap` writes.
+/// - `Help`: the arguments request help or the version. Contains the text to print.
+/// - `Usage`: the arguments are invalid. Contains the message of `clap`.
 /// - `Memory`: an allocation failed.
 pub fn job<'a>(alloc: Global, words: &'a [&'a str]) -> Result<Job<'a>, UsageFault>
-    // The job is the one that clap's own definition of the command finds in the words.
+    // The job is the one that the model of clap finds in the arguments.
     ensures ok { IfOk result
         (λ j. job_named (subcommand_of program (map (λ w. w.now) words.entry.now))
         ≡ Some (told j)) }
     ensures taken { IfOk result (λ _. faults_of program (map (λ w. w.now) words.entry.now) ≡ []) }
 
-    // Where that definition takes the words with one of the subcommands, only memory can be
-    // wanting.
+    // If the model of clap accepts the arguments with one of the subcommands, the only possible
+    // error is `Memory`.
     ensures err { IfErr result (λ fault. takes program (map (λ w. w.now) words.entry.now) ≡ true
         → names_job (subcommand_of program (map (λ w. w.now) words.entry.now)) ≡ true
         → fault ≡ Memory) }
 
-    // Help or the version is told where that definition finds that the words ask for it, and a
-    // mistake where it finds another error, or no job.
+    // `Help` is returned only if that model finds a request for help or the version. `Usage` is
+    // returned only if it finds another error, or no error at all.
     ensures told { IfErr result
         (IsToldFor (faults_of program (map (λ w. w.now) words.entry.now))) }
 
-    // If words ask for help and make a mistake, the first of the two is told: what some first words
-    // show, whatever comes after them. That a word is missing is told only if no word shows
-    // anything.
+    // If some leading arguments request help or contain an error, the first of these decides the
+    // result, whatever arguments follow. A missing argument is reported only if no argument decides
+    // the result.
     ensures first { IfErr result (λ fault.
         FirstDecides program (map (λ w. w.now) words.entry.now) (λ kinds. IsToldFor kinds fault)) }
 {

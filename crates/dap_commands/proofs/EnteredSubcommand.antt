@@ -1,4 +1,4 @@
--- A parse that passes stops at no subcommand `help`.
+-- A parse that succeeds does not enter the subcommand `help`.
 use Rattle.std.proofs.Common.{◌≡◌, ◌∙◌, ◌&&◌, ◌||◌, not, cond, is_some, ℕ, Bool, true, false, codes}
 use Rattle.std.proofs.Common.{List, [], ◌∷◌, Option, Some, None, refl, sym}
 use Rattle.std.specs.List.{fold}
@@ -13,17 +13,17 @@ use Rattle.clap.specs.Walk.{word_met}
 use Rattle.clap.specs.Walk as walk
 use Rattle.clap.proofs.WalkLemmas.{both}
 
--- no subcommand was met, or one that is not `help`
+-- No subcommand was entered, or one that is not `help`.
 abbrev pub IsNotHelp : Option (Text × List Text) → Type 0
 IsNotHelp None = Unit {0}
 IsNotHelp (Some p) = bytes_eq p.0 (codes "help") ≡ false
 
--- the step meets no subcommand
+-- The step enters no subcommand.
 abbrev StaysHere : Step → Type 0
 StaysHere (walk.subcommand name) = ⊥
 StaysHere step = Unit {0}
 
--- ---- the words that name no subcommand
+-- ---- arguments that name no subcommand
 
 plain_stays : (c : List Rule) (waiting : Waiting) (word : Text) (h : Held)
     → StaysHere (plain_word c waiting word h).1
@@ -58,7 +58,7 @@ dashes_stay : (c : List Rule) (waiting : Waiting) (position : ℕ) (word : Text)
 dashes_stay c waiting position word h true = tt
 dashes_stay c waiting position word h false = long_stays c waiting word (long_of word) h
 
--- ---- a turn
+-- ---- a step
 
 to_positional_stays : (c : List Rule) (found : Option Rule) (word : Text) (w : Walk) (h : Held)
     → IsNotHelp w.stopped → IsNotHelp (to_positional c found word w h).stopped

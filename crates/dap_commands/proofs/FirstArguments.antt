@@ -1,4 +1,4 @@
--- The arguments after the name of the program, and what some first ones show.
+-- The arguments after the name of the program, and what leading arguments decide.
 use Rattle.std.proofs.Common.{◌≡◌, ◌++◌, codes, List, [], ◌∷◌, refl}
 use Rattle.clap.specs.Simple.{argument_words, built}
 use Rattle.clap.specs.Walk.{Text}
@@ -8,21 +8,21 @@ use Rattle.dap_command_line.specs.FirstWords.{words_show}
 use Rattle.dap_command_line.proofs.FirstWords.{nothing_shown}
 use Rattle.dap_commands.specs.Commands.{program}
 
--- the arguments after the name of the program, if there are any
+-- The arguments after the name of the program, if there are any.
 pub program_splits : (front rest : List Text) → (words_show program front ≡ [] → ⊥)
     → argument_words program (front ++ rest) ≡ argument_words program front ++ rest
 program_splits [] rest some = absurd (some (nothing_shown (built program)))
 program_splits (word ∷ front) rest some = refl
 
--- ---- worked lines
+-- ---- example lines
 
--- help of a subcommand, also if its files are missing
+-- Help for a subcommand, even if its files are missing.
 help_first : words_show program
     (codes "dapnorm" ∷ codes "compare" ∷ codes "--help" ∷ []) ≡ kind.DisplayHelp ∷ []
 unfolding clap_on_literals
 help_first = refl
 
--- an error before the request
+-- An error before the request for help.
 error_first : words_show program
     (codes "dapnorm" ∷ codes "check" ∷ codes "--all" ∷ codes "--help" ∷ [])
     ≡ kind.UnknownArgument ∷ []
@@ -34,7 +34,7 @@ version_first : words_show program (codes "dapnorm" ∷ codes "--version" ∷ co
 unfolding clap_on_literals
 version_first = refl
 
--- a file that is missing is shown by no argument
+-- No argument decides that a file is missing.
 missing_file : words_show program (codes "dapnorm" ∷ codes "compare" ∷ codes "a" ∷ []) ≡ []
 unfolding clap_on_literals
 missing_file = refl

@@ -1,10 +1,10 @@
--- What a search in a list finds.
+-- The result of a search in a list.
 use Rattle.std.proofs.Common.{◌≡◌, cond, Bool, true, false, List, [], ◌∷◌, Some, refl}
 use Rattle.std.proofs.Common.{subst}
 use Rattle.std.specs.List.{AllByRecursion, find, list_all}
 use Rattle.clap.proofs.WalkLemmas.{both}
 
--- what holds of each element holds of the one that is found, which passes the test
+-- A property of every element holds for the element found, which passes the test.
 pub found_in : {X : Type 0} (Q : X → Type 0) (p : X → Bool) (xs : List X) (x : X)
     → AllByRecursion Q xs → find p xs ≡ Some x → Q x × (p x ≡ true)
 found_in Q p [] x all found = absurd (let f : ⊥ = cc in f)

@@ -1,4 +1,4 @@
--- A parse in which no step fails takes the arguments.
+-- A parse in which no step fails accepts the arguments.
 use Rattle.std.proofs.Common.{◌≡◌, ◌&&◌, ◌||◌, ℕ, zero, suc, not, cond, is_some, Bool, true}
 use Rattle.std.proofs.Common.{false, List, [], ◌∷◌, Option, Some, None, length, drop, nat_le}
 use Rattle.std.proofs.Common.{nat_lt}
@@ -45,11 +45,11 @@ use Rattle.dap_commands.proofs.Found.{each_passes, found_in}
 
 -- ---- kinds
 
--- there is a kind, so anything follows from there being none
+-- There is a kind, so the list of kinds is not empty.
 some_kind : {P : Type 0} {k : ErrorKind} {ks : Kinds} → k ∷ ks ≡ [] → P
 some_kind e = absurd (let f : ⊥ = cc in f)
 
--- neither step fails
+-- Neither step fails.
 parts : (a : Kinds) {b : Kinds} → or_else a b ≡ [] → (a ≡ []) × (b ≡ [])
 parts [] none = (refl, none)
 parts (k ∷ ks) none = some_kind none
@@ -57,19 +57,19 @@ parts (k ∷ ks) none = some_kind none
 both_true : {a b : Bool} → a ≡ true → b ≡ true → (a && b) ≡ true
 both_true one other = ap₂ ◌&&◌ one other
 
--- a fault that a test rules out
+-- An error that a test excludes.
 passed : (b : Bool) (k : ErrorKind) (ks : Kinds) → cond b [] (k ∷ ks) ≡ [] → b ≡ true
 passed true k ks none = refl
 passed false k ks none = some_kind none
 
--- a fault at `a`, unless `b` excepts it
+-- An error at `a`, unless `b` exempts it.
 excepted : (a b : Bool) (k : ErrorKind) (ks : Kinds) → cond (a && not b) (k ∷ ks) [] ≡ []
     → (not a || b) ≡ true
 excepted true true k ks none = refl
 excepted true false k ks none = some_kind none
 excepted false b k ks none = refl
 
--- a step that is left out if the test passes
+-- A step that is skipped if the test passes.
 unless : (b : Bool) {p : Bool} {kinds : Kinds} → (kinds ≡ [] → p ≡ true) → cond b [] kinds ≡ []
     → (b || p) ≡ true
 unless true each none = refl
@@ -77,7 +77,7 @@ unless false each none = each none
 
 -- ---- one use of an argument
 
--- each value passes the parser of its argument
+-- Each value passes the parser of its argument.
 values_pass_all : (a : Rule) (vs : List Text) → values_fault a vs ≡ [] → values_pass a vs ≡ true
 values_pass_all a [] none = refl
 values_pass_all a (v ∷ vs) none =
@@ -101,7 +101,7 @@ action_pass Count again a [] rows none = passed _ _ _ none
 action_pass Count again a (v ∷ vs) rows none = values_pass_all a (v ∷ vs) none
 action_pass other again a values rows none = some_kind none
 
--- the number of values is in its range
+-- The number of values is in its range.
 range_pass : (least most n : ℕ) → range_kinds least most n ≡ []
     → (nat_le least n ≡ true) × (nat_le n most ≡ true)
 range_pass least most n none =
@@ -178,7 +178,7 @@ module _ (c : List Rule) (again : Bool) where
       by_values true none = option_pass a v h none
       by_values false none = flag_pass a v h none
 
-  -- what reads on after a flag passes if it does not fail
+  -- The part of the walk that continues after a flag passes if it does not fail.
   abbrev PassesOn : (Held → Kinds) → (Held → Bool) → Type 0
   PassesOn fault passes = (h : Held) → fault h ≡ [] → passes h ≡ true
 
@@ -239,7 +239,7 @@ module _ (c : List Rule) (again : Bool) where
 
 -- ---- the walk
 
--- a word that no argument takes is a fault
+-- An argument that matches no definition is an error.
 stray : (s : Shape) → stray_fault s ≡ [] → ⊥
 stray s none = by_leaf s.is_leaf none
   where
@@ -299,7 +299,7 @@ module _ (s : Shape) (names : Names) where
 
 -- ---- after the walk
 
--- the first argument is given if it is required, and so are the others
+-- The first argument is given if it is required, and so are the others.
 given_first : (required given : Bool) (some all : Bool) → (some ≡ false → all ≡ true)
     → ((required && not given) || some) ≡ false → ((not required || given) && all) ≡ true
 given_first true true some all later none = later none
@@ -313,7 +313,7 @@ given_all [] rows none = refl
 given_all (a ∷ rules) rows none =
     given_first a.required (is_given a.id rows) _ _ (given_all rules rows) none
 
--- none of the last checks fails
+-- None of the final checks fails.
 checks_pass : (help subcommand argument : Bool) → check_kinds help subcommand argument ≡ []
     → (help ≡ false) × (subcommand ≡ false) × (argument ≡ false)
 checks_pass true subcommand argument none = some_kind none
@@ -340,7 +340,7 @@ argument_pass : (excused : Bool) {missing given : Bool} → (missing ≡ false �
 argument_pass true each none = refl
 argument_pass false each none = each none
 
--- The defaults pass, and no argument has a rule on another.
+-- The defaults pass, and no argument has a rule about another one.
 abbrev pub is_plain_level : Shape → Bool
 is_plain_level s = list_all default_passes s.rules && list_all (λ (a : Rule). a.is_free) s.rules
 
@@ -402,7 +402,7 @@ module _ (a : App) (fine : list_all is_plain_level a.subs ≡ true) where
       (entered_fault a stop) is_plain none in
       both_true (entered_pass stop level.1) level.0
 
--- Arguments in which a parse of such a command finds no fault are taken.
+-- Arguments in which the parser of such a command finds no error are accepted.
 pub no_fault-takes : (a : App) (words : List Text) → is_simple a ≡ true
     → list_all is_plain_level ((built a).top ∷ (built a).subs) ≡ true → fault_of a words ≡ []
     → takes a words ≡ true

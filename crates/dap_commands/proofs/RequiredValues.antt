@@ -1,5 +1,4 @@
--- After a parse that takes the arguments of a subcommand, each argument that is required has a
--- value.
+-- After a parse that accepts the arguments of a subcommand, each required argument has a value.
 use Rattle.std.proofs.Common.{◌≡◌, ◌&&◌, ◌<◌, ◌++◌, ◌||◌, ℕ, not, cond, is_some, Bool, true, false}
 use Rattle.std.proofs.Common.{List, [], ◌∷◌, Some, length, nat_le, nat_lt, refl, sym}
 use Rattle.std.proofs.Common.{ap₂, arith, true≢false, length-append}
@@ -27,7 +26,7 @@ use Rattle.clap.proofs.WalkLemmas.{both}
 use Rattle.dap_command_line.proofs.CommandWalk.{finished_keeps}
 use Rattle.dap_commands.proofs.Found.{each_passes, found_in}
 
--- ---- each row that a parse found has a value
+-- ---- each row that the parser found has a value
 
 abbrev HaveValues : List Row → Type 0
 HaveValues [] = Unit {0}
@@ -70,7 +69,7 @@ default_added rows a was = by_row (has_row a.id rows)
 
 -- ---- a use of an argument
 
--- Each use of the argument has a value, or no parse takes it.
+-- Each use of the argument has a value, or no parse accepts it.
 abbrev pub has_values_as : ArgAction → Rule → Bool
 has_values_as Set a = nat_lt 0 (unwrap_or_range a.range).start_inclusive
 has_values_as SetTrue a = nat_lt 0 (length a.missing)
@@ -81,7 +80,7 @@ has_values_as other a = false
 abbrev pub has_values : Rule → Bool
 has_values a = has_values_as (action_of a) a
 
--- a number of values that is not 0
+-- A number of values that is not 0.
 no_fewer : (n : ℕ) → nat_lt 0 n ≡ true → nat_le n 0 ≡ true → ⊥
 no_fewer n some least = grind (arith, nat_tests)
 
@@ -114,9 +113,9 @@ kept again a values rows some passes was =
     let most = both (nat_le (length values) (most_values a)) _ least.1 in
     kept_as (action_of a) again a values rows some least.0 most.1 was
 
--- ---- the arguments that are required
+-- ---- required arguments
 
--- the first of some values
+-- The first of at least one value.
 some_first : (values : List Text) → 0 < length values → is_some (slice_get values 0) ≡ true
 some_first [] some = absurd (omega (arith, some))
 some_first (v ∷ vs) some = refl
@@ -135,7 +134,7 @@ first_given id (r ∷ rows) have given =
     by_id true later found = some_first r.values have.0
     by_id false later found = later found
 
--- Each argument that is required has a value.
+-- Each required argument has a value.
 abbrev pub has_required : List Rule → List Row → Bool
 has_required rules rows = list_all (λ a. not a.required || is_some (first_of a.id rows)) rules
 
@@ -152,7 +151,7 @@ required_given (a ∷ rules) rows have given =
     by_required true one = first_given a.id rows have one
     by_required false one = refl
 
--- no subcommand excuses an argument of a level that enters none
+-- If a level enters no subcommand, none of its arguments is exempted.
 not_excused : (b : Bool) {c : Bool} → ((b && false) || c) ≡ true → c ≡ true
 not_excused true one = one
 not_excused false one = one

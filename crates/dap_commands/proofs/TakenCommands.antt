@@ -1,4 +1,4 @@
--- Arguments that a parse takes name a command.
+-- Arguments that the parser accepts select a command.
 use Rattle.std.proofs.Common.{◌≡◌, ◌∙◌, ◌||◌, is_some, Bool, true, false, codes}
 use Rattle.std.proofs.Common.{List, [], Option, Some, None, refl, sym, ap, true≢false}
 use Rattle.std.proofs.lemmas.Slice.Eq.{bytes_eq-Decides}
@@ -27,26 +27,27 @@ use Rattle.dap_commands.proofs.RequiredValues.{level_has_required}
 
 -- ---- each subcommand
 
--- a function of a value that exists
+-- A function of a value that exists.
 mapped : {X Y : Type 0} (f : X → Y) (o : Option X) → is_some o ≡ true
     → is_some (option_map f o) ≡ true
 mapped f None some = some
 mapped f (Some x) some = refl
 
--- a function of two files that are both given
+-- A function of two files that are both given.
 both_files : {Y : Type 0} (f : Text × Text → Y) (a b : Option Text) → is_some a ≡ true
     → is_some b ≡ true → is_some (option_map f (two_files a b)) ≡ true
 both_files f None b some other = absurd (true≢false (sym some))
 both_files f (Some a) None some other = absurd (true≢false (sym other))
 both_files f (Some a) (Some b) some other = refl
 
--- The subcommand, met by a word that is not `help`, names a command if its level passes.
+-- If the subcommand was entered by an argument other than `help`, and its level passes, it selects
+-- a command.
 abbrev NamesCommand : Shape → Type 0
 NamesCommand s = (word : Text) (words : List Text) → answers_to word (label_of s) ≡ true
     → bytes_eq word (codes "help") ≡ false → level_passes s [] nothing_held words false ≡ true
     → is_some (command_of s.name (rows_after s.rules [] words)) ≡ true
 
--- the subcommand `help`, which clap adds
+-- The subcommand `help`, which clap adds.
 help_names : (word : Text) → (bytes_eq (codes "help") word || false) ≡ true
     → bytes_eq word (codes "help") ≡ false → ⊥
 help_names word answers not_help =
@@ -58,11 +59,11 @@ help_names word answers not_help =
     first true one = refl
     first false one = one
 
--- the program as clap builds it
+-- The program as clap builds it.
 abbrev app : App
 app = built program
 
--- the shape of a subcommand as it is built
+-- The shape of a subcommand as it is built.
 abbrev as_built : Shape → Shape
 as_built s = built_leaf (inherited (with_leaf_noted (marked_built program.top)) s)
 
@@ -144,7 +145,7 @@ each_names = (
   ),
 )
 
--- ---- the subcommand that a parse enters
+-- ---- the subcommand that the parser enters
 
 by_found : (p : Text × List Text) (found : Option Shape)
     → find (λ s. answers_to p.0 (label_of s)) app.subs ≡ found
@@ -163,7 +164,7 @@ by_stop None not_help passes some = absurd (true≢false (sym some))
 by_stop (Some p) not_help passes some =
     by_found p (find (λ s. answers_to p.0 (label_of s)) app.subs) refl not_help passes some
 
--- Arguments that a parse takes name a command.
+-- Arguments that the parser accepts select a command.
 pub takes_command : (words : List Text) → takes program words ≡ true
     → is_some (command_named (subcommand_of program words)) ≡ true
 takes_command words taken =
@@ -179,7 +180,7 @@ takes_command words taken =
     by_stop stop (walk_meets app.top (names_of app) refl given (walk_from nothing_held) walks.0 tt)
     levels.0 (both (is_some (entered app stop)) _ (both true _ valid).1).0
 
--- Arguments in which a parse finds no fault name a command.
+-- Arguments in which the parser finds no error select a command.
 pub accepted_command : (words : List Text) → fault_of program words ≡ []
     → is_some (command_named (subcommand_of program words)) ≡ true
 accepted_command words none = takes_command words (no_fault-takes program words refl refl none)

@@ -1,4 +1,4 @@
--- Command lines, with the commands that the definition finds in them.
+-- Example command lines, with the commands that the definition finds in them.
 use Rattle.std.proofs.Common.{◌≡◌, refl, true, false, [], ◌∷◌, Some, None, codes}
 use Rattle.clap.specs.Words.{subcommand_of}
 use Rattle.clap.proofs.OnLiterals.{clap_on_literals}
@@ -7,7 +7,7 @@ use Rattle.dap_commands.specs.Commands.{command_named, comparison, golden, job, 
 use Rattle.dap_commands.specs.Commands.{view}
 use Rattle.dap_commands.specs.declared.commands.Printed.TheVariants.{Verdict, AllDifferences}
 
--- `-` is a file
+-- `-` is a file.
 dash_is_input : command_named (subcommand_of program
     (codes "dapnorm" ∷ codes "check" ∷ codes "-" ∷ []))
     ≡ Some (record {
@@ -19,7 +19,7 @@ dash_is_input : command_named (subcommand_of program
 unfolding clap_on_literals
 dash_is_input = refl
 
--- options may come after files
+-- Options may follow files.
 mask_with_files : command_named (subcommand_of program (codes "dapnorm" ∷ codes "mask"
     ∷ codes "rules" ∷ codes "in" ∷ codes "-o" ∷ codes "out" ∷ []))
     ≡ Some (record {
@@ -53,7 +53,7 @@ show_with_options : command_named (subcommand_of program (codes "dapnorm" ∷ co
 unfolding clap_on_literals
 show_with_options = refl
 
--- without options of its own, `show` is a job
+-- Without options of its own, `show` is a job.
 show_alone : command_named (subcommand_of program (codes "dapnorm" ∷ codes "show" ∷ codes "in"
     ∷ []))
     ≡ Some (record {

@@ -1,4 +1,4 @@
--- The program's command line, as `clap` reads it, and the command that it names. Source: own.
+-- The program's command line, as `clap` reads it, and the command that it selects. Source: own.
 use Rattle.std.specs.Prelude.{◌≡◌, ◌||◌, Bool, true, false, is_some, List, [], ◌∷◌, Option, Some, None, codes}
 use Rattle.std.specs.Prelude.{if◌then◌else◌, option_map, option_and_then}
 use Rattle.std.specs.Str.{bytes_eq}
@@ -26,92 +26,93 @@ use Rattle.dap_commands.specs.declared.commands.Printed.TheVariants.{Verdict, Fi
 use Rattle.dap_commands.specs.declared.commands.Printed.TheVariants.{AllDifferences}
 use Rattle.dap_commands.specs.declared.commands.Command.{Command}
 
--- ---- what a parse reads of the program's definition
+-- ---- the part of the program's definition that the parser reads
 
--- a flag, such as `--open`
+-- A flag, such as `--open`.
 abbrev pub flag : Text → Rule
 flag name = record (new_rule name) { long = Some name; action = Some SetTrue }
 
--- an option with a value, such as `--rules RULES`
+-- An option with a value, such as `--rules RULES`.
 abbrev pub option : Text → Rule
 option name = record (new_rule name) { long = Some name; action = Some Set; value_names = 1 }
 
--- an argument that may be left out, such as `[INPUT]`
+-- An optional argument, such as `[INPUT]`.
 abbrev pub optional : Text → Rule
 optional name = record (new_rule name) { action = Some Set }
 
--- the file of the input, `[FILE]`
+-- The file of the input, `[FILE]`.
 abbrev pub input_file : Rule
 input_file = optional (codes "FILE")
 
--- the file of the output, `-o FILE` or `--output FILE`; 111 is `o`
+-- The file of the output, `-o FILE` or `--output FILE`; 111 is `o`.
 abbrev pub output_file : Rule
 output_file = record (option (codes "output")) { short = Some 111 }
 
--- a subcommand with these arguments
+-- A subcommand with these arguments.
 abbrev pub subcommand : Text → List Rule → Shape
 subcommand name rules = record (new_shape name) { rules = rules }
 
--- the flag `--explain`
+-- The flag `--explain`.
 abbrev pub explain_flag : Rule
 explain_flag = flag (codes "explain")
 
--- `record` and `compact`
+-- `record` and `compact`.
 abbrev pub stream : Text → Shape
 stream name = subcommand name (explain_flag ∷ input_file ∷ output_file ∷ [])
 
--- `show`
+-- `show`.
 abbrev pub viewer : Shape
 viewer =
     subcommand (codes "show") (flag (codes "full") ∷ flag (codes "faulty")
     ∷ option (codes "record") ∷ explain_flag ∷ input_file ∷ output_file ∷ [])
 
--- `normalise`
+-- `normalise`.
 abbrev pub normaliser : Shape
 normaliser =
     subcommand (codes "normalise") (flag (codes "per-stop") ∷ explain_flag ∷ input_file
     ∷ output_file ∷ [])
 
--- `mask`
+-- `mask`.
 abbrev pub masker : Shape
 masker =
     subcommand (codes "mask") (file (codes "RULES") ∷ explain_flag ∷ input_file ∷ output_file ∷ [])
 
--- `order`
+-- `order`.
 abbrev pub orderer : Shape
 orderer = subcommand (codes "order") (file (codes "RULES") ∷ input_file ∷ output_file ∷ [])
 
--- `check`
+-- `check`.
 abbrev pub checker : Shape
 checker =
     subcommand (codes "check") (flag (codes "complete") ∷ flag (codes "per-stop") ∷ explain_flag
     ∷ input_file ∷ [])
 
--- a subcommand of two files, with these arguments after the ones of all such subcommands
+-- A subcommand with two files, with the arguments that all such subcommands have, followed by
+-- these.
 abbrev pub of_two_files : Text → List Rule → Shape
 of_two_files name rules =
     subcommand name (file (codes "A") ∷ file (codes "B") ∷ option (codes "rules")
     ∷ flag (codes "per-stop") ∷ explain_flag ∷ rules)
 
--- `compare` and `diff`
+-- `compare` and `diff`.
 abbrev pub comparer : Shape
 comparer = of_two_files (codes "compare") []
 
 abbrev pub differ : Shape
 differ = of_two_files (codes "diff") (flag (codes "all") ∷ [])
 
--- `rows`
+-- `rows`.
 abbrev pub row_printer : Shape
 row_printer = subcommand (codes "rows") (optional (codes "N") ∷ [])
 
--- `golden`
+-- `golden`.
 abbrev pub golden_keeper : Shape
 golden_keeper =
     subcommand (codes "golden") (option (codes "rules") ∷ flag (codes "per-stop")
     ∷ flag (codes "open") ∷ flag (codes "update") ∷ file (codes "GOLDEN")
     ∷ optional (codes "INPUT") ∷ [])
 
--- the program, which has a version and requires a subcommand
+-- The program, which has a version and requires a subcommand.
 abbrev pub program : App
 program = record {
   top = record (new_shape (codes "dapnorm")) {
@@ -129,14 +130,14 @@ pub record IsArgument (rule : Rule) (a : Arg) : Type 0 where
   pub is_read : rule_of a ≡ rule
   pub local : a.global ≡ false
 
--- The definition is this subcommand, and no argument of it is global.
+-- The definition is that of this subcommand, and none of its arguments is global.
 pub record IsSubcommand (shape : Shape) (command : Definition) : Type 0 where
   pub app : app_of command ≡ record { top = shape; subs = [] }
   pub local : (fields_of command).has_globals ≡ false
 
--- ---- commands by their texts
+-- ---- commands with the byte strings of their arguments
 
--- a comparison by the texts of its arguments
+-- A comparison with the byte strings of its arguments.
 pub record ToldComparison : Type 0 where
   pub a : Text
   pub b : Text
@@ -144,9 +145,9 @@ pub record ToldComparison : Type 0 where
   pub rules : Option Text
   pub printed : Printed
 
--- an action by the texts of its arguments: a job; a comparison that no job makes; the file of the
--- rules of `order`; `--full`, `--faulty` and the number after `--record`; or the golden file, the
--- file of the rules, `--per-stop`, `--open` and `--update`
+-- An action with the byte strings of its arguments: a job; a comparison that no job makes; the file
+-- of the rules of `order`; `--full`, `--faulty` and the number after `--record`; or the golden
+-- file, the file of the rules, `--per-stop`, `--open` and `--update`.
 pub data ToldAction : Type 0 where
   job : ToldJob → ToldAction
   comparison : ToldComparison → ToldAction
@@ -154,7 +155,7 @@ pub data ToldAction : Type 0 where
   view : Bool → Bool → Option Text → ToldAction
   golden : Text → Option Text → Bool → Bool → Bool → ToldAction
 
--- a command by the texts of its arguments
+-- A command with the byte strings of its arguments.
 pub record Told : Type 0 where
   pub action : ToldAction
   pub input : Option Text
@@ -186,7 +187,7 @@ told command = record {
   explain = command.explain;
 }
 
--- ---- the command that the arguments name
+-- ---- the command that the arguments select
 
 -- The job reads one input.
 abbrev pub reads_input : ToldJob → Bool
@@ -200,11 +201,11 @@ abbrev pub writes_output : ToldJob → Bool
 writes_output (line.check complete per_stop) = false
 writes_output one = reads_input one
 
--- a flag was given
+-- A flag was given.
 abbrev pub has_flag : Text → List Row → Bool
 has_flag name given = is_set (first_of name given)
 
--- a job with its files
+-- A job with its files.
 abbrev pub with_files : List Row → ToldJob → Told
 with_files given one = record {
   action = job one;
@@ -213,7 +214,7 @@ with_files given one = record {
   explain = has_flag (codes "explain") given;
 }
 
--- the comparison of two files, of which this is printed
+-- The comparison of two files with this output.
 abbrev pub comparison_of : Printed → List Row → Text × Text → ToldComparison
 comparison_of printed given files = record {
   a = files.0;
@@ -227,20 +228,21 @@ comparison_of printed given files = record {
 abbrev pub has_rules : List Row → Bool
 has_rules given = is_some (first_of (codes "rules") given)
 
--- what `compare` does with two files: its job, unless there are rules
+-- The action of `compare` for two files: its job, unless there are rules.
 abbrev pub compare_action : List Row → Text × Text → ToldAction
 compare_action given files =
     if has_rules given then comparison (comparison_of Verdict given files)
     else job (line.compare files.0 files.1 (asks_per_stop given))
 
--- what `diff` does with two files: its job, unless there are rules or all differences are requested
+-- The action of `diff` for two files: its job, unless there are rules or all differences are
+-- requested.
 abbrev pub diff_action : List Row → Text × Text → ToldAction
 diff_action given files =
     if has_flag (codes "all") given then comparison (comparison_of AllDifferences given files)
     else if has_rules given then comparison (comparison_of FirstDifference given files)
     else job (line.diff files.0 files.1 (asks_per_stop given))
 
--- a command that reads files of its own, and writes to standard output
+-- A command that reads files of its own and writes to standard output.
 abbrev pub without_output : List Row → ToldAction → Told
 without_output given one = record {
   action = one;
@@ -249,33 +251,33 @@ without_output given one = record {
   explain = has_flag (codes "explain") given;
 }
 
--- the files of `compare` and `diff`, if both are given
+-- The files of `compare` and `diff`, if both are given.
 abbrev pub files_given : List Row → Option (Text × Text)
 files_given given = line.two_files (first_of (codes "A") given) (first_of (codes "B") given)
 
--- the command of `compare`
+-- The command of `compare`.
 abbrev pub compare_of : List Row → Option Told
 compare_of given =
     option_map (λ files. without_output given (compare_action given files)) (files_given given)
 
--- the command of `diff`
+-- The command of `diff`.
 abbrev pub diff_of : List Row → Option Told
 diff_of given =
     option_map (λ files. without_output given (diff_action given files)) (files_given given)
 
--- `show` was given an option of its own
+-- An option that changes the output of `show` was given.
 abbrev pub asks_view : List Row → Bool
 asks_view given =
     has_flag (codes "full") given || has_flag (codes "faulty") given
     || is_some (first_of (codes "record") given)
 
--- what `show` prints: the lines of each record, unless another view is requested
+-- The action of `show`: its job, unless such an option was given.
 abbrev pub show_action : List Row → ToldAction
 show_action given =
     if asks_view given then view (has_flag (codes "full") given) (has_flag (codes "faulty") given)
     (first_of (codes "record") given) else job line.show
 
--- a command that reads one input and writes one output
+-- A command that reads one input and writes one output.
 abbrev pub with_output : List Row → ToldAction → Bool → Told
 with_output given one explain = record {
   action = one;
@@ -284,16 +286,16 @@ with_output given one explain = record {
   explain = explain;
 }
 
--- the command of `show`
+-- The command of `show`.
 abbrev pub show_of : List Row → Told
 show_of given = with_output given (show_action given) (has_flag (codes "explain") given)
 
--- the command of `order`, which explains without being asked
+-- The command of `order`, which always explains.
 abbrev pub order_of : List Row → Option Told
 order_of given =
     option_map (λ rules. with_output given (order rules) true) (first_of (codes "RULES") given)
 
--- the command of `golden`, which explains without being asked
+-- The command of `golden`, which always explains.
 abbrev pub golden_of : List Row → Option Told
 golden_of given = option_map (λ name. record {
   action = golden name (first_of (codes "rules") given) (asks_per_stop given)
@@ -303,7 +305,7 @@ golden_of given = option_map (λ name. record {
   explain = true;
 }) (first_of (codes "GOLDEN") given)
 
--- the command of a subcommand with the arguments that it was given
+-- The command of a subcommand with its arguments.
 abbrev pub command_of : Text → List Row → Option Told
 command_of name given =
     if bytes_eq name (codes "golden") then golden_of given
@@ -316,12 +318,12 @@ command_of name given =
 abbrev pub command_named : Option (Text × List Row) → Option Told
 command_named = option_and_then (λ p. command_of p.0 p.1)
 
--- the arguments that a parse found
+-- The arguments that the parser found.
 abbrev pub given : ArgMatches → List Row
 given matches = rows_of (found_of matches)
 
--- What is returned for arguments in which a parse finds these kinds of errors: a text that the
--- arguments request, a text that says what is wrong with them, or that an allocation failed.
+-- The `UsageFault` returned for arguments in which the parser finds these kinds of errors: the
+-- requested text, a usage error, or a failed allocation.
 abbrev pub IsFaultFor : Kinds → UsageFault → Type 0
 IsFaultFor kinds (usage.Help text) =
     (found : ErrorKind) × IsAmong found kinds × (is_asked found ≡ true)

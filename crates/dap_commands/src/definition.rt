@@ -1,4 +1,4 @@
-//! The definition of the command line, as `clap` reads it.
+//! Defines the command line for `clap`.
 ghost use Rattle.std.specs.Prelude.{[], ◌≡◌, codes, IfOk};
 ghost use Rattle.clap.specs.Words.{Shape, app_of, with_subcommand};
 ghost use Rattle.dap_command_line.specs.CommandLine.{bare, file};
@@ -10,16 +10,16 @@ ghost use Rattle.dap_commands.specs.Commands.{program, row_printer, stream, subc
 use clap::{Arg, ArgAction, Command};
 use std::alloc::{AllocError, Global};
 
-/// The version of the program, and what it checks recordings against.
+/// The version of the program, and the profile that it checks recordings against.
 const VERSION: &str = "0.1.0 (profile of 188 rows)";
 
 /// The help of an argument that is a file of rules.
-const RULES: &str = "The file of the rules: what changes from run to run";
+const RULES: &str = "The rules file: what may differ between runs";
 
 /// The help of the rules of `order`.
-const SWAPS: &str = "The file of the rules: which messages may change places";
+const SWAPS: &str = "The rules file: which messages may change places";
 
-/// A flag, such as `--open`.
+/// Returns a flag, such as `--open`.
 fn flag<'a>(alloc: Global, name: &'a str, help: &'a str) -> Arg<'a>
     ensures { IsArgument (flag name.entry.now) result }
 {
@@ -29,7 +29,7 @@ fn flag<'a>(alloc: Global, name: &'a str, help: &'a str) -> Arg<'a>
         .help(help)
 }
 
-/// An option with a value, such as `--rules RULES`.
+/// Returns an option with a value, such as `--rules RULES`.
 fn option<'a>(alloc: Global, name: &'a str, value: &'a str, help: &'a str) -> Arg<'a>
     ensures { IsArgument (option name.entry.now) result }
 {
@@ -40,7 +40,7 @@ fn option<'a>(alloc: Global, name: &'a str, value: &'a str, help: &'a str) -> Ar
         .help(help)
 }
 
-/// An argument that has to be given: a file.
+/// Returns a required argument: a file.
 fn file<'a>(alloc: Global, name: &'a str, help: &'a str) -> Arg<'a>
     ensures { IsArgument (file name.entry.now) result }
 {
@@ -50,14 +50,14 @@ fn file<'a>(alloc: Global, name: &'a str, help: &'a str) -> Arg<'a>
         .help(help)
 }
 
-/// An argument that may be left out.
+/// Returns an optional argument.
 fn optional<'a>(alloc: Global, name: &'a str, help: &'a str) -> Arg<'a>
     ensures { IsArgument (optional name.entry.now) result }
 {
     Arg::new(alloc, name).action(ArgAction::Set).help(help)
 }
 
-/// The file of the input.
+/// Returns the argument for the input file.
 fn input_file<'a>(alloc: Global) -> Arg<'a>
     ensures { IsArgument input_file result }
 {
@@ -68,7 +68,7 @@ fn input_file<'a>(alloc: Global) -> Arg<'a>
     )
 }
 
-/// The option `-o`, `--output`.
+/// Returns the option `-o`, `--output`.
 fn output_file<'a>(alloc: Global) -> Arg<'a>
     ensures { IsArgument output_file result }
 {
@@ -81,36 +81,37 @@ fn output_file<'a>(alloc: Global) -> Arg<'a>
     .short('o')
 }
 
-/// The flag `--per-stop`.
+/// Returns the flag `--per-stop`.
 fn per_stop_flag<'a>(alloc: Global) -> Arg<'a>
     ensures { IsArgument (flag (codes "per-stop")) result }
 {
     flag(
         alloc,
         "per-stop",
-        "Numbers frame ids and references from 1 again after each stop, as some adapters do",
+        "Restarts frame ids and variables references at 1 after each stop",
     )
 }
 
-/// The flag `--explain`.
+/// Returns the flag `--explain`.
 fn explain_flag<'a>(alloc: Global) -> Arg<'a>
     ensures { IsArgument explain_flag result }
 {
     flag(
         alloc,
         "explain",
-        "Explains a refusal in further lines; holds the whole input",
+        "Explains an error in further lines; buffers the whole input",
     )
 }
 
-/// A subcommand that has no argument yet.
+/// Returns a subcommand without arguments.
 fn subcommand<'a>(alloc: Global, name: &'a str, about: &'a str, example: &'a str) -> Command<'a>
     ensures { IsSubcommand (subcommand name.entry.now []) result }
 {
     Command::new(alloc, name).about(about).after_help(example)
 }
 
-/// A subcommand that reads one input and writes one output, and has no other argument.
+/// Returns a subcommand that reads one input, writes one output, and has no other argument except
+/// `--explain`.
 fn stream_command<'a>(
     alloc: Global,
     name: &'a str,
@@ -125,62 +126,58 @@ fn stream_command<'a>(
         .arg(output_file(alloc))
 }
 
-/// The subcommand `record`.
+/// Returns the subcommand `record`.
 fn record_command<'a>(alloc: Global) -> Result<Command<'a>, AllocError>
     ensures { IfOk result (IsSubcommand (stream (codes "record"))) }
 {
     stream_command(
         alloc,
         "record",
-        "Makes a recording from a trace",
+        "Converts a trace into a recording",
         "Example: dapnorm record session.trace -o session.rec",
     )
 }
 
-/// The subcommand `show`.
+/// Returns the subcommand `show`.
 fn show_command<'a>(alloc: Global) -> Result<Command<'a>, AllocError>
     ensures { IfOk result (IsSubcommand viewer) }
 {
     subcommand(
         alloc,
         "show",
-        "Prints the records of a recording, a line for each",
+        "Prints one line for each record",
         "Example: dapnorm show session.rec",
     )
     .arg(flag(
         alloc,
         "full",
-        "Prints each value of each record, in a line with its path",
+        "Prints each value of each record, with its path",
     ))?
-    .arg(flag(
-        alloc,
-        "faulty",
-        "Goes on after a record that is refused, and marks it",
-    ))?
+    .arg(flag(alloc, "faulty", "Marks rejected records and continues"))?
     .arg(option(
         alloc,
         "record",
         "N",
-        "Prints the content of record N alone, as indented JSON",
+        "Prints only the content of record N, as indented JSON",
     ))?
     .arg(explain_flag(alloc))?
     .arg(input_file(alloc))?
     .arg(output_file(alloc))
 }
 
-/// The subcommand `compact`.
+/// Returns the subcommand `compact`.
 fn compact_command<'a>(alloc: Global) -> Result<Command<'a>, AllocError>
     ensures { IfOk result (IsSubcommand (stream (codes "compact"))) }
 {
     stream_command(
         alloc,
         "compact",
-        "Rewrites the contents of frames as canonical JSON",
+        "Rewrites frames of one direction with canonical JSON",
         "Example: dapnorm compact session.frames -o session.compact",
     )
 }
 
-/// The subcommand `normalise`.
+/// Returns the subcommand `normalise`.
 fn normalise_command<'a>(alloc: Global) -> Result<Command<'a>, AllocError>
     ensures { IfOk result (IsSubcommand normaliser) }
 {
@@ -196,14 +193,14 @@ fn normalise_command<'a>(alloc: Global) -> Result<Command<'a>, AllocError>
     .arg(output_file(alloc))
 }
 
-/// The subcommand `mask`.
+/// Returns the subcommand `mask`.
 fn mask_command<'a>(alloc: Global) -> Result<Command<'a>, AllocError>
     ensures { IfOk result (IsSubcommand masker) }
 {
     subcommand(
         alloc,
         "mask",
-        "Removes from a recording what changes from run to run, as the rules say",
+        "Redacts a recording by the rules of a file",
         "Example: dapnorm mask lldb.rules session.rec -o session.masked",
     )
     .arg(file(alloc, "RULES", RULES))?
@@ -212,14 +209,14 @@ fn mask_command<'a>(alloc: Global) -> Result<Command<'a>, AllocError>
     .arg(output_file(alloc))
 }
 
-/// The subcommand `order`.
+/// Returns the subcommand `order`.
 fn order_command<'a>(alloc: Global) -> Result<Command<'a>, AllocError>
     ensures { IfOk result (IsSubcommand orderer) }
 {
     subcommand(
         alloc,
         "order",
-        "Puts the records of a recording in order, as far as the rules allow it",
+        "Puts the records of a recording in the order that the rules define",
         "Example: dapnorm order lldb.rules session.rec -o session.ordered",
     )
     .arg(file(alloc, "RULES", SWAPS))?
@@ -227,7 +224,7 @@ fn order_command<'a>(alloc: Global) -> Result<Command<'a>, AllocError>
     .arg(output_file(alloc))
 }
 
-/// The subcommand `check`.
+/// Returns the subcommand `check`.
 fn check_command<'a>(alloc: Global) -> Result<Command<'a>, AllocError>
     ensures { IfOk result (IsSubcommand checker) }
 {
@@ -240,14 +237,14 @@ fn check_command<'a>(alloc: Global) -> Result<Command<'a>, AllocError>
     .arg(flag(
         alloc,
         "complete",
-        "Rejects a recording in which some request has no response",
+        "Also requires a response to each request",
     ))?
     .arg(per_stop_flag(alloc))?
     .arg(explain_flag(alloc))?
     .arg(input_file(alloc))
 }
 
-/// A subcommand of two files, with the arguments of all such subcommands.
+/// Returns a subcommand with two files, and with the arguments that all such subcommands have.
 fn two_files_command<'a>(
     alloc: Global,
     name: &'a str,
@@ -257,43 +254,43 @@ fn two_files_command<'a>(
     ensures { IfOk result (IsSubcommand (of_two_files name.entry.now [])) }
 {
     subcommand(alloc, name, about, example)
-        .arg(file(alloc, "A", "The file of the first recording"))?
-        .arg(file(alloc, "B", "The file of the second recording"))?
+        .arg(file(alloc, "A", "The first recording"))?
+        .arg(file(alloc, "B", "The second recording"))?
         .arg(option(alloc, "rules", "RULES", RULES))?
         .arg(per_stop_flag(alloc))?
         .arg(explain_flag(alloc))
 }
 
-/// The subcommand `compare`.
+/// Returns the subcommand `compare`.
 fn compare_command<'a>(alloc: Global) -> Result<Command<'a>, AllocError>
     ensures { IfOk result (IsSubcommand comparer) }
 {
     two_files_command(
         alloc,
         "compare",
-        "Reports whether the recordings of two files are the same, or where they first differ",
+        "Compares two recordings, ignoring ids",
         "Example: dapnorm compare session.golden session.rec",
     )
 }
 
-/// The subcommand `diff`.
+/// Returns the subcommand `diff`.
 fn diff_command<'a>(alloc: Global) -> Result<Command<'a>, AllocError>
     ensures { IfOk result (IsSubcommand differ) }
 {
     two_files_command(
         alloc,
         "diff",
-        "Prints what differs at the first record at which the recordings of two files differ",
+        "Prints what differs in the first record that differs",
         "Example: dapnorm diff session.golden session.rec",
     )?
     .arg(flag(
         alloc,
         "all",
-        "Matches the records of both files, and prints all differences",
+        "Pairs the records of both files, and prints all differences",
     ))
 }
 
-/// The subcommand `rows`.
+/// Returns the subcommand `rows`.
 fn rows_command<'a>(alloc: Global) -> Result<Command<'a>, AllocError>
     ensures { IfOk result (IsSubcommand row_printer) }
 {
@@ -306,14 +303,14 @@ fn rows_command<'a>(alloc: Global) -> Result<Command<'a>, AllocError>
     .arg(optional(alloc, "N", "The number of a row"))
 }
 
-/// The subcommand `golden`.
+/// Returns the subcommand `golden`.
 fn golden_command<'a>(alloc: Global) -> Result<Command<'a>, AllocError>
     ensures { IfOk result (IsSubcommand golden_keeper) }
 {
     subcommand(
         alloc,
         "golden",
-        "Compares a session with its golden file, or with --update makes or renews the golden file",
+        "Compares a session with its golden file, or makes it with --update",
         "Example: dapnorm golden session.golden session.trace",
     )
     .arg(option(alloc, "rules", "RULES", RULES))?
@@ -336,17 +333,17 @@ fn golden_command<'a>(alloc: Global) -> Result<Command<'a>, AllocError>
     ))
 }
 
-/// The program's command before its subcommands.
+/// Returns the program's command without its subcommands.
 fn bare_command<'a>(alloc: Global) -> Command<'a>
     ensures { app_of result ≡ bare }
 {
     Command::new(alloc, "dapnorm")
         .version(VERSION)
-        .about("Records and normalises sessions of the Debug Adapter Protocol")
+        .about("Records, checks, normalises and compares Debug Adapter Protocol sessions")
         .subcommand_required(true)
 }
 
-/// Adds a subcommand, if it could be made.
+/// Adds a subcommand, unless creating it failed.
 fn with_subcommand<'a>(
     command: Command<'a>,
     subcommand: Result<Command<'a>, AllocError>,
@@ -357,7 +354,7 @@ fn with_subcommand<'a>(
     command.subcommand(subcommand?)
 }
 
-/// The definition of the command line.
+/// Returns the definition of the command line.
 pub(crate) fn program<'a>(alloc: Global) -> Result<Command<'a>, AllocError>
     ensures { IfOk result (λ c. app_of c ≡ program) }
 {

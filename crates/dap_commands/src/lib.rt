@@ -1,5 +1,5 @@
-//! The command line: its definition, and the command that its arguments name: a job or a golden
-//! file, and the files that it reads and writes.
+//! Defines the command line, and reads the command that its arguments select: an action, and the
+//! files that it reads and writes.
 #![tactic(auto)]
 
 mod commands;

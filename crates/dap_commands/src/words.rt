@@ -25,14 +25,14 @@ use clap::{ArgMatches, Error};
 use dap_command_line::{Job, UsageFault};
 use std::alloc::Global;
 
-/// The value of an argument, if it has one.
+/// Returns the value of an argument, if it has one.
 fn value_of<'a>(rows: &ArgMatches<'a>, id: &str) -> Option<&'a str>
     ensures { text_in result ≡ first_of id.now (given rows.now) }
 {
     rows.get_str(id)
 }
 
-/// Whether a flag's value is that of a flag that was given.
+/// Returns whether the value of a flag is that of a given flag.
 fn is_set(value: Option<&str>) -> bool
     ensures { result ≡ is_set (text_in value.entry) }
 {
@@ -42,14 +42,14 @@ fn is_set(value: Option<&str>) -> bool
     }
 }
 
-/// Whether a flag was given.
+/// Returns whether a flag was given.
 fn has_flag(rows: &ArgMatches<'_>, id: &str) -> bool
     ensures { result ≡ has_flag id.now (given rows.now) }
 {
     is_set(value_of(rows, id))
 }
 
-/// Both of two texts, if both exist.
+/// Returns both strings, if both are present.
 fn both<'a>(first: Option<&'a str>, second: Option<&'a str>) -> Option<(&'a str, &'a str)>
     ensures { texts_in result ≡ two_files (text_in first.entry) (text_in second.entry) }
 {
@@ -59,7 +59,7 @@ fn both<'a>(first: Option<&'a str>, second: Option<&'a str>) -> Option<(&'a str,
     }
 }
 
-/// The two files of a subcommand, if both are given.
+/// Returns the two files of a subcommand, if both are given.
 fn two_files<'a>(rows: &ArgMatches<'a>) -> Option<(&'a str, &'a str)>
     ensures { texts_in result ≡ two_files (first_of (codes "A") (given rows.now))
         (first_of (codes "B") (given rows.now)) }
@@ -67,7 +67,7 @@ fn two_files<'a>(rows: &ArgMatches<'a>) -> Option<(&'a str, &'a str)>
     both(value_of(rows, "A"), value_of(rows, "B"))
 }
 
-/// The job of `mask`.
+/// Returns the job of `mask`.
 fn mask_job<'a>(rows: &ArgMatches<'a>) -> Option<Job<'a>>
     ensures { option_map told_job result
         ≡ option_map mask (first_of (codes "RULES") (given rows.now)) }
@@ -76,7 +76,7 @@ fn mask_job<'a>(rows: &ArgMatches<'a>) -> Option<Job<'a>>
     Some(Job::Mask { rules })
 }
 
-/// The job of `compare`.
+/// Returns the job of `compare`.
 fn compare_job<'a>(rows: &ArgMatches<'a>) -> Option<Job<'a>>
     ensures { option_map told_job result ≡ over_files compare (given rows.now) }
 {
@@ -85,7 +85,7 @@ fn compare_job<'a>(rows: &ArgMatches<'a>) -> Option<Job<'a>>
     Some(Job::Compare { a, b, per_stop })
 }
 
-/// The job of `diff`.
+/// Returns the job of `diff`.
 fn diff_job<'a>(rows: &ArgMatches<'a>) -> Option<Job<'a>>
     ensures { option_map told_job result ≡ over_files diff (given rows.now) }
 {
@@ -94,7 +94,7 @@ fn diff_job<'a>(rows: &ArgMatches<'a>) -> Option<Job<'a>>
     Some(Job::Diff { a, b, per_stop })
 }
 
-/// The job of a subcommand with its arguments.
+/// Returns the job of a subcommand with its arguments.
 fn job_by<'a>(name: &str, rows: &ArgMatches<'a>) -> Option<Job<'a>>
     ensures { option_map told_job result ≡ job_of name.now (given rows.now) }
 {
@@ -121,7 +121,7 @@ fn job_by<'a>(name: &str, rows: &ArgMatches<'a>) -> Option<Job<'a>>
     }
 }
 
-/// Whether a job reads one input.
+/// Returns whether a job reads one input.
 fn reads_input(job: &Job<'_>) -> bool
     ensures { result ≡ reads_input (told_job job.now) }
 {
@@ -131,21 +131,21 @@ fn reads_input(job: &Job<'_>) -> bool
     )
 }
 
-/// Whether a job writes its output to a file, if one is given.
+/// Returns whether a job writes its output to a file if one is given.
 fn writes_output(job: &Job<'_>) -> bool
     ensures { result ≡ writes_output (told_job job.now) }
 {
     !matches!(job, Job::Check { .. }) && reads_input(job)
 }
 
-/// The value of an argument, if the subcommand has it and it was given.
+/// Returns the value of an argument, if the subcommand has the argument and it was given.
 fn value_if<'a>(is_there: bool, rows: &ArgMatches<'a>, id: &str) -> Option<&'a str>
     ensures { text_in result ≡ (if is_there then first_of id.now (given rows.now) else None) }
 {
     if is_there { value_of(rows, id) } else { None }
 }
 
-/// A job with its files.
+/// Returns the command of a job with its files.
 fn with_files<'a>(job: Job<'a>, rows: &ArgMatches<'a>) -> Command<'a>
     ensures { told result ≡ with_files (given rows.now) (told_job job.entry) }
 {
@@ -157,7 +157,7 @@ fn with_files<'a>(job: Job<'a>, rows: &ArgMatches<'a>) -> Command<'a>
     }
 }
 
-/// The comparison of two files, by the options that were given.
+/// Returns the comparison of two files, with the given options.
 fn comparison_of<'a>(
     rows: &ArgMatches<'a>,
     a: &'a str,
@@ -178,7 +178,7 @@ fn comparison_of<'a>(
     }
 }
 
-/// What `compare` does with two files.
+/// Returns the action of `compare` for two files.
 fn compare_action<'a>(rows: &ArgMatches<'a>, a: &'a str, b: &'a str) -> Action<'a>
     ensures { told_action result ≡ compare_action (given rows.now) (a.entry.now, b.entry.now) }
 {
@@ -191,7 +191,7 @@ fn compare_action<'a>(rows: &ArgMatches<'a>, a: &'a str, b: &'a str) -> Action<'
     }
 }
 
-/// What `diff` does with two files.
+/// Returns the action of `diff` for two files.
 fn diff_action<'a>(rows: &ArgMatches<'a>, a: &'a str, b: &'a str) -> Action<'a>
     ensures { told_action result ≡ diff_action (given rows.now) (a.entry.now, b.entry.now) }
 {
@@ -207,7 +207,7 @@ fn diff_action<'a>(rows: &ArgMatches<'a>, a: &'a str, b: &'a str) -> Action<'a>
     }
 }
 
-/// A command that reads files of its own, and writes to standard output.
+/// Returns a command that reads files of its own and writes to standard output.
 fn without_output<'a>(rows: &ArgMatches<'a>, action: Action<'a>) -> Command<'a>
     ensures { told result ≡ without_output (given rows.now) (told_action action.entry) }
 {
@@ -219,7 +219,7 @@ fn without_output<'a>(rows: &ArgMatches<'a>, action: Action<'a>) -> Command<'a>
     }
 }
 
-/// The command of `compare`.
+/// Returns the command of `compare`.
 fn compare_by<'a>(rows: &ArgMatches<'a>) -> Option<Command<'a>>
     ensures { option_map told result ≡ compare_of (given rows.now) }
 {
@@ -227,7 +227,7 @@ fn compare_by<'a>(rows: &ArgMatches<'a>) -> Option<Command<'a>>
     Some(without_output(rows, compare_action(rows, a, b)))
 }
 
-/// The command of `diff`.
+/// Returns the command of `diff`.
 fn diff_by<'a>(rows: &ArgMatches<'a>) -> Option<Command<'a>>
     ensures { option_map told result ≡ diff_of (given rows.now) }
 {
@@ -235,7 +235,7 @@ fn diff_by<'a>(rows: &ArgMatches<'a>) -> Option<Command<'a>>
     Some(without_output(rows, diff_action(rows, a, b)))
 }
 
-/// The command of `order`.
+/// Returns the command of `order`.
 fn order_by<'a>(rows: &ArgMatches<'a>) -> Option<Command<'a>>
     ensures { option_map told result ≡ order_of (given rows.now) }
 {
@@ -244,7 +244,7 @@ fn order_by<'a>(rows: &ArgMatches<'a>) -> Option<Command<'a>>
     Some(with_output(rows, action, true))
 }
 
-/// What `show` prints.
+/// Returns the action of `show`.
 fn show_action<'a>(rows: &ArgMatches<'a>) -> Action<'a>
     ensures { told_action result ≡ show_action (given rows.now) }
 {
@@ -260,7 +260,7 @@ fn show_action<'a>(rows: &ArgMatches<'a>) -> Action<'a>
     }
 }
 
-/// A command that reads one input and writes one output.
+/// Returns a command that reads one input and writes one output.
 fn with_output<'a>(rows: &ArgMatches<'a>, action: Action<'a>, explain: bool) -> Command<'a>
     ensures { told result ≡ with_output (given rows.now) (told_action action.entry) explain }
 {
@@ -272,7 +272,7 @@ fn with_output<'a>(rows: &ArgMatches<'a>, action: Action<'a>, explain: bool) -> 
     }
 }
 
-/// The command of `show`.
+/// Returns the command of `show`.
 fn show_by<'a>(rows: &ArgMatches<'a>) -> Command<'a>
     ensures { told result ≡ show_of (given rows.now) }
 {
@@ -280,7 +280,7 @@ fn show_by<'a>(rows: &ArgMatches<'a>) -> Command<'a>
     with_output(rows, show_action(rows), explain)
 }
 
-/// The command of `golden`.
+/// Returns the command of `golden`.
 fn golden_by<'a>(rows: &ArgMatches<'a>) -> Option<Command<'a>>
     ensures { option_map told result ≡ golden_of (given rows.now) }
 {
@@ -299,7 +299,7 @@ fn golden_by<'a>(rows: &ArgMatches<'a>) -> Option<Command<'a>>
     })
 }
 
-/// The command of a subcommand with its arguments.
+/// Returns the command of a subcommand with its arguments.
 fn command_by<'a>(name: &str, rows: &ArgMatches<'a>) -> Option<Command<'a>>
     ensures { option_map told result ≡ command_of name.now (given rows.now) }
 {
@@ -322,7 +322,7 @@ fn command_by<'a>(name: &str, rows: &ArgMatches<'a>) -> Option<Command<'a>>
     Some(with_files(job, rows))
 }
 
-/// The command that a parse's matches name.
+/// Returns the command that the matches of the program select.
 fn named_by<'a>(matches: &ArgMatches<'a>) -> Option<Command<'a>>
     ensures { option_map told result ≡ command_named (subcommand_rows_of matches.now) }
 {
@@ -332,14 +332,14 @@ fn named_by<'a>(matches: &ArgMatches<'a>) -> Option<Command<'a>>
     }
 }
 
-/// Whether help or the version is requested, which is not an error.
+/// Returns whether help or the version is requested, which is not an error.
 fn is_asked(kind: ErrorKind) -> bool
     ensures { result ≡ is_asked kind }
 {
     matches!(kind, ErrorKind::DisplayHelp | ErrorKind::DisplayVersion)
 }
 
-/// The text for the user: help or the version that was requested, or what is wrong.
+/// Returns the message for the user: the requested help or version, or the usage error.
 fn fault_of(alloc: Global, error: &Error) -> UsageFault
     ensures memory { kind_of error.now ≡ ErrorKind.OutOfMemory → result ≡ Memory }
     ensures told { IsToldOf (kind_of error.now) result }
@@ -354,30 +354,30 @@ fn fault_of(alloc: Global, error: &Error) -> UsageFault
     }
 }
 
-/// Reads the arguments of a command line, of which the first is the program's name.
+/// Reads the arguments of a command line. The first one is the program's name.
 ///
 /// # Errors
 ///
-/// - `Help`: help or the version is requested. It has the text.
-/// - `Usage`: the arguments are wrong. It has the text that `clap` writes.
+/// - `Help`: help or the version is requested. Contains the text to print.
+/// - `Usage`: the arguments are invalid. Contains the message of `clap`.
 /// - `Memory`: an allocation failed.
 pub fn command<'a>(alloc: Global, words: &'a [&'a str]) -> Result<Command<'a>, UsageFault>
-    // The command is the one that clap's own definition of the program finds in the arguments.
+    // The command is the one that the model of clap finds in the arguments.
     ensures ok { IfOk result
         (λ c. command_named (subcommand_of program (texts words.entry.now)) ≡ Some (told c)) }
     ensures taken { IfOk result (λ _. faults_of program (texts words.entry.now) ≡ []) }
 
-    // If that definition takes the arguments, only an allocation can have failed.
+    // If the model of clap accepts the arguments, the only possible error is `Memory`.
     ensures err { IfErr result (λ fault. takes program (texts words.entry.now) ≡ true
         → fault ≡ Memory) }
 
-    // `Help` is returned if that definition finds that the arguments request help or the version,
-    // and `Usage` if it finds another error.
+    // `Help` is returned only if that model finds a request for help or the version. `Usage` is
+    // returned only if it finds another error.
     ensures told { IfErr result (IsFaultFor (faults_of program (texts words.entry.now))) }
 
-    // If arguments request help and have an error, the first of the two is reported: what some
-    // first arguments show, whatever comes after them. That an argument is missing is reported only
-    // if no argument shows anything.
+    // If some leading arguments request help or contain an error, the first of these decides the
+    // result, whatever arguments follow. A missing argument is reported only if no argument decides
+    // the result.
     ensures first { IfErr result (λ fault. FirstDecides program (texts words.entry.now)
         (λ kinds. IsFaultFor kinds fault)) }
 {
@@ -387,7 +387,7 @@ pub fn command<'a>(alloc: Global, words: &'a [&'a str]) -> Result<Command<'a>, U
     match program.try_get_matches_from(words) {
         Ok(matches) => match named_by(&matches) {
             Some(command) => Ok(command),
-            // Arguments that clap takes name a command (`accepted_command` in proofs/).
+            // Arguments that clap accepts select a command (`accepted_command` in proofs/).
             None => unreachable!(),
         },
         Err(error) => Err(fault_of(alloc, &error)),

@@ -1,5 +1,5 @@
--- Frames of JSON contents, judged by `compact`: what its runs owe, and that they are what it
--- accepts.
+-- Frames of JSON contents, as `compact` checks them: the obligations of its runs, and that the runs
+-- are the inputs that it accepts.
 use Rattle.std.proofs.Common.{◌≡◌, ◌⊎◌, inl, inr, ℕ, ◌+◌, ◌<◌, ◌≤◌, List, [], ◌∷◌, ◌++◌, length}
 use Rattle.std.proofs.Common.{refl, sym, ◌∙◌, ap, subst, arith, append_assoc, append-nil}
 use Rattle.std.proofs.Common.{length-append}
@@ -21,7 +21,7 @@ use Rattle.dap_input.specs.Judging.{Objection, no_message, broken, too_many_ids,
 use Rattle.dap_compact.specs.Compacting.{AreRead, Fits, Objects, compacting, text}
 use Rattle.dap_input.proofs.Runs.{Run, ValueLaws, ValueFacts, AcceptedFacts}
 
--- the frames that are read, as records
+-- the frames that are read as records
 pub readable_frames : (limits : Limits) → AreSound limits → IsReadable (compacting limits).records
 readable_frames limits sound =
     faults_as_readable Frame (frames limits.frame) (readable limits.frame sound.frame)
@@ -82,7 +82,7 @@ module _ (limits : Limits) where
   each_front [] others all = tt
   each_front (value ∷ values) others all = (all.0, each_front values others all.1)
 
-  -- what fits, fits up to each of its values
+  -- if values fit, so does every prefix of them
   fits_front : (values others : List Doc) → Fits limits (values ++ others) → Fits limits values
   fits_front values others fits =
       let whole = fits.whole in
@@ -122,7 +122,7 @@ module _ (limits : Limits) where
             fits_more (omega (arith, ap length split, length-append frame more)),
       )
 
-  -- the contents of a run, and that they read as its values
+  -- the contents of a run, which are read as its values
   contents_of : (before values : List Doc) (used : ℕ) (bytes : List ℕ)
       → Run (compacting limits) before used bytes values
       → (contents : List (List ℕ)) × AreFrames limits.frame bytes contents × AreRead contents values
@@ -169,7 +169,7 @@ module _ (limits : Limits) where
         };
   }
 
-  -- ---- each content is judged
+  -- ---- each content is checked
 
   each_or_not : (values : List Doc)
       → AllByRecursion (λ value. length (text_of value) ≤ limits.frame.content) values

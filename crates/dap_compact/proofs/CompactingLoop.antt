@@ -1,4 +1,4 @@
--- What the loop of `compact` over the records of its input keeps, and what it may answer.
+-- The invariant of the loop of `compact` over the records of its input, and its possible results.
 use Rattle.std.proofs.Common.{◌≡◌, ℕ, ◌+◌, ◌-◌, ◌<◌, ◌^◌, List, [], ◌∷◌, ◌++◌, length, Option}
 use Rattle.std.proofs.Common.{Some, None, Result, Ok, Err, refl}
 use Rattle.dap_device.specs.declared.device.Source.{Ghosts as Source}
@@ -19,7 +19,7 @@ use Rattle.dap_compact.specs.CompactingSteps.{Appended}
 use Rattle.dap_compact.proofs.CompactingFacts.{accepted_facts, fits_none, readable_frames}
 use Rattle.dap_compact.proofs.CompactingFacts.{value_laws}
 
--- A framer gives the records that are judged.
+-- A framer returns the records that are checked.
 pub reads_frames : (limits : Limits) → AreSound limits
     → ReadsAs (compacting limits) (frame_items limits.frame) (λ content. content)
 reads_frames limits sound = record {
@@ -31,7 +31,7 @@ reads_frames limits sound = record {
   open_of = λ bytes is_open. is_open;
 }
 
--- The records before the next one are judged, and the text of their values is made.
+-- The records before the next one are checked, and the output for their values is buffered.
 pub record Compacting {R : Type 0} (limits : Limits) (source : Source R) (start reader : R)
     (records : Records Reading)
     (out : List ℕ) : Type 0 where

@@ -1,5 +1,5 @@
--- What `compact` accepts, what it writes, and what it refuses. Source: own, over the frames of the
--- DAP base protocol.
+-- The inputs that `compact` accepts, its output, and its errors. Source: own, over the frames of
+-- the DAP base protocol.
 use Rattle.std.specs.Prelude.{◌≡◌, ℕ, ◌≤◌, List, [], ◌∷◌, ◌++◌, length}
 use Rattle.std.specs.List.{flat_map, AllByRecursion}
 use Rattle.dap_frame.specs.Frame.{AreFrames, frames, frame_text}
@@ -13,24 +13,24 @@ use Rattle.dap_input.specs.Limits.{AreSound}
 use Rattle.dap_input.specs.Judging.{Judging, Objection, no_message, grew}
 use Rattle.dap_input.specs.Refusals.{HasOneOutcome, RefusalStays}
 
--- the text of these trees: for each a frame of its canonical text
+-- the output for these values: the frames of their canonical contents
 abbrev pub text : List Doc → List ℕ
 text values = flat_map (λ value. frame_text (text_of value)) values
 
--- the contents read as these values
+-- the contents are read as these values
 abbrev pub AreRead : List (List ℕ) → List Doc → Type 0
 AreRead [] [] = Unit {0}
 AreRead [] (value ∷ values) = ⊥
 AreRead (content ∷ contents) [] = ⊥
 AreRead (content ∷ contents) (value ∷ values) = IsRead content value × AreRead contents values
 
--- what is to be written keeps within the limits
+-- the output does not exceed the input limit, and no content exceeds the content limit
 pub record Fits (limits : Limits) (values : List Doc) : Type 0 where
   pub each : AllByRecursion (λ value. length (text_of value) ≤ limits.frame.content) values
   pub whole : length (text values) ≤ limits.input
 
--- The input is frames of contents that read as these values, and their text keeps within the
--- limits.
+-- The input consists of frames whose contents are read as these values, and the output for them
+-- does not exceed the limits.
 pub record IsCompactable (limits : Limits) (whole : List ℕ) (values : List Doc) : Type 0 where
   pub short : length whole ≤ limits.input
   pub contents : List (List ℕ)
@@ -38,7 +38,7 @@ pub record IsCompactable (limits : Limits) (whole : List ℕ) (values : List Doc
   pub read : AreRead contents values
   pub fits : Fits limits values
 
--- Behind these values, a content is refused for this, and for nothing else.
+-- After these values, a content is rejected for this reason, and for no other.
 abbrev pub Objects : Limits → List Doc → List ℕ → Objection → Type 0
 Objects limits values content (no_message no_reading) = HasNoReading content
 Objects limits values content (no_message fraction) = HasFraction content
@@ -46,8 +46,8 @@ Objects limits values content grew = (value : Doc) × IsRead content value
     × (Fits limits (values ++ value ∷ []) → ⊥)
 Objects limits values content why = ⊥
 
--- a record is a frame, and a value follows others where its content reads as it and the text still
--- fits
+-- a record is a frame, and a value may follow others if the content is read as it and the output
+-- does not exceed the limits
 abbrev pub compacting : Limits → Judging
 compacting limits = record {
   Held = List ℕ;
@@ -59,15 +59,15 @@ compacting limits = record {
   IsAccepted = IsCompactable limits;
 }
 
--- The input gives this text.
+-- The input has this output.
 abbrev pub Compacts : Limits → List ℕ → List ℕ → Type 0
 Compacts limits whole written = (values : List Doc) × IsCompactable limits whole values
     × (written ≡ text values)
 
--- An input is accepted as one list of values, or has one refusal, and not both.
+-- An input is either accepted as exactly one list of values, or rejected for exactly one error.
 abbrev pub CompactHasOneOutcome : Type 0
 CompactHasOneOutcome = (limits : Limits) → AreSound limits → HasOneOutcome (compacting limits)
 
--- A refusal stays when more bytes come, unless the record was only cut.
+-- An error remains when more bytes follow, unless the record was only truncated.
 abbrev pub CompactRefusalStays : Type 0
 CompactRefusalStays = (limits : Limits) → AreSound limits → RefusalStays (compacting limits)

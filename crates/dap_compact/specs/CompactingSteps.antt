@@ -1,4 +1,4 @@
--- What the steps of `compact` do.
+-- The effects of the steps of `compact`.
 use Rattle.std.specs.Prelude.{◌≡◌, ℕ, List, [], ◌∷◌, ◌++◌, Result, Ok, Err}
 use Rattle.std.specs.declared.vec.Vec.{Vec}
 use Rattle.std.specs.declared.alloc.Global.{Global}
@@ -13,21 +13,22 @@ use Rattle.dap_input.specs.InputSteps.{JudgesAll}
 use Rattle.dap_input.specs.Refusals.{RefusesHeld}
 use Rattle.dap_compact.specs.Compacting.{Fits, Objects, compacting, text}
 
--- The content's value comes behind the values whose text was written.
+-- The value of the content follows the values whose output was appended.
 pub record IsAppended (limits : Limits) (values : List Doc) (content new : List ℕ) : Type 0 where
   pub value : Doc
   pub is_read : IsRead content value
   pub fits : Fits limits (values ++ value ∷ [])
   pub text_is : new ≡ text (values ++ value ∷ [])
 
--- The content of record n has its text appended to that of the values, or is refused.
+-- The output for the content of record n is appended to that for the values, or the record is
+-- rejected.
 abbrev pub Appended : {U : Type 0} → Limits → List Doc → ℕ → List ℕ → Result U Refused → List ℕ
     → Type 0
 Appended limits values n content (Ok done) new = IsAppended limits values content new
 Appended limits values n content (Err because) new =
     RefusesHeld (Objects limits values content) n because
 
--- The text of all records is made, or one is refused.
+-- The output for all records is returned, or one record is rejected.
 module _ {R : Type 0} (limits : Limits) (source : Source R) where
   abbrev pub JudgesInput : R → R → Records Reading → Result (Vec ℕ Global) Refused → Type 0
   JudgesInput =

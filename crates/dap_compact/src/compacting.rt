@@ -1,4 +1,4 @@
-//! Makes the contents of frames canonical.
+//! Rewrites the contents of frames as canonical JSON.
 ghost use Rattle.std.specs.Prelude.{◌≡◌, ◌+◌, ◌<◌, ◌≤◌, ◌^◌, IsErrOf, List, Result, Ok, Err};
 ghost use Rattle.dap_tree.specs.Doc.{Doc};
 ghost use Rattle.dap_compact.specs.Compacting.{Compacts, Fits, compacting, text};
@@ -16,15 +16,15 @@ use dap_input::{Limits, Records, Refused};
 use dap_tree::{Scratch, TreeFault};
 use std::alloc::Global;
 
-/// Room that is kept from record to record.
+/// Buffers that are reused for each record.
 #[derive(Drop)]
 struct Room {
     scratch: Scratch,
-    /// The canonical text of a content.
+    /// The canonical JSON of a content.
     text: Vec<u8>,
 }
 
-/// Appends the frame of the canonical text of a record's content to the text of those before it.
+/// Appends the frame of the canonical form of a record's content to the output.
 fn append_compact(
     alloc: Global,
     out: &mut Vec<u8>,
@@ -55,7 +55,7 @@ fn append_compact(
     Ok(())
 }
 
-/// The compact text of all records, or why there is none.
+/// Returns the output for all records, or the first error.
 fn compact_records<R: Source>(
     alloc: Global,
     records: &mut Records<Framer>,
@@ -91,18 +91,20 @@ fn compact_records<R: Source>(
     }
 }
 
-/// Reads frames of one direction and writes frames of their canonical contents.
+/// Reads frames of one direction and writes frames with their canonical contents.
 ///
-/// A canonical content is its JSON value without spaces, the members of each object in the byte
-/// order of their names. It reads its whole input, at most one byte past `limits.input`, judges it,
-/// and writes and flushes last: nothing is written where it is refused. One record is held at a
-/// time, and the text that is made. Records are counted from 1 in the order of the input.
+/// A canonical content is JSON without spaces, with the members of each object in the byte order of
+/// their names. The command reads and checks its complete input, at most one byte beyond
+/// `limits.input`, before it writes and flushes its output. It writes nothing if the input is
+/// rejected. It buffers one record at a time, and the complete output. Records are counted from 1
+/// in the order of the input.
 ///
 /// # Errors
 ///
-/// - The first refusal of the input. The rest of the input is read and dropped then, and a read of
-///   it that fails is not reported.
-/// - `ReadFault`: the reader failed, and what came before is refused for nothing but its end.
+/// - The first error of the input. The rest of the input is then read and discarded, and a failure
+///   of that reading is not reported.
+/// - `ReadFault`: the reader failed, and the bytes read so far contain no error other than being
+///   incomplete.
 /// - `WriteFault`: the writer failed.
 /// - `Memory`: an allocation failed.
 pub fn compact<R: Source, W: Sink>(
@@ -116,17 +118,17 @@ pub fn compact<R: Source, W: Sink>(
     requires read_failures { R.failures reader.old < 2 ^ 62 }
     requires write_failures { W.failures writer.old < 2 ^ 62 }
 
-    // The compact text of the input goes out and is flushed, or its first refusal is returned and
-    // nothing goes out. `WriteFault` is returned if and only if the writer failed, `ReadFault` only
-    // if the reader failed: a read that fails after a refusal is not reported.
+    // The output for the input is written and flushed, or its first error is returned and nothing
+    // is written. `WriteFault` is returned if and only if the writer failed. `ReadFault` is
+    // returned only if the reader failed: a failure after another error is not reported.
     ensures answer { Answers R.Source W.Sink limits.input (Compacts limits)
         (IsRefused (compacting limits)) reader.old reader.new writer.old writer.new result }
 
-    // If memory was refused, nothing was read of the input, or all of it was.
+    // If an allocation failed, either nothing of the input was read, or all of it was.
     ensures memory { IsErrOf result Refused.Memory
         → ReadsNoneOrAll R.Source limits.input reader.old reader.new }
 
-    // It takes at most one byte past the limit.
+    // It reads at most one byte beyond the limit.
     ensures taken { R.given reader.new ≤ R.given reader.old + limits.input + 1 }
 {
     let framer = Framer::new(alloc, limits.frame);

@@ -1,4 +1,4 @@
-//! Frames made canonical.
+//! Rewrites frames with canonical contents.
 #![tactic(auto)]
 
 mod compacting;

@@ -1,4 +1,4 @@
--- What `compare` may answer of two inputs, of each of which a front is accepted.
+-- The possible results of `compare` on two inputs, each with an accepted prefix.
 use Rattle.std.proofs.Common.{◌≡◌, ◌≢◌, inl, inr, ℕ, ◌+◌, List, [], ◌∷◌, ◌++◌, length, Option, Some}
 use Rattle.std.proofs.Common.{None, refl, sym, ◌∙◌, ap, subst, arith, append-nil}
 use Rattle.std.proofs.lemmas.List.{append_cancel_left}
@@ -24,9 +24,9 @@ use Rattle.dap_compare.proofs.OneVerdict.{before_same, before_some, whole_before
 use Rattle.dap_recording.proofs.Records.{readable}
 use Rattle.dap_normal.proofs.NormalFormLaws.{equal_texts}
 
--- ---- an input of which some bytes have come
+-- ---- an input of which some bytes were read
 
--- What has come is a front of it.
+-- The bytes read are a prefix of it.
 pub front_of : (bytes : List ℕ) (stop : Option Stop) (input : Input) → IsOf bytes stop input
     → (more : List ℕ) × (input.bytes ≡ bytes ++ more)
 front_of bytes None input is = is
@@ -35,7 +35,7 @@ front_of bytes (Some Full) input is = is
 front_of bytes (Some Failed) input is = ([], is.0 ∙ sym (append-nil bytes))
 
 module _ (limits : Limits) (mode : Mode) where
-  -- Where the reader came to its end, it is taken.
+  -- If the reader reached its end, the input is accepted.
   pub taken_in : (bytes : List ℕ) (input : Input) (messages : List Sent)
       → IsOf bytes (Some End) input → IsAccepted limits mode bytes messages
       → IsTaken (accepting limits mode) input messages
@@ -78,7 +78,7 @@ module _ (limits : Limits) (mode : Mode) where
         before_some (accepting limits mode) (readable limits.frame) (value_laws limits mode)
         (accepted_facts limits mode) input number (number + 1) here next (omega arith)
 
-    -- Just one of them has ended.
+    -- Exactly one of them has ended.
     pub x_has_ended : (messages : List Sent) → IsTaken (accepting limits mode) x messages
         → number ≡ length messages + 1 → AcceptedBefore (accepting limits mode) y (number + 1)
         → Differ
@@ -122,7 +122,7 @@ module _ (limits : Limits) (mode : Mode) where
   module _ (normal of_x of_y : List Sent) (p q : Sent)
       (is_x : IsNormal (stop_in mode) of_x (normal ++ p ∷ []))
       (is_y : IsNormal (stop_in mode) of_y (normal ++ q ∷ [])) where
-    -- Where the next records of one normal form are not equal, the messages are not the same.
+    -- If the next records of one normal form are not equal, the messages are not the same.
     pub not_the_same : (record_of p ≡ record_of q → ⊥) → AreSame (stop_in mode) of_x of_y → ⊥
     not_the_same apart same =
         let one = normal_is_unique (stop_in mode) of_x of_y (normal ++ p ∷ []) (normal ++ q ∷ [])
@@ -131,7 +131,7 @@ module _ (limits : Limits) (mode : Mode) where
         apart (append_cancel_left (text normal) (record_of p) (record_of q)
         (sym (text_push normal p) ∙ ap text one ∙ text_push normal q))
 
-    -- Where they are equal, the normal forms are.
+    -- If they are equal, so are the normal forms.
     pub one_form : AreSound limits → (front_x front_y : List ℕ) → IsAccepted limits mode front_x
         of_x
         → IsAccepted limits mode front_y of_y → record_of p ≡ record_of q

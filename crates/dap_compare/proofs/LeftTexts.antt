@@ -1,4 +1,4 @@
--- What the next record of an input leaves.
+-- The text that the next record of an input stores.
 use Rattle.std.proofs.Common.{◌≡◌, inl, inr, ℕ, ℤ, ◌+◌, Bool, true, false, List, [], ◌∷◌, ◌++◌}
 use Rattle.std.proofs.Common.{length, Option, Some, None, Ok, sym, ◌∙◌, ap, subst}
 use Rattle.dap_device.specs.declared.device.Source.{Ghosts as Source}

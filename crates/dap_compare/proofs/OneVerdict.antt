@@ -1,4 +1,4 @@
--- Two inputs have one verdict.
+-- Two inputs have at most one verdict.
 use Rattle.std.proofs.Common.{◌≡◌, ◌≢◌, ◌⊎◌, inl, inr, ℕ, ◌+◌, ◌<◌, ◌≤◌, List, [], ◌++◌, length}
 use Rattle.std.proofs.Common.{refl, sym, ◌∙◌, ap, ap₂, subst, arith, append-nil}
 use Rattle.std.proofs.lemmas.Bool.{cases_lt}
@@ -14,7 +14,7 @@ use Rattle.dap_input.proofs.InputRefusals.{SameFacts, passed, taken_not_refused,
 
 module _ (j : Judging) (records : IsReadable j.records) (judged : ValueLaws j)
     (accepted : AcceptedFacts j) where
-  -- ---- two fronts of one input
+  -- ---- two prefixes of one input
 
   module _ (input : Input) (number other : ℕ) (p : AcceptedBefore j input number)
       (q : AcceptedBefore j input other) where
@@ -48,7 +48,7 @@ module _ (j : Judging) (records : IsReadable j.records) (judged : ValueLaws j)
         passed j records judged accepted input q.front q.rest q.values number q.split q.accepted
         (omega (arith, less, q.is_number))
 
-  -- all of an input that is accepted
+  -- the complete input, if it is accepted
   abbrev pub whole_before : (input : Input) (values : List j.Value) → IsTaken j input values
       → AcceptedBefore j input (length values + 1)
   whole_before input values taken =
@@ -70,10 +70,10 @@ module _ (j : Judging) (records : IsReadable j.records) (judged : ValueLaws j)
     abbrev Before : ℕ → Type 0
     Before number = AreSameBefore j AreSame a b number
 
-    -- ---- where they differ
+    -- ---- the record that differs
 
     module _ (number other : ℕ) (s : Before number) (t : Before other) where
-      -- What differs at one record does not differ only at a later one.
+      -- If a record differs, no later record is the first that differs.
       pub differ_not_past : number < other → DifferAt j AreSame a b number s → ⊥
       differ_not_past less (inl ended) = before_some a number other s.of_a t.of_a less ended.0
       differ_not_past less (inr (inl ended)) = before_some b number other s.of_b t.of_b less ended.1
@@ -86,7 +86,7 @@ module _ (j : Judging) (records : IsReadable j.records) (judged : ValueLaws j)
           (subst (λ v. AreSame v (apart.1.values ++ y.0)) x.1
           (subst (AreSame t.of_a.values) y.1 t.same)))
 
-      -- Where both have ended they do not differ.
+      -- If both have ended, they do not differ.
       pub differ_not_ended : number ≡ other → DifferAt j AreSame a b number s → t.of_a.rest ≡ []
           → t.of_b.rest ≡ [] → ⊥
       differ_not_ended at (inl ended) end_a end_b =
@@ -126,7 +126,7 @@ module _ (j : Judging) (records : IsReadable j.records) (judged : ValueLaws j)
     before_of (differ number) is = is.0
     before_of (are_same how) is = whole_same is.0
 
-    -- No two inputs are the same past the record that their verdict is about.
+    -- No two inputs are the same beyond the record of their verdict.
     not_past : (verdict : Verdict j AreSame pairs) (is : Is verdict) (other : ℕ) → Before other
         → number_of verdict is < other → ⊥
     not_past (refused_a number fault) is other t less =

@@ -1,5 +1,5 @@
--- Two inputs have a verdict: they are judged record by record until one is refused, they differ, or
--- both have ended.
+-- Two inputs have a verdict: they are checked record by record until one is rejected, they differ,
+-- or both have ended.
 use Rattle.std.proofs.Common.{◌≡◌, inl, inr, ⊎_elim, ℕ, zero, suc, ◌+◌, ◌<◌, Bool, true, false}
 use Rattle.std.proofs.Common.{List, [], ◌∷◌, length}
 use Rattle.std.proofs.Common.{refl, sym, ◌∙◌, ap, arith, length-append}
@@ -17,8 +17,8 @@ use Rattle.dap_compare.proofs.OneVerdict.{one_verdict, no_earlier}
 
 module _ (j : Judging) (records : IsReadable j.records) (judged : ValueFacts j)
     (accepted : AcceptedFacts j) where
-  -- what stands behind the records before this one: nothing more, one more that is accepted, or one
-  -- that is refused
+  -- the possibilities after the records before this one: no more records, one more that is
+  -- accepted, or one that is rejected
   pub data Next (input : Input) (number : ℕ) (before : AcceptedBefore j input number) : Type 0 where
     has_ended : before.rest ≡ [] → IsTaken j input before.values → Next input number before
     goes_on : (after : AcceptedBefore j input (number + 1)) → length after.rest < length before.rest

@@ -1,4 +1,4 @@
--- What `compare` answers while it reads two inputs.
+-- The results of `compare` while it reads two inputs.
 use Rattle.std.proofs.Common.{⊎_elim}
 use Rattle.std.proofs.Common.{◌≡◌, ◌⊎◌, inl, inr, ℕ, ℤ, ◌+◌, Bool, true, false, List, [], ◌∷◌, ◌++◌}
 use Rattle.std.proofs.Common.{length, Option, Some, None, Ok, Err, refl, sym, ◌∙◌, ap, subst, arith}
@@ -50,7 +50,7 @@ use Rattle.dap_input.proofs.Coming.{came_on}
 use Rattle.dap_normal.proofs.StreamLoop.{Going, before_in, next_in, normal_before}
 use Rattle.dap_compare.proofs.Verdicts.{same_lengths}
 
--- What is answered of the next record is that memory was refused, or a refusal there.
+-- The result for the next record is an allocation failure, or an error at that record.
 pub as_told : {T R : Type 0} {numbers : T → List ℤ} {table_limit : T → ℕ} (source : Source R)
     (limits : Limits) (mode : Mode) (bytes : List ℕ) (messages normal : List Sent)
     (old new : NormalRecords T) (before after : R) (refused : Refused)
@@ -87,7 +87,7 @@ module _ {T R S : Type 0} {numbers : T → List ℤ} {table_limit : T → ℕ} (
       b.stands.number_is ∙ sym (ap (λ n. n + 1) (same_lengths mode a.messages b.messages are))
       ∙ sym a.stands.number_is
 
-  -- the records before are accepted of both inputs, of which so much has come
+  -- the records before are accepted in both inputs, of which these bytes were read
   module _ (bytes_a bytes_b more_a more_b : List ℕ) (all_a : bytes_a
       ≡ a.bytes ++ more_a) (all_b : bytes_b
       ≡ b.bytes ++ more_b) (stop_a stop_b : Option Stop) (x y : Input)
@@ -122,7 +122,7 @@ module _ {T R S : Type 0} {numbers : T → List ℤ} {table_limit : T → ℕ} (
       same = are;
     }
 
-  -- ---- a refusal
+  -- ---- an error
 
   pub refused_by_a : (new : NormalRecords T) (after : R) (refused : Refused)
       (stopped : HasStoppedAt numbers table_limit source_a limits mode a.bytes
@@ -159,7 +159,7 @@ module _ {T R S : Type 0} {numbers : T → List ℤ} {table_limit : T → ℕ} (
         };
   }
 
-  -- what is known of the record of the one where that of the other is asked for
+  -- what is known about the record of A when that of B is read
   pub record Passed (after : R) (more : List ℕ) (stop : Option Stop) : Type 0 where
     pub came : HasComeSoFar source_a reader_a after more stop
     pub read_to : IsReadTo (accepting limits mode) (a.bytes ++ more) number
@@ -207,7 +207,7 @@ module _ {T R S : Type 0} {numbers : T → List ℤ} {table_limit : T → ℕ} (
         };
   }
 
-  -- What is told of a refusal, as its two clauses say.
+  -- The error that is returned, stated by its two clauses.
   pub told_by_a : (new : NormalRecords T) (after : R) (refused : Refused) (refusal : CompareRefused)
       → IsRefusalOf A refused refusal
       → HasStoppedAt numbers table_limit source_a limits mode a.bytes a.messages
@@ -235,7 +235,7 @@ module _ {T R S : Type 0} {numbers : T → List ℤ} {table_limit : T → ℕ} (
       (as_told source_b limits mode b.bytes b.messages b.normal records_b new reader_b
       after refused stopped)
 
-  -- ---- the record of the one
+  -- ---- the record of A
 
   module _ (new_a : NormalRecords T) (after_a : R) (text_a longer_a : List ℕ) where
     pub gone_passed : (gone : HasGone numbers table_limit source_a limits mode a.bytes
@@ -260,7 +260,7 @@ module _ {T R S : Type 0} {numbers : T → List ℤ} {table_limit : T → ℕ} (
           (taken_in limits mode (a.bytes ++ ended.more) x a.messages is_x ended.accepted);
     }
 
-    -- whether a record has come, or none is left
+    -- whether a record was read, or there is no next one
     pub passed_by : (some : Bool)
         → HasNext numbers table_limit source_a limits mode a.bytes a.messages a.normal
         records_a new_a reader_a after_a text_a longer_a (Ok some)
@@ -268,7 +268,7 @@ module _ {T R S : Type 0} {numbers : T → List ℤ} {table_limit : T → ℕ} (
     passed_by true gone = (gone.more, None, gone_passed gone)
     passed_by false ended = (ended.more, Some End, ended_passed ended)
 
-  -- ---- the records of both
+  -- ---- the records of both inputs
 
   module _ (new_a : NormalRecords T) (after_a : R) (text_a longer_a : List ℕ)
       (new_b : NormalRecords T) (after_b : S) (text_b longer_b : List ℕ) where
@@ -301,7 +301,7 @@ module _ {T R S : Type 0} {numbers : T → List ℤ} {table_limit : T → ℕ} (
     number_of_b : number ≡ length b.messages + 1
     number_of_b = sym one_number ∙ b.stands.number_is
 
-    -- so much has come of both, and this is the verdict
+    -- these bytes of both were read, and this is the verdict
     module _ (more_a : List ℕ) (stop_a : Option Stop)
         (came_a : HasComeSoFar source_a reader_a after_a more_a stop_a)
         (read_a : IsReadTo (accepting limits mode) (a.bytes ++ more_a) number)
@@ -411,7 +411,7 @@ module _ {T R S : Type 0} {numbers : T → List ℤ} {table_limit : T → ℕ} (
           ∙ ap (λ t. t ++ record_of went.named) nothing))
           ∙ ap (λ n. n ++ went.named ∷ []) alike
 
-    -- what is told where the next records are apart
+    -- the result if the next records differ
     abbrev pub Next_a : Bool → Type 0
     Next_a some = HasNext numbers table_limit source_a limits mode a.bytes a.messages
         a.normal records_a new_a reader_a after_a text_a longer_a (Ok some)

@@ -1,5 +1,5 @@
--- Two recordings have one verdict, and it tells that they are the same exactly where their messages
--- are.
+-- Two recordings have exactly one verdict. It is that they are the same if and only if their
+-- messages are.
 use Rattle.std.proofs.Common.{◌≡◌, ◌⊎◌, inl, inr, ℕ, ◌<◌, ◌≤◌, ℤ, List, [], ◌∷◌, length, refl, sym}
 use Rattle.std.proofs.Common.{◌∙◌, ap, subst, arith}
 use Rattle.std.proofs.lemmas.Bool.{cases_lt}
@@ -48,7 +48,7 @@ bytes_equal_or_not (x ∷ xs) (y ∷ ys) = here (numbers_equal_or_not x y) (byte
     here (inr a) b = inr (λ e. a (let q : x ≡ y = cc in q))
     here (inl a) (inr b) = inr (λ e. b (let q : xs ≡ ys = cc in q))
 
--- Lists that are the same are as long.
+-- Lists that are the same have equal length.
 pub same_lengths : (mode : Mode) (ms ns : List Sent) → AreSame (stop_in mode) ms ns → length ms
     ≡ length ns
 unfolding AreSame
@@ -69,7 +69,7 @@ module _ (limits : Limits) (mode : Mode) (sound : AreSound limits) where
             refl;
       }
 
-  -- Accepted messages are the same or not, and the texts of their normal forms tell.
+  -- Accepted messages are the same or not, and the texts of their normal forms determine which.
   pub same_or_not : (bytes other : List ℕ) (ms ns : List Sent) → IsAccepted limits mode bytes ms
       → IsAccepted limits mode other ns → AreSame (stop_in mode) ms ns ⊎ (AreSame (stop_in mode) ms
       ns → ⊥)

@@ -1,5 +1,5 @@
--- Two inputs compared record by record, whatever a record is, and whatever makes their values the
--- same: the verdict. Source: own.
+-- Comparing two inputs record by record, for any kind of records and any definition of when their
+-- values are the same: the verdict. Source: own.
 use Rattle.std.specs.Prelude.{◌≡◌, ◌≢◌, ◌⊎◌, ℕ, ◌+◌, ◌<◌, List, []}
 use Rattle.dap_input.specs.Judging.{Judging}
 use Rattle.dap_input.specs.Inputs.{Input, Fault, IsRefusedAt, IsNotRefusedAt, IsTaken}
@@ -7,13 +7,13 @@ use Rattle.dap_input.specs.Inputs.{AcceptedBefore}
 
 module _ (j : Judging) where
   module _ (AreSame : List j.Value → List j.Value → Type 0) where
-    -- The records before this one are accepted of both inputs, and their values are the same.
+    -- The records before this one are accepted in both inputs, and their values are the same.
     pub record AreSameBefore (a b : Input) (number : ℕ) : Type 0 where
       pub of_a : AcceptedBefore j a number
       pub of_b : AcceptedBefore j b number
       pub same : AreSame of_a.values of_b.values
 
-    -- Just one of the inputs has ended, or with this record too their values are not the same.
+    -- Exactly one of the inputs has ended, or the values up to this record are not the same.
     abbrev pub DifferAt : (a b : Input) (number : ℕ) → AreSameBefore a b number → Type 0
     DifferAt a b number before =
         ((before.of_a.rest ≡ []) × (before.of_b.rest ≢ []))
@@ -21,7 +21,7 @@ module _ (j : Judging) where
         ⊎ ((next_a : AcceptedBefore j a (number + 1)) × (next_b : AcceptedBefore j b (number + 1))
         × (AreSame next_a.values next_b.values → ⊥)))
 
-    -- The values of the whole inputs are the same.
+    -- The values of the complete inputs are the same.
     pub record AreSameInputs (a b : Input) : Type 0 where
       pub of_a : List j.Value
       pub of_b : List j.Value
@@ -29,7 +29,7 @@ module _ (j : Judging) where
       pub taken_b : IsTaken j b of_b
       pub same : AreSame of_a of_b
 
-    -- `pairs` says how two lists of values are the same.
+    -- `pairs` returns the evidence that two lists of values are the same.
     module _ {P : Type 0} (pairs : List j.Value → List j.Value → P) where
       pub data Verdict : Type 0 where
         are_same : P → Verdict
@@ -37,8 +37,9 @@ module _ (j : Judging) where
         refused_a : ℕ → Fault → Verdict
         refused_b : ℕ → Fault → Verdict
 
-      -- Record by record, first of the one input and then of the other: the first that is refused,
-      -- or that makes them differ; if there is none, how they are the same.
+      -- Record by record, of the first input and then of the second: the first record that is
+      -- rejected or that differs. If there is no such record, the evidence that the values are the
+      -- same.
       abbrev pub IsVerdict : Input → Input → Verdict → Type 0
       IsVerdict a b (refused_a number fault) = AreSameBefore a b number
           × IsRefusedAt j a number fault
@@ -49,12 +50,12 @@ module _ (j : Judging) where
       IsVerdict a b (are_same how) = (inputs : AreSameInputs a b)
           × (how ≡ pairs inputs.of_a inputs.of_b)
 
-      -- Two inputs have a verdict, and only one.
+      -- Two inputs have exactly one verdict.
       pub record HasOneVerdict : Type 0 where
         pub some : (a b : Input) → (verdict : Verdict) × IsVerdict a b verdict
         pub one : (a b : Input) (verdict other : Verdict) → IsVerdict a b verdict
             → IsVerdict a b other → verdict ≡ other
-        -- no earlier record makes them differ
+        -- no earlier record differs
         pub least : (a b : Input) (number earlier : ℕ) → IsVerdict a b (differ number)
             → earlier < number
             → (before : AreSameBefore a b earlier) → DifferAt a b earlier before → ⊥

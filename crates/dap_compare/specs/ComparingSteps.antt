@@ -1,4 +1,4 @@
--- What the steps of `compare` do.
+-- The effects of the steps of `compare`.
 use Rattle.std.specs.Prelude.{◌≡◌, ◌⊎◌, ℕ, ℤ, Bool, true, false, List, [], Result, Ok, Err}
 use Rattle.dap_device.specs.declared.device.Source.{Ghosts as Source}
 use Rattle.dap_message.specs.Message.{Sent}
@@ -14,7 +14,7 @@ use Rattle.dap_compare.specs.declared.verdict.CompareRefused.{CompareRefused}
 use Rattle.dap_compare.specs.declared.verdict.CompareRefused.TheVariants as because
 use Rattle.dap_compare.specs.declared.verdict.Which.{Which}
 
--- It is the refusal of this input. That memory was refused is nobody's.
+-- The result is the error of this input. An allocation failure belongs to neither input.
 abbrev pub IsRefusalOf : Which → Refused → CompareRefused → Type 0
 IsRefusalOf which refused refusal = (refused ≡ why.Memory → refusal ≡ because.Memory)
     × ((refused ≡ why.Memory → ⊥) → refusal ≡ because.Input which refused)
@@ -22,8 +22,8 @@ IsRefusalOf which refused refusal = (refused ≡ why.Memory → refusal ≡ beca
 module _ {T R : Type 0} (numbers : T → List ℤ) (table_limit : T → ℕ) (source : Source R)
     (limits : Limits) (mode : Mode) (bytes : List ℕ) (messages normal : List Sent)
     (old new : NormalRecords T) (before after : R) where
-  -- The next record has come, of which the text is this, or none is left; or it is told as a
-  -- refusal of this input that it is refused or cannot be read.
+  -- The next record was read and has this text, or there is no next record; or the result is the
+  -- error of this input, which is rejected or cannot be read.
   abbrev pub TellsNext : Which → List ℕ → Result Bool CompareRefused → Type 0
   TellsNext which text (Ok some) =
       HasNext numbers table_limit source limits mode bytes messages normal old new before
@@ -34,7 +34,7 @@ module _ {T R : Type 0} (numbers : T → List ℤ) (table_limit : T → ℕ) (so
       before after refused
       × IsRefusalOf which refused refusal
 
--- What the next records are to each other: whether each input has one, and their texts.
+-- How the next records compare: whether each input has one, and their texts.
 abbrev pub AreNext : Bool → Bool → List ℕ → List ℕ → NextRecords → Type 0
 AreNext some_a some_b text_a text_b Alike =
     (some_a ≡ true) × (some_b ≡ true) × (text_a ≡ text_b)

@@ -1,5 +1,4 @@
--- What is left of two recordings where they differ: the records at which they do, as their normal
--- forms have them. Source: own.
+-- The records that are stored if two recordings differ, as in their normal forms. Source: own.
 use Rattle.std.specs.Prelude.{◌≡◌, ◌⊎◌, ℕ, ◌+◌, List, [], ◌∷◌, ◌++◌, Option, Result, Ok, Err}
 use Rattle.dap_device.specs.declared.device.Source.{Ghosts as Source}
 use Rattle.dap_device.specs.declared.reading.Stop.{Stop}
@@ -17,8 +16,8 @@ use Rattle.dap_compare.specs.declared.verdict.CompareRefused.{CompareRefused}
 use Rattle.dap_compare.specs.declared.verdict.Verdict.{Verdict as CodeVerdict}
 use Rattle.dap_compare.specs.declared.verdict.Verdict.TheVariants as code
 
--- The text is this record of the input's normal form; or the input ends before it, and there is no
--- text.
+-- The text is this record of the input's normal form; or the input ends before it, and the text is
+-- empty.
 abbrev pub IsRecordAt : Limits → Mode → Input → ℕ → List ℕ → Type 0
 IsRecordAt limits mode input number text =
     ((before : AcceptedBefore (accepting limits mode) input number) × (before.rest ≡ []) × (text
@@ -27,7 +26,7 @@ IsRecordAt limits mode input number text =
     × (named : Sent) × IsNormal (stop_in mode) next.values (normal ++ named ∷ [])
     × (text ≡ record_of named))
 
--- So much came from the reader, and this is left of the record, whatever else the input holds.
+-- These bytes were read, and this text of the record is stored, whatever bytes follow in the input.
 pub record LeavesRecord {R : Type 0} (source : Source R) (limits : Limits) (mode : Mode) (old new :
     R)
     (number : ℕ) (text : List ℕ) : Type 0 where
@@ -36,7 +35,7 @@ pub record LeavesRecord {R : Type 0} (source : Source R) (limits : Limits) (mode
   pub came : HasComeSoFar source old new bytes stop
   pub is_record : (input : Input) → IsOf bytes stop input → IsRecordAt limits mode input number text
 
--- Where a difference is answered, the record at which it is.
+-- If the result is a difference, the record that differs is stored.
 abbrev pub LeavesDifference : {R : Type 0} → Source R → Limits → Mode → R → R → List ℕ
     → Result CodeVerdict CompareRefused → Type 0
 LeavesDifference source limits mode old new text (Ok (code.Same renaming)) = Unit {0}

@@ -1,5 +1,5 @@
--- The verdict on two recordings: how they are the same, the first record where they differ, or the
--- first that is refused of one. Source: own.
+-- The verdict on two recordings: a renaming, the first record that differs, or the first error of
+-- one of them. Source: own.
 use Rattle.std.specs.Prelude.{◌≡◌, ℕ, ℤ, ◌-◌, List, Option, Result, Ok, Err}
 use Rattle.dap_device.specs.declared.device.Source.{Ghosts as Source}
 use Rattle.dap_message.specs.Message.{Sent}
@@ -26,8 +26,8 @@ use Rattle.dap_input.specs.Inputs.{Input, Fault, IsTaken}
 use Rattle.dap_compare.specs.Comparing.{Verdict, IsVerdict, are_same, differ, refused_a, refused_b}
 use Rattle.dap_compare.specs.Comparing.{HasOneVerdict}
 
--- Two recordings are the same if a renaming carries the messages of the one to those of the other,
--- and then by the pairs of equal places; both by the classes of the mode.
+-- Two recordings are the same if a renaming maps the messages of the first to those of the second.
+-- The evidence is pairing by position. Both use the classes of the mode.
 abbrev pub RecordingVerdict : Limits → Mode → Type 0
 RecordingVerdict limits mode = Verdict (accepting limits mode) (AreSame (stop_in mode))
     (equal_places (stop_in mode))
@@ -38,8 +38,8 @@ IsRecordingVerdict limits mode a b verdict =
     IsVerdict (accepting limits mode) (AreSame (stop_in mode)) (equal_places (stop_in mode)) a b
     verdict
 
--- The verdict on the inputs is a refusal of the one or of the other at this record, and it is told.
--- Memory that was refused tells nothing.
+-- The verdict on the inputs is that one of them is rejected at this record, for the error that is
+-- returned. `Memory` implies nothing.
 pub record IsRefusalOf (limits : Limits) (mode : Mode) (number : ℕ) (why : Refused) (verdict : Fault
     → RecordingVerdict limits mode) (a b : Input) : Type 0 where
   pub fault : Fault
@@ -53,7 +53,7 @@ TellsRefusal limits mode a b number (because.Input B why) =
     IsRefusalOf limits mode number why (refused_b number) a b
 TellsRefusal limits mode a b number because.Memory = Unit {0}
 
--- The verdict is answered. It is that of this record, unless the inputs are the same.
+-- The verdict is returned. It is that of this record, unless the inputs are the same.
 abbrev pub TellsVerdict : Limits → Mode → Input → Input → ℕ → Result CodeVerdict CompareRefused
     → Type 0
 TellsVerdict limits mode a b number (Ok (code.Same renaming)) =
@@ -62,17 +62,17 @@ TellsVerdict limits mode a b number (Ok (code.Differ n)) = (n ≡ number)
     × IsRecordingVerdict limits mode a b (differ number)
 TellsVerdict limits mode a b number (Err refusal) = TellsRefusal limits mode a b number refusal
 
--- how far the second input is read where the verdict is that of this record: before it, where the
--- first is refused there
+-- the record to which the second input is read: that of the verdict, or the one before it if the
+-- first input is rejected there
 abbrev pub read_of_b : ℕ → Result CodeVerdict CompareRefused → ℕ
 read_of_b number (Err (because.Input A why)) = number - 1
 read_of_b number answer = number
 
--- Two readers, by what they tell of their bytes, and by their counts.
+-- Two readers, in terms of the bytes that they report and of their counts.
 module _ {R S : Type 0} (source_a : Source R) (source_b : Source S) (limits : Limits) (mode : Mode)
   where
-    -- So much came from the readers, no more than this record asked for, and the verdict on the
-    -- inputs, whatever else they hold, is answered.
+    -- These bytes were read, no more than this record requires, and the verdict on the inputs is
+    -- returned, whatever bytes follow in the inputs.
     pub record HasCompared (old_a new_a : R) (old_b new_b : S)
         (answer : Result CodeVerdict CompareRefused) : Type 0 where
       pub number : ℕ
@@ -91,13 +91,13 @@ module _ {R S : Type 0} (source_a : Source R) (source_b : Source S) (limits : Li
     Compares old_a new_a old_b new_b (Err because.Memory) = Unit {0}
     Compares old_a new_a old_b new_b answer = HasCompared old_a new_a old_b new_b answer
 
--- Two inputs have one verdict; where they differ, they do so at no earlier record.
+-- Two inputs have exactly one verdict. If they differ, no earlier record differs.
 abbrev pub RecordingsHaveOneVerdict : Type 0
 RecordingsHaveOneVerdict = (limits : Limits) (mode : Mode) → AreSound limits
     → HasOneVerdict (accepting limits mode) (AreSame (stop_in mode)) (equal_places (stop_in mode))
 
--- Where both inputs are accepted, the verdict is that they are the same exactly where their
--- messages are.
+-- If both inputs are accepted, the verdict is that they are the same if and only if their messages
+-- are the same.
 pub record SameIsTold (limits : Limits) (mode : Mode) (a b : Input) (of_a of_b : List Sent) : Type 0
   where
     pub if_same : AreSame (stop_in mode) of_a of_b
@@ -111,8 +111,8 @@ SameIsToldExactly = (limits : Limits) (mode : Mode) → AreSound limits → (a b
     → IsTaken (accepting limits mode) a of_a → IsTaken (accepting limits mode) b of_b
     → SameIsTold limits mode a b of_a of_b
 
--- Where the verdict is that they are the same, both inputs are accepted, and the pairs are a
--- renaming that carries the messages of the one to those of the other.
+-- If the verdict is that they are the same, both inputs are accepted. The pairs are a renaming that
+-- maps the messages of the first to those of the second.
 pub record IsCarried (limits : Limits) (mode : Mode) (a b : Input) (how : List (Class × ℤ × ℤ)) :
     Type 0 where
   pub of_a : List Sent

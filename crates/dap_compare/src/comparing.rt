@@ -15,7 +15,7 @@ use dap_normal::{NormalRecords, index_tables};
 use dap_rename::{Mode, NameTable, Tables};
 use std::alloc::Global;
 
-/// Whose refusal it is. That memory was refused is nobody's.
+/// Returns the error of an input. An allocation failure belongs to neither input.
 fn refusal_of(which: Which, refused: Refused) -> CompareRefused
     ensures { IsRefusalOf which refused result }
 {
@@ -25,8 +25,8 @@ fn refusal_of(which: Which, refused: Refused) -> CompareRefused
     }
 }
 
-/// Reads and judges the next record of an input, and leaves the record of its normal form in
-/// `text`. None is left where the input has ended and all of it is accepted.
+/// Reads and checks the next record of an input, and replaces `text` by the record of its normal
+/// form. Returns `false` if the input has ended and is accepted.
 fn next_text<R: Source, T: NameTable + Drop>(
     alloc: Global,
     which: Which,
@@ -50,15 +50,15 @@ fn next_text<R: Source, T: NameTable + Drop>(
     }
 }
 
-/// What the next records of two inputs are to each other.
+/// How the next records of two inputs compare.
 enum NextRecords {
     Alike,
-    /// Their texts differ, or just one of the inputs has one.
+    /// Their normal forms differ, or exactly one of the inputs has a next record.
     Apart,
     NoneLeft,
 }
 
-/// Says what the next records are to each other: whether each input has one, and their texts.
+/// Compares the next records: whether each input has one, and their normal forms.
 fn next_records(some_a: bool, some_b: bool, text_a: &[u8], text_b: &[u8]) -> NextRecords
     ensures { AreNext some_a some_b text_a.now text_b.now result }
 {
@@ -75,17 +75,19 @@ fn next_records(some_a: bool, some_b: bool, text_a: &[u8], text_b: &[u8]) -> Nex
     }
 }
 
-/// Compares two recordings: says how the ids of the one are renamed to those of the other, or where
-/// they differ.
+/// Compares two recordings. Returns the renaming of the ids of A to those of B, or the first record
+/// that differs.
 ///
-/// Record by record that of A is read and judged first, then that of B; behind a difference or a
-/// refusal nothing more is judged. At most 65,536 bytes are read past a record, and at most one
-/// byte past `limits.input` of each. Records are counted from 1.
+/// For each number, the record of A is read and checked first, then that of B. Nothing is checked
+/// after a difference or an error. At most 65,536 bytes beyond a record are read, and at most one
+/// byte beyond `limits.input` of each input. Records are counted from 1.
 ///
 /// # Errors
 ///
-/// The first refusal of an input, where the records before it are the same; `ReadFault` is one
-/// where a reader failed and nothing is wrong with what came before; `Memory`.
+/// - `Input`: the first error of an input. The records before it are the same. `ReadFault` is
+///   returned if a reader failed and the bytes read so far contain no error other than being
+///   incomplete.
+/// - `Memory`: an allocation failed.
 pub fn compare<A: Source, B: Source>(
     alloc: Global,
     reader_a: &mut A,
@@ -99,12 +101,12 @@ pub fn compare<A: Source, B: Source>(
     requires failures_a { A.failures reader_a.old < 2 ^ 62 }
     requires failures_b { B.failures reader_b.old < 2 ^ 62 }
 
-    // The one verdict on the two inputs is answered. That a reader failed is answered only where it
-    // did.
+    // The result is the one verdict on the two inputs. `ReadFault` is returned only if the reader
+    // failed.
     ensures answer { Compares A.Source B.Source limits mode reader_a.old reader_a.new reader_b.old
         reader_b.new result }
 
-    // It takes at most one byte past the limit of each.
+    // It reads at most one byte beyond the limit of each input.
     ensures taken_a { A.given reader_a.new ≤ A.given reader_a.old + limits.input + 1 }
     ensures taken_b { B.given reader_b.new ≤ B.given reader_b.old + limits.input + 1 }
 {
@@ -119,12 +121,12 @@ pub fn compare<A: Source, B: Source>(
     )
 }
 
-/// Does what [`compare`] does, with these tables for the names of the ids of A and of B. They have
-/// to be empty, each with the limit `limits.ids`.
+/// Does the same as [`compare`] with these interning tables for the ids of A and of B. They must be
+/// empty, each with the limit `limits.ids`.
 ///
 /// # Errors
 ///
-/// Those of [`compare`].
+/// The same as those of [`compare`].
 pub fn compare_with<A: Source, B: Source, T: NameTable + Drop>(
     alloc: Global,
     reader_a: &mut A,
@@ -142,7 +144,7 @@ pub fn compare_with<A: Source, B: Source, T: NameTable + Drop>(
     requires failures_a { A.failures reader_a.old < 2 ^ 62 }
     requires failures_b { B.failures reader_b.old < 2 ^ 62 }
 
-    // What `compare` promises, whatever the tables are.
+    // The guarantees of `compare`, for any tables.
     ensures answer { Compares A.Source B.Source limits mode reader_a.old reader_a.new reader_b.old
         reader_b.new result }
     ensures taken_a { A.given reader_a.new ≤ A.given reader_a.old + limits.input + 1 }
@@ -163,14 +165,15 @@ pub fn compare_with<A: Source, B: Source, T: NameTable + Drop>(
     )
 }
 
-/// Does what [`compare_with`] does, and leaves the records at which the recordings differ.
+/// Does the same as [`compare_with`], and stores the records that differ.
 ///
-/// In `text_a` is then the record of A's normal form, in `text_b` that of B's; nothing, where that
-/// one has ended. On every other answer no more is said of the two.
+/// If the result is `Differ`, `text_a` is the record of A's normal form and `text_b` that of B's.
+/// It is empty if that input has ended. For every other result, the contents of both are
+/// unspecified.
 ///
 /// # Errors
 ///
-/// Those of [`compare`].
+/// The same as those of [`compare`].
 pub fn compare_texts_with<A: Source, B: Source, T: NameTable + Drop>(
     alloc: Global,
     reader_a: &mut A,
@@ -190,13 +193,13 @@ pub fn compare_texts_with<A: Source, B: Source, T: NameTable + Drop>(
     requires failures_a { A.failures reader_a.old < 2 ^ 62 }
     requires failures_b { B.failures reader_b.old < 2 ^ 62 }
 
-    // What `compare` promises, whatever the tables are.
+    // The guarantees of `compare`, for any tables.
     ensures answer { Compares A.Source B.Source limits mode reader_a.old reader_a.new reader_b.old
         reader_b.new result }
     ensures taken_a { A.given reader_a.new ≤ A.given reader_a.old + limits.input + 1 }
     ensures taken_b { B.given reader_b.new ≤ B.given reader_b.old + limits.input + 1 }
 
-    // Where a difference is answered, the records at which it is are left.
+    // If the result is a difference, the records that differ are stored.
     ensures text_a { LeavesDifference A.Source limits mode reader_a.old reader_a.new
         text_a.new.items result }
     ensures text_b { LeavesDifference B.Source limits mode reader_b.old reader_b.new
@@ -221,7 +224,7 @@ pub fn compare_texts_with<A: Source, B: Source, T: NameTable + Drop>(
     )
 }
 
-/// Compares the records of two inputs, of which nothing has been read.
+/// Compares the records of two inputs of which nothing has been read.
 fn compare_records<A: Source, B: Source, T: NameTable + Drop>(
     alloc: Global,
     records_a: &mut NormalRecords<T>,

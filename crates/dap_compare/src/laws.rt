@@ -1,12 +1,12 @@
-//! Theorems on two recordings, which hold of all bytes. Each function does nothing: a call of it
-//! gives its clauses to a proof.
+//! Theorems about two recordings, for all inputs. Each function is empty: calling it makes its
+//! `ensures` clauses available to the caller's proof.
 ghost use Rattle.dap_compare.specs.Verdicts.{RecordingsHaveOneVerdict, SameIsToldExactly};
 ghost use Rattle.dap_compare.specs.Verdicts.{SameIsCarried};
 
-/// Two inputs have one verdict: how their recordings are the same, the first record where they
-/// differ, or the first that is refused of one. It is that they are the same exactly where both are
-/// accepted and their messages are the same, and then its pairs of numbers are a renaming that
-/// carries the messages of the one to those of the other.
+/// States that two inputs have exactly one verdict: the pairs of a renaming, the first record that
+/// differs, or the first error of one of them. If both inputs are accepted, the verdict is a
+/// renaming if and only if their messages are the same. This renaming maps the messages of the
+/// first input to those of the second.
 pub fn two_recordings_have_one_verdict()
     ensures one { RecordingsHaveOneVerdict }
     ensures same { SameIsToldExactly }

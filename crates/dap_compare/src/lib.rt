@@ -1,4 +1,4 @@
-//! Two recordings compared record by record.
+//! Compares two recordings record by record.
 #![tactic(auto)]
 
 mod comparing;

@@ -1,10 +1,10 @@
-//! What comparing answers.
+//! The result of comparing two recordings.
 use dap_input::Refused;
 use dap_rename::Renaming;
 use std::fmt;
 use thiserror::Error;
 
-/// One of two inputs.
+/// One of the two inputs.
 #[derive(Clone, Copy, Debug, PartialEq, Eq)]
 pub enum Which {
     A,
@@ -25,26 +25,25 @@ impl fmt::Display for Which {
     }
 }
 
-/// How two recordings compare.
+/// The result of comparing two recordings.
 #[derive(Drop)]
 pub enum Verdict {
-    /// This renaming carries the messages of the first to those of the second.
+    /// This renaming maps the messages of the first recording to those of the second.
     Same(Renaming),
-    /// From the record of this number on, counted from 1, they differ: no renaming carries the
-    /// messages up to it, or just one of them has it.
+    /// The record with this number, counted from 1, is the first that differs: no renaming maps the
+    /// messages up to it, or exactly one of the recordings has it.
     Differ(u64),
 }
 
-/// Why two inputs were not compared to the end.
+/// Why the comparison of two inputs was not completed.
 ///
-/// The text is what the program prints behind `dapnorm: `.
+/// Its `Display` output is what the program prints after `dapnorm: `.
 #[derive(Clone, Copy, Debug, PartialEq, Eq, Error)]
 pub enum CompareRefused {
-    /// This input is refused. The fault inside is never for want of memory, and never that a writer
-    /// failed.
+    /// This input was rejected. The inner error is never `Memory` or `WriteFault`.
     #[error("{0}: {1}")]
     Input(Which, Refused),
-    /// Memory was refused.
+    /// An allocation failed.
     #[error("out of memory")]
     Memory,
 }

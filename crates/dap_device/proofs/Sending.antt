@@ -1,4 +1,4 @@
--- Texts that go out one behind the other, and are flushed.
+-- Outputs that are written one after another, and flushed.
 use Rattle.std.proofs.Common.{◌≡◌, ℕ, zero, suc, ◌+◌, ◌<◌, ◌≤◌, Bool, List, [], ◌∷◌, ◌++◌, length}
 use Rattle.std.proofs.Common.{take, drop, get_or, Option, Some, None, Result, Ok, Err, sym, ◌∙◌, ap}
 use Rattle.std.proofs.Common.{subst, arith}
@@ -14,7 +14,7 @@ use Rattle.dap_device.specs.declared.device.Sink.{Ghosts as Sink}
 use Rattle.dap_device.specs.Device.{AwaitFlush, HasFlushed, HasTaken, HasTakenNothing}
 use Rattle.dap_device.specs.Written.{AllWritten, FrontWritten, HasSentAll}
 
--- What stays as it was behind an append has grown by the same.
+-- Appending, and then leaving the bytes unchanged, appends the same bytes.
 pub kept : (old mid new : Option (List ℕ)) (bs : List ℕ) → Appends old mid bs → Keeps mid new
     → Appends old new bs
 kept None mid new bs first same = tt
@@ -22,15 +22,15 @@ kept (Some xs) None new bs first same = absurd first
 kept (Some xs) (Some ys) None bs first same = absurd same
 kept (Some xs) (Some ys) (Some zs) bs first same = same ∙ first
 
--- ---- what awaits a flush
+-- ---- whether a flush is due
 
 module _ {S : Type 0} (unflushed : S → Bool) where
-  -- Where nothing was taken, as much awaits a flush as before.
+  -- If nothing was written, whether a flush is due is unchanged.
   pub nothing_awaits : (old new : S) → unflushed new ≡ unflushed old
       → AwaitFlush unflushed old new 0
   nothing_awaits old new same = record { some = λ some. absurd (omega arith); none = λ none. same }
 
-  -- It stays so behind a call that takes nothing.
+  -- This also holds after a call that writes nothing.
   pub awaits : (old mid new : S) (count : ℕ) → AwaitFlush unflushed old mid count
       → unflushed new ≡ unflushed mid → AwaitFlush unflushed old new count
   awaits old mid new count first same = record {
@@ -38,7 +38,7 @@ module _ {S : Type 0} (unflushed : S → Bool) where
     none = λ none. same ∙ first.none none;
   }
 
-  -- Of two texts some bytes are taken where some of either are.
+  -- Bytes of two outputs were written if and only if bytes of one of them were.
   pub some_of_both : (old mid new : S) (a b : ℕ) → AwaitFlush unflushed old mid a
       → AwaitFlush unflushed mid new b → AwaitFlush unflushed old new (a + b)
   some_of_both old mid new a zero first second = record {
@@ -76,7 +76,7 @@ module _ {S : Type 0} (sink : Sink S) where
       failure = second.failure ∙ ap (λ n. n + 1) first.no_failure;
     }
 
-  -- A front of a text is one of a longer text.
+  -- A prefix of an output is a prefix of a longer output.
   pub front_of_longer : (old new : S) (xs ys : List ℕ) → FrontWritten sink old new xs
       → FrontWritten sink old new (xs ++ ys)
   front_of_longer old new xs ys front = record {
@@ -88,7 +88,7 @@ module _ {S : Type 0} (sink : Sink S) where
     failure = front.failure;
   }
 
-  -- A front of a text went out, and a call behind it takes nothing.
+  -- A prefix of an output was written, and the next call writes nothing.
   module _ (old mid new : S) (bytes : List ℕ) (count : ℕ) (within : count ≤ length bytes)
       (front : Appends (sink.out old) (sink.out mid) (take count bytes))
       (waiting : AwaitFlush sink.unflushed old mid count)
@@ -117,7 +117,7 @@ module _ {S : Type 0} (sink : Sink S) where
       failure = took.nothing none some ∙ ap (λ n. n + 1) good;
     }
 
-  -- A text that went out is flushed.
+  -- An output that was written is flushed.
   pub all_then_flush : {U : Type 0} (old mid new : S) (bytes : List ℕ)
       (result : Result U DeviceFault) → AllWritten sink old mid bytes
       → HasFlushed sink.out sink.unflushed sink.failures mid new result

@@ -1,10 +1,10 @@
--- Parts of a buffer that are unread.
+-- The unread part of a buffer.
 use Rattle.std.proofs.Common.{◌≡◌, ℕ, ◌-◌, ◌+◌, ◌≤◌, List, drop, take, length, sym, ◌∙◌, ap, arith}
 use Rattle.std.proofs.Common.{length-take}
 use Rattle.std.specs.Prelude.{slice_range}
 use Rattle.std.proofs.lemmas.List.{drop-drop, drop-take}
 
--- What is unread behind some of it.
+-- The unread part after some of it is skipped.
 pub skipped : (buffer : List ℕ) (start end count : ℕ)
     → count ≤ length (slice_range buffer start end)
     → slice_range buffer (start + count) end ≡ drop count (slice_range buffer start end)

@@ -1,5 +1,5 @@
--- What contracts see of the devices over the readers and writers of std: how much they gave,
--- whether bytes await a flush, and how often they failed.
+-- The models of the readers and writers over those of std: the number of bytes delivered, whether a
+-- flush is due, and the number of failed calls.
 use Rattle.std.specs.Prelude.{ℕ, Bool}
 
 pub record SourceCounts : Type 0 where

@@ -1,4 +1,4 @@
--- What reading an input piece by piece takes of a source. Source: own.
+-- The effect of reading an input in chunks on its source. Source: own.
 use Rattle.std.specs.Prelude.{◌≡◌, ◌⊎◌, ℕ, ◌+◌, ◌<◌, ◌≤◌, List, [], ◌∷◌, ◌++◌, length, Option, Some}
 use Rattle.std.specs.Prelude.{None, Result, Ok, Err}
 use Rattle.std.specs.Io.KnownBytes.{Consumes}
@@ -7,26 +7,26 @@ use Rattle.dap_device.specs.declared.reading.Stop.{Stop}
 use Rattle.dap_device.specs.declared.reading.Stop.TheVariants.{End, Full, Failed}
 use Rattle.dap_device.specs.Reading.{HasStopped}
 
--- What callers see of the pieces of a source: the bytes that came and are not read yet, how many
--- came in all, and how many may.
+-- The model of `Pieces`: the bytes that were read and not skipped yet, the number of bytes read,
+-- and its limit.
 pub record Window : Type 0 where
   pub unread : List ℕ
   pub taken : ℕ
   pub limit : ℕ
 
 module _ {S : Type 0} (source : Source S) where
-  -- why no more was read; where nothing is said, more may come
+  -- why reading paused; without a reason, more bytes may follow
   abbrev pub HasPaused : S → S → Option Stop → Type 0
   HasPaused old new None = source.failures new ≡ source.failures old
   HasPaused old new (Some stop) = HasStopped source old new stop
 
-  -- These bytes came from the source, are counted, and for this reason no more came so far.
+  -- These bytes were read from the source, they are counted, and reading paused for this reason.
   pub record HasComeSoFar (old new : S) (bytes : List ℕ) (stop : Option Stop) : Type 0 where
     pub came : Consumes (source.left old) (source.left new) bytes
     pub counted : source.given new ≡ source.given old + length bytes
     pub paused : HasPaused old new stop
 
-  -- Something is unread: it was before, or it is the piece that came.
+  -- There are unread bytes: those from before, or the chunk that was read.
   pub record HasNextPiece (before after : Window) (old new : S) : Type 0 where
     pub piece : List ℕ
     pub came : HasComeSoFar old new piece None
@@ -42,19 +42,19 @@ module _ {S : Type 0} (source : Source S) where
         }
     pub within : after.taken ≤ after.limit
 
-  -- A byte past the limit came.
+  -- A byte beyond the limit was read.
   pub record HasPassedLimit (before : Window) (old new : S) : Type 0 where
     pub byte : ℕ
     pub came : HasComeSoFar old new (byte ∷ []) (Some Full)
     pub at_limit : before.taken ≡ before.limit
 
-  -- Nothing was unread, and for this reason nothing is.
+  -- There were no unread bytes, and there are none for this reason.
   abbrev pub HasNoPiece : Window → S → S → Stop → Type 0
   HasNoPiece before old new End = HasComeSoFar old new [] (Some End)
   HasNoPiece before old new Full = HasPassedLimit before old new
   HasNoPiece before old new Failed = HasComeSoFar old new [] (Some Failed)
 
-  -- Something is unread; or nothing is, for a reason, and the pieces are as they were.
+  -- There are unread bytes; or there are none, for a reason, and the model is unchanged.
   abbrev pub HasFilled : {U : Type 0} → Window → Window → S → S → Result U Stop → Type 0
   HasFilled before after old new (Ok done) = HasNextPiece before after old new
   HasFilled before after old new (Err stop) = (before.unread ≡ []) × (after ≡ before)

@@ -1,9 +1,9 @@
-//! What engines read from and write to: readers and writers that count what they gave and how often
-//! they failed, and tell whether bytes await a flush; over memory, which tell their bytes, and over
-//! those of std.
+//! Readers and writers for command functions, such as `normalise`. They count the bytes delivered
+//! and the failed calls, and know whether a flush is due. There are readers and writers over
+//! memory, whose contracts report their bytes, and over those of std.
 //!
-//! An engine reads its input as a whole with [`read_all`] or a piece at a time with [`Pieces`], and
-//! sends a text out with [`write_all`] or [`write_and_flush`].
+//! A command function reads its input with [`read_all`], or in chunks with [`Pieces`], and writes
+//! its output with [`write_all`] or [`write_and_flush`].
 #![tactic(auto)]
 
 mod device;

@@ -1,4 +1,4 @@
-//! Devices over memory, which tell their bytes.
+//! Readers and writers over memory, whose contracts report their bytes.
 ghost use Rattle.std.specs.Prelude.{◌≡◌, ◌<◌, ◌^◌, ◌↔◌, Some, false, length, [], IfOk, IsErr, IsOk};
 ghost use Rattle.dap_device.specs.Device.{HasFlushed, HasWritten};
 ghost use Rattle.dap_device.specs.Memory.{TakenBytes, count_that_fits};
@@ -7,7 +7,7 @@ use crate::device::{DeviceFault, Sink, Source};
 use std::alloc::{AllocError, Global};
 use std::marker::Model;
 
-/// Reads from bytes in memory. It never fails.
+/// A reader of bytes in memory. It never fails.
 #[derive(Drop)]
 pub struct MemorySource<'a> {
     rest: &'a [u8],
@@ -23,7 +23,7 @@ impl<'a> Model for MemorySource<'a> {
 }
 
 impl<'a> MemorySource<'a> {
-    /// A source of these bytes. It takes no memory.
+    /// Returns a reader of these bytes. Does not allocate.
     pub fn new(bytes: &'a [u8]) -> MemorySource<'a>
         ensures { result ≡ record { left = bytes.entry.now; given = 0 } }
     {
@@ -59,7 +59,8 @@ impl Source for MemorySource<'_> {
     }
 }
 
-/// Writes into room in memory that was made beforehand, so that its calls take no memory.
+/// A writer into a buffer in memory that is allocated in advance. Writing and flushing do not
+/// allocate.
 #[derive(Drop)]
 pub struct MemorySink {
     bytes: Vec<u8>,
@@ -86,7 +87,11 @@ impl Model for MemorySink {
 }
 
 impl MemorySink {
-    /// A sink with room for so many bytes, and no more.
+    /// Returns a writer that accepts at most `room` bytes.
+    ///
+    /// # Errors
+    ///
+    /// - `AllocError`: an allocation failed.
     pub fn new(alloc: Global, room: usize) -> Result<MemorySink, AllocError>
         ensures { IfOk result (λ s. s
             ≡ record { out = []; room = room; unflushed = false; failures = 0 }) }
@@ -99,7 +104,7 @@ impl MemorySink {
         })
     }
 
-    /// What went out.
+    /// Returns the bytes written.
     pub fn bytes(&self) -> &[u8]
         ensures { result.now ≡ self.now.out }
     {
@@ -114,7 +119,11 @@ impl Sink for MemorySink {
 
     ghost failures = { λ s. s.failures };
 
-    /// Takes all that there is room for. Only a write of some bytes into a full sink fails.
+    /// Writes as many bytes as fit into the buffer, and returns their number.
+    ///
+    /// # Errors
+    ///
+    /// - `DeviceFault`: `bytes` is not empty, and the buffer is full.
     fn write(&mut self, bytes: &[u8]) -> Result<usize, DeviceFault>
         requires { self.old.failures < 2 ^ 63 }
         ensures written { HasWritten (λ (s : TakenBytes). Some s.out)
@@ -138,7 +147,7 @@ impl Sink for MemorySink {
         Ok(count)
     }
 
-    /// It never fails.
+    /// Marks the bytes written as flushed. Never fails.
     fn flush(&mut self) -> Result<(), DeviceFault>
         requires { self.old.failures < 2 ^ 63 }
         ensures flushed { HasFlushed (λ (s : TakenBytes). Some s.out)

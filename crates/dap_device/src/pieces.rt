@@ -1,4 +1,4 @@
-//! Reads an input a piece at a time.
+//! Reads an input in chunks.
 ghost use Rattle.std.specs.Prelude.{◌≡◌, ◌<◌, ◌≤◌, ◌^◌, [], IfOk, drop, length, take};
 ghost use Rattle.dap_device.specs.Device.{HasRead};
 ghost use Rattle.dap_device.specs.Pieces.{HasFilled};
@@ -8,10 +8,10 @@ use crate::reading::Stop;
 use std::alloc::{AllocError, Global};
 use std::marker::Model;
 
-/// How many bytes are asked of a source at once.
+/// The maximum number of bytes of one read.
 const PIECE: usize = 65_536;
 
-/// Reads into the front of a buffer, at most so many bytes.
+/// Reads at most `room` bytes into a prefix of the buffer.
 fn read_front<R: Source>(
     reader: &mut R,
     buffer: &mut [u8],
@@ -28,14 +28,14 @@ fn read_front<R: Source>(
     reader.read(&mut buffer[..room])
 }
 
-/// The bytes of a source, up to a limit, a piece at a time.
+/// Reads a source in chunks, up to a limit.
 #[derive(Drop)]
 pub struct Pieces {
     buffer: Vec<u8>,
-    /// What is unread stands from here to `end` in the buffer.
+    /// The unread bytes are from here to `end` in the buffer.
     start: usize,
     end: usize,
-    /// How many bytes came, at most `limit`.
+    /// The number of bytes read from the source, at most `limit`.
     taken: u64,
     limit: u64,
 }
@@ -54,7 +54,11 @@ impl Model for Pieces {
 }
 
 impl Pieces {
-    /// The pieces of a source of which nothing has been read.
+    /// Returns a reader of at most `limit` bytes, which has read nothing.
+    ///
+    /// # Errors
+    ///
+    /// - `AllocError`: an allocation failed.
     pub fn new(alloc: Global, limit: u64) -> Result<Pieces, AllocError>
         requires { limit ≤ 2 ^ 62 }
         ensures { IfOk result (λ pieces. pieces
@@ -71,14 +75,14 @@ impl Pieces {
         })
     }
 
-    /// What has come and is not read yet.
+    /// Returns the bytes that were read from the source and not skipped yet.
     pub fn unread(&self) -> &[u8]
         ensures { result.now ≡ self.now.unread }
     {
         &self.buffer.as_slice()[self.start..self.end]
     }
 
-    /// Goes on behind so many bytes of what is unread.
+    /// Skips the first `count` unread bytes.
     pub fn skip(&mut self, count: usize)
         requires { count ≤ length self.old.unread }
         ensures { self.new
@@ -91,8 +95,15 @@ impl Pieces {
         self.start += count;
     }
 
-    /// Asks for the next piece where all has been read, so that something is unread; or says why
-    /// there is none.
+    /// Reads the next chunk if there are no unread bytes. Afterwards there are some.
+    ///
+    /// # Errors
+    ///
+    /// There are no unread bytes, and this is unchanged:
+    ///
+    /// - `End`: the input has ended.
+    /// - `Full`: a byte beyond the limit was read.
+    /// - `Failed`: the source failed.
     pub fn fill<R: Source>(&mut self, reader: &mut R) -> Result<(), Stop>
         requires given { R.given reader.old < 2 ^ 63 }
         requires failures { R.failures reader.old < 2 ^ 63 }

@@ -1,4 +1,4 @@
-//! Reads a whole input.
+//! Reads a complete input.
 ghost use Rattle.std.specs.Prelude.{◌≡◌, ◌≤◌, ◌+◌, ◌^◌, ◌<◌, IfOk, OnOk, drop, length, take};
 ghost use Rattle.dap_device.specs.Device.{HasRead};
 ghost use Rattle.dap_device.specs.Reading.{HasCome};
@@ -6,28 +6,28 @@ ghost use Rattle.dap_device.specs.Reading.{HasCome};
 use crate::device::{DeviceFault, Source};
 use std::alloc::{AllocError, Global};
 
-/// How many bytes are asked of a source at once.
+/// The maximum number of bytes of one read.
 const PIECE: usize = 65_536;
 
-/// Why no more was read.
+/// Why reading stopped.
 #[derive(Clone, Copy, Debug, PartialEq, Eq)]
 pub enum Stop {
     /// The input has ended.
     End,
-    /// A byte past the limit has come.
+    /// A byte beyond the limit was read.
     Full,
     /// The source failed.
     Failed,
 }
 
-/// What was read of an input, and why no more.
+/// The bytes read of an input, and why reading stopped.
 #[derive(Drop)]
 pub struct Input {
     pub bytes: Vec<u8>,
     pub stop: Stop,
 }
 
-/// Makes the bytes longer where all of them are read.
+/// Extends the buffer if all of it is used: by at most 65,536 bytes, and to at most `most` bytes.
 fn make_room(bytes: &mut Vec<u8>, count: usize, most: usize) -> Result<(), AllocError>
     requires read { count ≤ length bytes.old.items }
     requires within { length bytes.old.items ≤ most }
@@ -45,7 +45,7 @@ fn make_room(bytes: &mut Vec<u8>, count: usize, most: usize) -> Result<(), Alloc
     Ok(())
 }
 
-/// Reads into the bytes from a place on.
+/// Reads into the buffer, from index `count` on.
 fn read_behind<R: Source>(
     reader: &mut R,
     bytes: &mut Vec<u8>,
@@ -63,7 +63,7 @@ fn read_behind<R: Source>(
     reader.read(&mut bytes.as_mut_slice()[count..])
 }
 
-/// What was read, of bytes of which so many came.
+/// Returns the input that consists of the first `count` bytes.
 fn first_bytes(mut bytes: Vec<u8>, count: usize, stop: Stop) -> Input
     ensures bytes { result.bytes.items ≡ take count bytes.items }
     ensures stop { result.stop ≡ stop }
@@ -72,7 +72,11 @@ fn first_bytes(mut bytes: Vec<u8>, count: usize, stop: Stop) -> Input
     Input { bytes, stop }
 }
 
-/// Reads until the end, a failure, or a byte past the limit.
+/// Reads until the end of the input, a failure, or the first byte beyond the limit.
+///
+/// # Errors
+///
+/// - `AllocError`: an allocation failed.
 pub fn read_all<R: Source>(alloc: Global, reader: &mut R, limit: u64) -> Result<Input, AllocError>
     requires small { limit ≤ 2 ^ 62 }
     requires given { R.given reader.old < 2 ^ 62 }

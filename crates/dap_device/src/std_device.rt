@@ -1,11 +1,11 @@
-//! Devices over the readers and writers of std, which tell no bytes.
+//! Readers and writers over those of std, whose contracts do not report their bytes.
 ghost use Rattle.std.specs.Prelude.{◌≡◌, None, false};
 
 use crate::device::{DeviceFault, Sink, Source};
 use std::io::{ErrorKind, Read, Write};
 use std::marker::Model;
 
-/// Reads from a reader of std. A read that a signal interrupted is made again.
+/// Reads from a reader of std. A read that a signal interrupted is repeated.
 #[derive(Drop)]
 pub struct StdSource<R> {
     reader: R,
@@ -22,7 +22,7 @@ impl<R> Model for StdSource<R> {
 }
 
 impl<R: Read> StdSource<R> {
-    /// A source that has given nothing yet. It takes no memory.
+    /// Returns a source that has delivered nothing. Does not allocate.
     pub fn new(reader: R) -> StdSource<R>
         ensures { result ≡ record { given = 0; failures = 0 } }
     {
@@ -65,7 +65,7 @@ impl<R: Read> Source for StdSource<R> {
     }
 }
 
-/// Writes to a writer of std. A write that a signal interrupted is made again.
+/// Writes to a writer of std. A write that a signal interrupted is repeated.
 #[derive(Drop)]
 pub struct StdSink<W> {
     writer: W,
@@ -82,7 +82,7 @@ impl<W> Model for StdSink<W> {
 }
 
 impl<W: Write> StdSink<W> {
-    /// A sink that has taken nothing yet. It takes no memory.
+    /// Returns a sink to which nothing was written. Does not allocate.
     pub fn new(writer: W) -> StdSink<W>
         ensures { result ≡ record { unflushed = false; failures = 0 } }
     {

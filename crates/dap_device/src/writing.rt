@@ -1,10 +1,14 @@
-//! Writes a whole text.
+//! Writes all bytes of an output.
 ghost use Rattle.std.specs.Prelude.{◌<◌, ◌^◌};
 ghost use Rattle.dap_device.specs.Written.{HasSentAll, HasWrittenAll};
 
 use crate::device::{DeviceFault, Sink};
 
-/// Sends all of the bytes out. Where the sink fails, a front of them went out.
+/// Writes all bytes.
+///
+/// # Errors
+///
+/// - `DeviceFault`: the sink failed. A prefix of the bytes was written.
 pub fn write_all<W: Sink>(writer: &mut W, bytes: &[u8]) -> Result<(), DeviceFault>
     requires { W.failures writer.old < 2 ^ 63 }
     ensures { HasWrittenAll W.Sink writer.old writer.new result bytes.now }
@@ -20,8 +24,11 @@ pub fn write_all<W: Sink>(writer: &mut W, bytes: &[u8]) -> Result<(), DeviceFaul
     Ok(())
 }
 
-/// Sends all of the bytes out and flushes. Where the sink fails, a front of them, perhaps all, went
-/// out.
+/// Writes all bytes and flushes the sink.
+///
+/// # Errors
+///
+/// - `DeviceFault`: the sink failed. A prefix of the bytes was written, possibly all of them.
 pub fn write_and_flush<W: Sink>(writer: &mut W, bytes: &[u8]) -> Result<(), DeviceFault>
     requires { W.failures writer.old < 2 ^ 63 }
     ensures { HasSentAll W.Sink writer.old writer.new result bytes.now }

@@ -1,4 +1,4 @@
--- What is read of a text that is the record of a message.
+-- Reading a text that is the record of a message.
 use Rattle.std.proofs.Common.{◌≡◌, ℕ, List, [], ◌++◌, length, take, drop, Option, Some, None}
 use Rattle.std.proofs.Common.{MatchOption}
 use Rattle.std.proofs.Common.{refl, sym, ◌∙◌, subst, append-nil, take-append-drop}
@@ -35,7 +35,7 @@ module _ (limits : Limits) (sound : AreSound limits) (text : List ℕ) (m : Sent
   here = subst (λ k. IsRecord k text m.side (text_of m.doc)) (sym same)
       (record_here limits sound text m is)
 
-  -- A record at its front is the whole text.
+  -- A record that is a prefix of the text is the complete text.
   is_held : (used : ℕ) (whole : Record)
       → IsRecord l (take used text) whole.side whole.content → IsMessage (held_of whole) m
   is_held used whole front =
@@ -51,7 +51,7 @@ module _ (limits : Limits) (sound : AreSound limits) (text : List ℕ) (m : Sent
       (subst (IsOpenRecord (record_limits reader)) (sym (append-nil text))
       (stands_open reader 1 text stands)))
 
-  -- A call that answered gave the record, and could not give none.
+  -- A successful call returned the record; it could not return nothing.
   module _ (fed : FedRecord) (new : RecordReading) (gives : GivesFedRecord l 1 [] text fed new)
     where
       pub given_is_held : (whole : Record) → Some whole ≡ fed.whole → IsMessage (held_of whole) m
@@ -77,7 +77,7 @@ module _ (limits : Limits) (sound : AreSound limits) (text : List ℕ) (m : Sent
       item_not_faulty (record_grammar l) text [] (m.side, text_of m.doc) fault.cause shown.0 here
       (subst (λ t. ShowsFault l t fault.cause shown.0) (sym (append-nil text)) shown.1)
 
--- What is read as a message is that of the text.
+-- The message that is read is that of the text.
 pub is_told : (limits : Limits) (text : List ℕ) (held : Held) (n : Sent) → (text ≡ [] → ⊥)
     → IsLeftText limits text → ((m : Sent) → IsRecordOf limits text m → IsMessage held m)
     → IsMessage held n → IsRecordOf limits text n
@@ -85,7 +85,7 @@ is_told limits text held n some (None, none) each is = absurd (some none)
 is_told limits text held n some (Some m, holds) each is =
     subst (IsRecordOf limits text) (message_once held m n (each m holds) is) holds
 
--- What holds a message is not refused for holding none.
+-- A payload with a message is not rejected as having no message.
 module _ (held : Held) (m : Sent) (is : IsMessage held m) where
   no_reason : (o : Option (ℕ × Reason))
       → MatchOption o ⊥ (λ told. (told.0 ≡ 1) × IsObjected (HoldsNoMessage held) told.1) → ⊥
@@ -117,7 +117,7 @@ module _ (held : Held) (m : Sent) (is : IsMessage held m) where
   not_refused why.WriteFault other told = no_reason (reason_of why.WriteFault) told
   not_refused why.Memory other told = other refl
 
--- And where the text is none, nothing was to be read.
+-- A nonempty text with a message is not rejected as having none.
 pub refused_none : (limits : Limits) (text : List ℕ) (held : Held) (because : Refused)
     → (text ≡ [] → ⊥) → IsLeftText limits text
     → ((m : Sent) → IsRecordOf limits text m → IsMessage held m)

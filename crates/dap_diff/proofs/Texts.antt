@@ -1,4 +1,4 @@
--- What the texts that `compare` leaves hold, and that each holds one thing.
+-- The messages in the texts that `compare` stores, and that each text has at most one.
 use Rattle.std.proofs.Common.{◌≡◌, inl, inr, ℕ, ◌≤◌, List, [], ◌∷◌, ◌++◌, length, Option}
 use Rattle.std.proofs.Common.{Some, None, refl, sym, ◌∙◌, ap, subst, append-nil}
 use Rattle.std.specs.List.{AllByRecursion}
@@ -82,7 +82,7 @@ module _ (limits : Limits) (mode : Mode) (sound : AreSound limits) where
         (own_contents bytes values (normal ++ named ∷ []) accepted is_normal)).1;
   }
 
-  -- ---- what the text of a record holds
+  -- ---- the message in the text of a record
 
   found_at : (input : Input) (number : ℕ) (text : List ℕ) → IsRecordAt limits mode input number text
       → (found : Option Sent) × Holds limits text found × HasAt limits mode input number found
@@ -115,7 +115,7 @@ module _ (limits : Limits) (sound : AreSound limits) where
       (message_once (m.side, text_of m.doc) m n (refl, is.typed)
       (subst (λ h. IsMessage h n) (sym one.1) (refl, other.typed)))
 
-  -- ---- the record that is left of a reader
+  -- ---- the stored record of one reader
 
   is_so_far : (bytes : List ℕ) (stop : Option Stop) → IsOf bytes stop (so_far bytes stop)
   is_so_far bytes None = ([], sym (append-nil bytes))
@@ -145,7 +145,7 @@ module _ (limits : Limits) (mode : Mode) (sound : AreSound limits) where
         in
         (here.0, here.1)
 
-  -- ---- the records that are left of two readers
+  -- ---- the stored records of two readers
 
   module _ {R S : Type 0} (source_a : Source R) (source_b : Source S) (old_a new_a : R)
       (old_b new_b : S) (number : ℕ) (text_a text_b lines : List ℕ)

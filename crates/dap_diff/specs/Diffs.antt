@@ -1,5 +1,5 @@
--- How two recordings differ: the lines that tell it of the records at which they do. Source: own;
--- the leaves that differ are told as `dap_difference` says.
+-- The differences of two recordings: the lines for the first record that differs. Source: own; the
+-- leaves that differ are those that `dap_difference` defines.
 use Rattle.std.specs.Prelude.{◌≡◌, ℕ, ◌+◌, Bool, ◌&&◌, List, [], ◌∷◌, ◌++◌, Option}
 use Rattle.std.specs.Prelude.{Some, None}
 use Rattle.std.specs.Prelude.{Result, Ok, Err, bytes_eq, codes, unwrap_or, if◌then◌else◌}
@@ -35,7 +35,7 @@ use Rattle.dap_diff.specs.declared.answer.Diff.TheVariants.{Same, Differ}
 
 -- ---- the lines
 
--- the marker of a side, and the word for a kind
+-- the marker of a side, and the name of a kind
 abbrev pub side_word : Side → List ℕ
 side_word Client = codes "> "
 side_word Adapter = codes "< "
@@ -45,41 +45,41 @@ kind_word Request = codes "request "
 kind_word Response = codes "response "
 kind_word Event = codes "event "
 
--- The head line of a message, as `< event "stopped"`: its side, its kind, and its name as JSON
+-- The head line of a message, such as `< event "stopped"`: its side, its kind, and its name as JSON
 -- text. Every message has a name.
 abbrev pub head_line : Sent → List ℕ
 head_line m =
     side_word m.side ++ kind_word (kind_of m.doc) ++ text_of (text (unwrap_or (name_of m.doc) []))
     ++ codes "\n"
 
--- The line of what one input has, A or B: the head line of its message, or that it has ended.
+-- The line for one input, A or B: the head line of its message, or that it has ended.
 abbrev pub input_line : List ℕ → Option Sent → List ℕ
 input_line which None = which ++ codes " ends\n"
 input_line which (Some m) = which ++ codes " " ++ head_line m
 
--- Two messages of one side, one kind and one name.
+-- Two messages with the same side, kind and name.
 abbrev pub have_one_head : Sent → Sent → Bool
 have_one_head a b =
     same_side a.side b.side
     && (is_of_kind (kind_of a.doc) b.doc
     && bytes_eq (unwrap_or (name_of a.doc) []) (unwrap_or (name_of b.doc) []))
 
--- The lines of the leaves at which two documents differ, each id as its number.
+-- The lines for the leaves in which two documents differ, with each id as its number.
 abbrev pub leaf_lines : Doc → Doc → List ℕ
 leaf_lines d e = flat_map difference_lines (differences (without_ids d) (without_ids e))
 
--- The lines of what A and what B has. Of messages of one head: that head, and the leaves at which
--- they differ. Of all else: the line of A, then that of B.
+-- The lines for A and B. If both have messages with the same head, that head and the leaves in
+-- which they differ; otherwise, the line of A and that of B.
 abbrev pub diff_lines : Option Sent → Option Sent → List ℕ
 diff_lines (Some a) (Some b) =
     if have_one_head a b then head_line a ++ leaf_lines a.doc b.doc
     else input_line (codes "A") (Some a) ++ input_line (codes "B") (Some b)
 diff_lines a b = input_line (codes "A") a ++ input_line (codes "B") b
 
--- ---- the record that is told
+-- ---- the record that differs
 
--- The input's normal form has this message at the record; or, where there is none, all records
--- before it are accepted, and the input ends there.
+-- The input's normal form has this message at the record; or, for `None`, all records before it are
+-- accepted, and the input ends there.
 abbrev pub HasAt : Limits → Mode → Input → ℕ → Option Sent → Type 0
 HasAt limits mode input number None =
     (before : AcceptedBefore (accepting limits mode) input number)
@@ -88,7 +88,7 @@ HasAt limits mode input number (Some named) =
     (next : AcceptedBefore (accepting limits mode) input (number + 1))
     × (normal : List Sent) × IsNormal (stop_in mode) next.values (normal ++ named ∷ [])
 
--- So much came from the reader, and whatever else the input holds, it has this at the record.
+-- These bytes were read, and whatever bytes follow in the input, it has this message at the record.
 pub record HasRead {R : Type 0} (source : Source R) (limits : Limits) (mode : Mode) (old new : R)
     (number : ℕ) (found : Option Sent) : Type 0 where
   pub bytes : List ℕ
@@ -96,12 +96,12 @@ pub record HasRead {R : Type 0} (source : Source R) (limits : Limits) (mode : Mo
   pub came : HasComeSoFar source old new bytes stop
   pub has : (input : Input) → IsOf bytes stop input → HasAt limits mode input number found
 
--- ---- the answer
+-- ---- the result
 
--- Two readers, by what they tell of their bytes, and by their counts.
+-- Two readers, in terms of the bytes that they report and of their counts.
 module _ {R S : Type 0} (source_a : Source R) (source_b : Source S) (limits : Limits) (mode : Mode)
     (old_a new_a : R) (old_b new_b : S) where
-  -- The lines tell what each input has at the record.
+  -- The lines are those for the messages of both inputs at the record.
   pub record TellsRecord (number : ℕ) (lines : List ℕ) : Type 0 where
     pub of_a : Option Sent
     pub of_b : Option Sent
@@ -109,7 +109,8 @@ module _ {R S : Type 0} (source_a : Source R) (source_b : Source S) (limits : Li
     pub read_b : HasRead source_b limits mode old_b new_b number of_b
     pub lines_are : lines ≡ diff_lines of_a of_b
 
-  -- What `compare` may answer is answered; of a difference, the lines of its record too.
+  -- The result is one that `compare` may return. For a difference, it also has the lines for the
+  -- record.
   abbrev pub TellsDifference : Result Diff CompareRefused → Type 0
   TellsDifference (Ok Same) = (renaming : _)
       × Compares source_a source_b limits mode old_a new_a old_b new_b (Ok (verdict.Same renaming))

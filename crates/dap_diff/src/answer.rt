@@ -1,10 +1,10 @@
-//! What telling the difference of two recordings answers.
+//! The result of `diff`.
 
-/// What two recordings are to each other.
+/// How two recordings compare.
 #[derive(Debug, Drop)]
 pub enum Diff {
-    /// Some renaming carries the messages of the first to those of the second.
+    /// Some renaming maps the messages of the first to those of the second.
     Same,
-    /// They differ at the record of this number, and these lines tell how.
+    /// They differ first at the record with this number, and these lines are the differences.
     Differ { record: u64, lines: Vec<u8> },
 }

@@ -1,4 +1,4 @@
-//! Tells how two recordings differ.
+//! Finds the differences of two recordings.
 ghost use Rattle.std.specs.Prelude.{◌+◌, ◌<◌, ◌≤◌, ◌^◌, IfOk};
 ghost use Rattle.dap_input.specs.Limits.{AreSound};
 ghost use Rattle.dap_normal.specs.NameTables.{AreReady};
@@ -15,7 +15,7 @@ use dap_normal::index_tables;
 use dap_rename::{Mode, NameTable, Tables};
 use std::alloc::{AllocError, Global};
 
-/// The lines of the records that were left of A and of B.
+/// Returns the lines for the stored records of A and of B.
 fn lines_of(
     alloc: Global,
     text_a: &[u8],
@@ -33,17 +33,17 @@ fn lines_of(
     Ok(lines)
 }
 
-/// Compares two recordings as [`compare`](dap_compare::compare) does, and where they differ tells
-/// how, in lines.
+/// Compares two recordings like [`compare`](dap_compare::compare). If they differ, returns the
+/// differences as lines.
 ///
-/// Where both have a record there, of one side, one kind and one name, the first line is the head
-/// of its message, as `< event "stopped"`, and the lines behind it are those of the leaves at which
-/// the normal forms differ, ids as numbers. Else there are two lines, as `A > request "next"` and
-/// `B ends`.
+/// If both recordings have a record there, with the same side, kind and name, the first line is the
+/// head of its message. An example is `< event "stopped"`. The following lines are the leaves in
+/// which the normal forms differ, with ids as numbers. Otherwise there are two lines, such as
+/// `A > request "next"` and `B ends`.
 ///
 /// # Errors
 ///
-/// Those of [`compare`](dap_compare::compare).
+/// The same as those of [`compare`](dap_compare::compare).
 pub fn diff<A: Source, B: Source>(
     alloc: Global,
     reader_a: &mut A,
@@ -57,12 +57,12 @@ pub fn diff<A: Source, B: Source>(
     requires failures_a { A.failures reader_a.old < 2 ^ 62 }
     requires failures_b { B.failures reader_b.old < 2 ^ 62 }
 
-    // The one verdict on the two inputs is answered; where they differ, with the lines that tell
-    // how.
+    // The result is the one verdict on the two inputs; if they differ, with the differences as
+    // lines.
     ensures answer { TellsDifference A.Source B.Source limits mode reader_a.old reader_a.new
         reader_b.old reader_b.new result }
 
-    // It takes at most one byte past the limit of each.
+    // It reads at most one byte beyond the limit of each input.
     ensures taken_a { A.given reader_a.new ≤ A.given reader_a.old + limits.input + 1 }
     ensures taken_b { B.given reader_b.new ≤ B.given reader_b.old + limits.input + 1 }
 {
@@ -77,12 +77,12 @@ pub fn diff<A: Source, B: Source>(
     )
 }
 
-/// Does what [`diff`] does, with these tables for the names of the ids of A and of B. They have to
-/// be empty, each with the limit `limits.ids`.
+/// Does the same as [`diff`] with these interning tables for the ids of A and of B. They must be
+/// empty, each with the limit `limits.ids`.
 ///
 /// # Errors
 ///
-/// Those of [`diff`].
+/// The same as those of [`diff`].
 pub fn diff_with<A: Source, B: Source, T: NameTable + Drop>(
     alloc: Global,
     reader_a: &mut A,
@@ -100,7 +100,7 @@ pub fn diff_with<A: Source, B: Source, T: NameTable + Drop>(
     requires failures_a { A.failures reader_a.old < 2 ^ 62 }
     requires failures_b { B.failures reader_b.old < 2 ^ 62 }
 
-    // What `diff` promises, whatever the tables are.
+    // The guarantees of `diff`, for any tables.
     ensures answer { TellsDifference A.Source B.Source limits mode reader_a.old reader_a.new
         reader_b.old reader_b.new result }
     ensures taken_a { A.given reader_a.new ≤ A.given reader_a.old + limits.input + 1 }

@@ -1,4 +1,4 @@
-//! Two recordings compared, and the lines that tell how they differ.
+//! Compares two recordings and prints their differences as lines.
 #![tactic(auto)]
 
 mod answer;

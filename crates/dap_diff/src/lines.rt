@@ -1,4 +1,4 @@
-//! The lines that tell how two messages differ.
+//! The differences of two messages as lines.
 ghost use Rattle.std.specs.Prelude.{◌≡◌, ◌++◌, Some, None, IfOk, OnOk, codes, option_map, true};
 ghost use Rattle.dap_message.specs.Message.{sent};
 ghost use Rattle.dap_tree.specs.View.{view};
@@ -13,7 +13,7 @@ use dap_message::{Kind, Message, Side};
 use dap_tree::{Tree, write_tree};
 use std::alloc::{AllocError, Global};
 
-/// The marker of a side, with a space behind it.
+/// Returns the marker of a side, followed by a space.
 fn side_word(side: Side) -> &'static str
     ensures { result.now ≡ side_word side }
 {
@@ -23,7 +23,7 @@ fn side_word(side: Side) -> &'static str
     }
 }
 
-/// The word for a kind, with a space behind it.
+/// Returns the name of a kind, followed by a space.
 fn kind_word(kind: Kind) -> &'static str
     ensures { result.now ≡ kind_word kind }
 {
@@ -48,7 +48,7 @@ fn push_head(alloc: Global, message: &Message, out: &mut Vec<u8>) -> Result<(), 
     out.extend_from_slice(b"\n")
 }
 
-/// Appends the line of what one input has.
+/// Appends the line for the message of one input, or that the input ends.
 fn push_input(
     alloc: Global,
     which: &str,
@@ -68,14 +68,14 @@ fn push_input(
     }
 }
 
-/// Whether two messages are of one side, one kind and one name.
+/// Returns whether two messages have the same side, kind and name.
 fn have_one_head(a: &Message, b: &Message) -> bool
     ensures { result ≡ have_one_head (sent a.now) (sent b.now) }
 {
     a.side() == b.side() && a.kind() == b.kind() && a.name() == b.name()
 }
 
-/// Appends the lines of the leaves at which two messages differ.
+/// Appends the lines for the leaves in which two messages differ.
 fn push_leaves(alloc: Global, a: &Message, b: &Message, out: &mut Vec<u8>) -> Result<(), AllocError>
     ensures { OnOk result
         (out.new.items ≡ out.old.items ++ leaf_lines (doc_of a.now) (doc_of b.now)) }
@@ -86,7 +86,7 @@ fn push_leaves(alloc: Global, a: &Message, b: &Message, out: &mut Vec<u8>) -> Re
     out.extend_from_slice(text.as_slice())
 }
 
-/// The lines of what A and what B has.
+/// Returns the lines for the messages of A and of B.
 pub fn diff_lines(
     alloc: Global,
     a: &Option<Message>,

@@ -1,4 +1,4 @@
-//! The message that a record's text holds, and the tree of a message as plain JSON.
+//! The message of a record, and the tree of a message as plain JSON.
 ghost use Rattle.std.specs.Prelude.{◌≡◌, IfOk, option_map, true};
 ghost use Rattle.dap_input.specs.Limits.{AreSound};
 ghost use Rattle.dap_message.specs.Message.{Sent, doc_of, sent};
@@ -16,7 +16,7 @@ use dap_recording::{FedRecord, Record, RecordCause, RecordReader};
 use dap_tree::{Scratch, Tree, TreeFault, read_tree};
 use std::alloc::{AllocError, Global};
 
-/// The tree of a message as plain JSON, each id as its number.
+/// Returns the tree of a message as plain JSON, with each id as its number.
 pub fn plain_tree(alloc: Global, message: &Message) -> Result<Tree, AllocError>
     ensures plain { IfOk result (λ tree. view tree ≡ without_ids (doc_of message.now)) }
     ensures sound { IfOk result (λ tree. is_sound (view tree) ≡ true) }
@@ -32,14 +32,14 @@ pub fn plain_tree(alloc: Global, message: &Message) -> Result<Tree, AllocError>
     }
 }
 
-/// The record that a call gave, if one ended.
+/// Returns the record that a call completed, if there is one.
 fn whole_of(fed: FedRecord) -> Option<Record>
     ensures { result ≡ fed.whole }
 {
     fed.whole
 }
 
-/// The record whose text this is.
+/// Returns the record whose text this is.
 fn record_in(alloc: Global, text: &[u8], limits: Limits) -> Result<Record, AllocError>
     requires sound { AreSound limits }
     requires is_record { IsRecordText limits text.now }
@@ -59,7 +59,7 @@ fn record_in(alloc: Global, text: &[u8], limits: Limits) -> Result<Record, Alloc
     }
 }
 
-/// The message that the text of a record holds; none, where there is no text.
+/// Returns the message in the text of a record, or `None` if the text is empty.
 pub fn message_in(alloc: Global, text: &[u8], limits: Limits) -> Result<Option<Message>, AllocError>
     requires sound { AreSound limits }
     requires is_left { IsLeftText limits text.now }

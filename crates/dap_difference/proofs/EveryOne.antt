@@ -1,4 +1,4 @@
--- Each path at which two documents differ is told, and where none is told they are the same.
+-- Each path at which two documents differ is in the list, and if the list is empty they are equal.
 use Rattle.std.proofs.Common.{◌≡◌, ◌⊎◌, inl, inr, ℕ, zero, suc, ◌+◌, ◌<◌, List, [], ◌∷◌, ◌++◌}
 use Rattle.std.proofs.Common.{map, length, Bool, true, false, ◌&&◌, cond, Some, None}
 use Rattle.std.proofs.Common.{nat_cmp, refl, sym}
@@ -21,7 +21,7 @@ use Rattle.dap_difference.proofs.Scalars.{same_is}
 use Rattle.dap_difference.proofs.Paths.{none_differ, ends_of_a, ends_of_b}
 use Rattle.dap_difference.proofs.Told.{by_order}
 
--- ---- among those that are told
+-- ---- paths of the list
 
 abbrev pub IsTold : List Step → List Difference → Type 0
 IsTold p [] = ⊥
@@ -231,7 +231,7 @@ mutual
       (λ e he x. every d e d_ordered he p x)
       (λ es hes x. members_every q ms es p ms_ordered hes x) ns hn there
 
--- ---- where nothing is told
+-- ---- if the list is empty
 
 none_left : (xs ys : List Difference) → xs ++ ys ≡ [] → xs ≡ []
 none_left [] ys h = refl

@@ -1,4 +1,4 @@
--- Members by name, where they stand in order.
+-- Members by name, if they are in order.
 use Rattle.std.proofs.Common.{◌≡◌, ◌⊎◌, inl, inr, ℕ, List, Bool, true, false, Option, Some}
 use Rattle.std.proofs.Common.{None, Ordering, Less, Equal, Greater, nat_cmp, bytes_eq, is_eq, refl}
 use Rattle.std.proofs.Common.{sym, ap, ◌∙◌}
@@ -21,7 +21,7 @@ found_first k d ms =
     hit (slice_cmp nat_cmp k k) (get_member k ms) (Some d) (is_eq-slice_cmp k k
     ∙ (bytes_eq-Decides k k).1 refl)
 
--- a name that is below all of the members' is that of none
+-- a name that is below the names of all members is not one of them
 pub missing : (k : List ℕ) (ms : Members) → is_below_all k ms ≡ true → get_member k ms ≡ None
 missing k no_members h = refl
 missing k (member l e ms) h =
@@ -38,7 +38,7 @@ below_lower k l (member m d ms) low h =
     and_both _ _ (ap is_lt (nat_list_cmp_total.trans k l m low next))
     (below_lower k l ms low (and_right (is_lt (slice_cmp nat_cmp l m)) (is_below_all l ms) h))
 
--- below the first of some members, and so below all of them
+-- a name below that of the first member is below all names
 pub below_first : (k l : List ℕ) (e : Doc) (ms : Members) → slice_cmp nat_cmp k l ≡ Less
     → is_below_all l ms ≡ true → is_below_all k (member l e ms) ≡ true
 below_first k l e ms low h = and_both _ _ (ap is_lt low) (below_lower k l ms low h)

@@ -1,4 +1,4 @@
--- The differences are told in the order of their paths.
+-- The differences are in the order of their paths.
 use Rattle.std.proofs.Common.{◌≡◌, inl, inr, ℕ, suc, ◌<◌, List, [], ◌∷◌, ◌++◌, map, Bool, true}
 use Rattle.std.proofs.Common.{false, ◌&&◌, cond, Some, nat_cmp}
 use Rattle.std.proofs.Common.{refl, sym, ap}
@@ -204,7 +204,7 @@ mutual
       (λ e he. ordered d e d_ordered he) (λ es hes. members_told_ordered ms es ms_ordered hes)
       (λ q es hq hes. members_after q ms es hq hes) ns hn
 
--- ---- as the contracts say it
+-- ---- as in the contracts
 
 abbrev paths : List Difference → List (List Step)
 paths xs = map (λ x. x.path) xs

@@ -1,4 +1,4 @@
--- What it tells that two documents differ at a path.
+-- What follows if two documents differ at a path.
 use Rattle.std.proofs.Common.{◌≡◌, ◌≢◌, ◌⊎◌, inl, inr, Bool, true, false, List, [], ◌∷◌, ◌++◌}
 use Rattle.std.proofs.Common.{Option, Some, None, option_map, option_and_then, refl, sym, ap, ◌∙◌}
 use Rattle.std.proofs.Common.{subst}
@@ -8,12 +8,12 @@ use Rattle.dap_difference.specs.Differences.{have_parts, DifferAt, form}
 use Rattle.dap_difference.specs.Telling.{same_scalar}
 use Rattle.dap_difference.proofs.Scalars.{same_is, apart_are, forms_tell, parts_have_form}
 
--- where nothing stands in both, nothing differs
+-- if neither has a value, they do not differ
 pub none_differ : (p : List Step) → DifferAt p None None → ⊥
 none_differ [] h = h.0 refl
 none_differ (s ∷ p) h = absurd cc
 
--- where one has nothing, they differ there and no further
+-- if one has no value, they differ there and not further on
 pub ends_of_b : (p : List Step) (d : Doc) → DifferAt p (Some d) None → p ≡ []
 ends_of_b [] d h = refl
 ends_of_b (s ∷ p) d h = absurd cc
@@ -38,7 +38,7 @@ at_further (s ∷ p) rest o =
     at_step s (p ++ rest) o ∙ at_further p rest (option_and_then (step s) o)
     ∙ ap (option_and_then (at rest)) (sym (at_step s p o))
 
--- where they differ, their forms do
+-- if they differ, their forms do
 pub forms_differ : (p : List Step) (o q : Option Doc) → DifferAt p o q
     → option_map form (option_and_then (at p) o) ≡ option_map form (option_and_then (at p) q) → ⊥
 forms_differ [] o q h same =
@@ -77,7 +77,7 @@ no_front : (front : List Step) (o q : Option Doc) → have_parts o q ≡ false �
 no_front [] o q parts same h = h.0 same
 no_front (s ∷ front) o q parts same h = let parted = h.0 in absurd cc
 
--- nothing differs behind two that are the same, and have no parts
+-- equal values without parts do not differ further on
 equal_past : (p : List Step) (o q : Option Doc) → have_parts o q ≡ false → o ≡ q → Past p o q
 equal_past p o q parts same = record {
   none = λ front rest is h. no_front front o q parts same h;

@@ -1,4 +1,5 @@
--- The differences are all, and B's values put at them make A's document B's.
+-- The differences are complete, and inserting B's values at their paths turns A's document into
+-- B's.
 use Rattle.std.proofs.Common.{◌≡◌, inl, inr, ◌↔◌, suc, ◌<◌, List, [], ◌∷◌, ◌++◌}
 use Rattle.std.proofs.Common.{length, true, Some, option_map, option_and_then, refl}
 use Rattle.std.proofs.Common.{sym, ap, ◌∙◌, subst, arith}
@@ -34,7 +35,7 @@ are_differences d e h k =
       ordered = told_in_order d e h k;
     }
 
--- one of those that are told has the path
+-- one of the listed differences has the path
 told_has : (P : Difference → Type 0) (p : List Step) (xs : List Difference) → All P xs
     → IsTold p xs → (x : Difference) × P x × (x.path ≡ p)
 told_has P p [] h there = absurd there

@@ -1,4 +1,4 @@
--- What it tells that two documents without parts are the same, or are not.
+-- What follows if two documents without parts are equal, or are not.
 use Rattle.std.proofs.Common.{◌≡◌, ◌≢◌, Bool, true, false, cond, [], ◌∷◌, Option, Some, None}
 use Rattle.std.proofs.Common.{option_map}
 use Rattle.std.proofs.Common.{refl, sym, ap, ap₂, ◌∙◌}
@@ -31,7 +31,7 @@ both_none : (d e : Doc) → same_scalar d e ≡ true → both d e ≡ []
 both_none d e h =
     ap (λ same. cond same [] (record { path = []; of_a = Some d; of_b = Some e } ∷ [])) h
 
--- of two equal scalars nothing is told
+-- two equal scalars have no differences
 pub none_of_scalars : (d e : Doc) → same_scalar d e ≡ true → differences d e ≡ []
 none_of_scalars null e h = both_none null e h
 none_of_scalars (boolean b) e h = both_none (boolean b) e h
@@ -62,7 +62,7 @@ apart_are d e parts h same =
     let missed = ap (λ x. same_scalar d x) same ∙ h in
     absurd cc
 
--- without parts, the forms tell the documents
+-- without parts, the forms determine the documents
 pub form_tells : (d e : Doc) → have_parts (Some d) (Some e) ≡ false → form d ≡ form e → d ≡ e
 form_tells (list ds) (list es) h k = absurd cc
 form_tells (object ms) (object ns) h k = absurd cc
@@ -81,7 +81,7 @@ forms_tell (Some d) None h k = absurd cc
 forms_tell None (Some e) h k = absurd cc
 forms_tell None None h k = refl
 
--- two with parts have one form
+-- two documents with parts have the same form
 parts_of : (d e : Doc) → have_parts (Some d) (Some e) ≡ true → form d ≡ form e
 parts_of (list ds) (list es) h = refl
 parts_of (object ms) (object ns) h = refl

@@ -1,4 +1,4 @@
--- What is told of two sound documents can be written.
+-- The values of the differences of two sound documents can be written.
 use Rattle.std.proofs.Common.{◌≡◌, ℕ, suc, ◌-◌, ◌≤◌, List, [], ◌∷◌, ◌++◌, map, Bool, true, false}
 use Rattle.std.proofs.Common.{◌&&◌, cond, Some}
 use Rattle.std.proofs.Common.{nat_cmp}

@@ -1,4 +1,4 @@
--- What one step of the walk over two trees adds to what is told.
+-- The differences that one step of the traversal of two trees appends.
 use Rattle.std.proofs.Common.{◌≡◌, ℕ, List, [], ◌∷◌, ◌++◌, map, true, false, Ordering, Less}
 use Rattle.std.proofs.Common.{Equal, Greater, nat_cmp, is_eq, refl, sym, ap, ap₂, ◌∙◌}
 use Rattle.std.proofs.Common.{append_assoc}
@@ -30,13 +30,13 @@ below_root : (xs : List Difference) → map (below []) xs ≡ xs
 below_root [] = refl
 below_root (x ∷ xs) = ap (λ ys. x ∷ ys) (below_root xs)
 
--- what is told from the root on is all
+-- the differences found from the root are all differences
 pub all_told : (steps : List CodeStep) (old new : List CodeDifference) (xs : List Difference)
     → steps ≡ [] → old ≡ [] → Appends steps old new xs → told new ≡ xs
 all_told steps old new xs at_root none h =
     h ∙ ap₂ (λ s o. told o ++ map (below (path_of s)) xs) at_root none ∙ below_root xs
 
--- differences behind a step, and those that are left
+-- the differences after a step, followed by the remaining ones
 pub behind_step : (p : List Step) (s : Step) (old new xs rest : List Difference)
     → new ≡ old ++ map (below (p ++ s ∷ [])) xs
     → new ++ map (below p) rest ≡ old ++ map (below p) (map (behind s) xs ++ rest)
@@ -45,7 +45,7 @@ behind_step p s old new xs rest h =
     ∙ append_assoc old (map (below p) (map (behind s) xs)) (map (below p) rest)
     ∙ ap (λ ys. old ++ ys) (sym (map-append (below p) (map (behind s) xs) rest))
 
--- one difference, and those that are left
+-- one difference, followed by the remaining ones
 pub one_step : (p : List Step) (old new : List Difference) (x : Difference)
     (rest : List Difference) → new ≡ old ++ below p x ∷ []
     → new ++ map (below p) rest ≡ old ++ map (below p) (x ∷ rest)
@@ -66,7 +66,7 @@ less_at Less h k = refl
 less_at Equal h k = absurd (k refl)
 less_at Greater h k = absurd cc
 
--- B has no member of the name
+-- B has no member with the name
 pub only_a_here : (k : List ℕ) (d : Doc) (differ : Doc → List Difference)
     (rest : Members → List Difference) (ns : Members) → HasNoLower k ns → HasOtherFirst k ns
     → from_member k d differ rest ns ≡ only_a (name k) d ∷ rest ns
@@ -78,7 +78,7 @@ only_a_here k d differ rest (member l e ns) low other =
     (map (behind (name k)) (differ e) ++ rest ns)
     (only_b (name l) e ∷ from_member k d differ rest ns)) first
 
--- both have a member of the name
+-- both have a member with the name
 pub both_here : (k : List ℕ) (d : Doc) (differ : Doc → List Difference)
     (rest : Members → List Difference) (e : Doc) (ns : Members)
     → from_member k d differ rest (member k e ns) ≡ map (behind (name k)) (differ e) ++ rest ns
@@ -87,7 +87,7 @@ both_here k d differ rest e ns =
     (map (behind (name k)) (differ e) ++ rest ns)
     (only_b (name k) e ∷ from_member k d differ rest ns)) (itself k)
 
--- B's member stands below the name
+-- B's member is below the name
 pub lower_here : (k l : List ℕ) (d : Doc) (differ : Doc → List Difference)
     (rest : Members → List Difference) (e : Doc) (ns : Members) → slice_cmp nat_cmp k l ≡ Greater
     → from_member k d differ rest (member l e ns)

@@ -1,4 +1,4 @@
--- Each difference that is told is one, with what the documents have there.
+-- Each difference in the list is a difference, with the values of the documents.
 use Rattle.std.proofs.Common.{◌≡◌, ℕ, suc, ◌+◌, List, [], ◌∷◌, ◌++◌, map, Bool, true}
 use Rattle.std.proofs.Common.{false, ◌&&◌, cond, Option, Some, None, option_and_then, Ordering}
 use Rattle.std.proofs.Common.{Less}
@@ -20,7 +20,7 @@ use Rattle.dap_difference.proofs.Members.{found_first, missing, below_first, tur
 use Rattle.dap_difference.proofs.Scalars.{apart_are}
 use Rattle.dap_difference.proofs.Paths.{none_differ}
 
--- ---- of each in a list
+-- ---- each element of a list
 
 abbrev pub Each : (Difference → Type 0) → List Difference → Type 0
 Each P xs = AllByRecursion P xs
@@ -47,9 +47,9 @@ by_order P Less x y z f g h = f refl
 by_order P Equal x y z f g h = g refl
 by_order P Greater x y z f g h = h refl
 
--- ---- what is told
+-- ---- the differences in the list
 
--- A difference of the two, with what stands there.
+-- A difference of the two, with their values.
 abbrev pub Tells : Option Doc → Option Doc → Difference → Type 0
 Tells o q x = DifferAt x.path o q × (x.of_a ≡ option_and_then (at x.path) o)
     × (x.of_b ≡ option_and_then (at x.path) q)
@@ -144,7 +144,7 @@ first_member k d e ms ns a b x h = record {
   tells = subst (λ o. Tells o (get_member k ns) x) (sym a) (subst (λ q. Tells d q x) (sym b) h);
 }
 
--- behind a name that none of the members has
+-- after a name that no member has
 later_member : (k : List ℕ) (ms ns more_ms more_ns : Members) → get_member k ms ≡ None
     → get_member k ns ≡ None
     → ((q : List ℕ) → (q ≡ k → ⊥) → get_member q more_ms ≡ get_member q ms)
@@ -186,7 +186,7 @@ in_object ms ns x h =
     subst (Tells (Some (object ms)) (Some (object ns))) (sym h.is)
     ((refl, h.tells.0), h.tells.1, h.tells.2)
 
--- what is told behind A's member k, where B has no member of that name among those left
+-- the differences after A's member k, if B has no member with that name among the remaining ones
 only_a_tells : (k : List ℕ) (d : Doc) (ms ns : Members) (told : List Difference)
     → get_member k ms ≡ None → get_member k ns ≡ None → Each (TellsMember ms ns) told
     → Each (TellsMember (member k d ms) ns) (only_a (name k) d ∷ told)

@@ -1,4 +1,4 @@
--- What one step of the walk over two trees leaves to tell.
+-- The differences that remain after one step of the traversal of two trees.
 use Rattle.std.proofs.Common.{◌≡◌, ℕ, suc, ◌-◌, ◌<◌, ◌≤◌, List, [], ◌∷◌, ◌++◌, map, length}
 use Rattle.std.proofs.Common.{get_or, take, drop, String, string_bytes, Option, None}
 use Rattle.std.proofs.Common.{sym, ap, ap₂}
@@ -62,7 +62,7 @@ pub tree_at : (xs : List Tree) (i : ℕ) (t : Tree) → i < length xs → t ≡ 
     → drop i xs ≡ t ∷ drop (suc i) xs
 tree_at xs i t lt is = drop-cons xs i t lt ∙ ap (λ u. u ∷ drop (suc i) xs) (sym is)
 
--- both have an item at the place
+-- both have an item at the index
 pub items_both : (ds es : List Tree) (i j : ℕ) (t u : Tree) → j ≡ suc i
     → drop i ds ≡ t ∷ drop (suc i) ds → drop i es ≡ u ∷ drop (suc i) es
     → items_differences i (items_view (drop i ds)) (items_view (drop i es))
@@ -73,7 +73,7 @@ items_both ds es i j t u is h k =
     ∙ ap (λ m. map (behind (place i)) (differences (view t) (view u))
     ++ items_differences m (items_view (drop m ds)) (items_view (drop m es))) (sym is)
 
--- A alone has one
+-- only A has one
 pub items_only_a : (ds es : List Tree) (i j : ℕ) (t : Tree) → j ≡ suc i
     → drop i ds ≡ t ∷ drop (suc i) ds → length es ≤ i
     → items_differences i (items_view (drop i ds)) (items_view (drop i es))
@@ -96,7 +96,7 @@ from_all key t more ns =
     from_member (string_bytes key) (view t) (λ e. differences (view t) e)
     (λ es. members_differences (members_view more) es) ns
 
--- both have a member of the name
+-- both have a member with the name
 pub members_both : (root steps : List CodeStep) (key m : String Global) (t u : Tree)
     (all more left0 left1 left2 : List Entry) (old lower new : List CodeDifference)
     → all ≡ (key, t) ∷ more → steps ≡ root
@@ -128,7 +128,7 @@ members_both root steps key m t u all more left0 left1 left2 old lower new is sa
     ∙ ap (λ es. told old ++ map (below (path_of root))
     (members_differences (members_view es) (members_view left0))) (sym is)
 
--- A alone has one
+-- only A has one
 pub members_only_a : (root steps : List CodeStep) (key : String Global) (t : Tree)
     (all more left0 left1 left2 : List Entry) (old lower new : List CodeDifference)
     → all ≡ (key, t) ∷ more → steps ≡ root

@@ -1,5 +1,5 @@
--- Where two documents differ, and what each has there; and a document with other values put in.
--- Source: own.
+-- The paths at which two documents differ, and the values there; and inserting other values into a
+-- document. Source: own.
 use Rattle.std.specs.Prelude.{◌≡◌, ◌≢◌, ◌↔◌, Bool, true, false, List, [], ◌∷◌, ◌++◌, map, All}
 use Rattle.std.specs.Prelude.{AllPairs}
 use Rattle.std.specs.Prelude.{Contains, Option, Some, None, option_and_then, option_map}
@@ -7,7 +7,7 @@ use Rattle.dap_tree.specs.Doc.{Doc, list, object, no_items}
 use Rattle.dap_tree.specs.Doc.{no_members, is_ordered}
 use Rattle.dap_tree.specs.Path.{Step, step, at, IsBefore}
 
--- Two lists, or two objects: they differ in their parts.
+-- Two arrays, or two objects: they differ in their parts.
 abbrev pub are_parted : Doc → Doc → Bool
 are_parted (list ds) (list es) = true
 are_parted (object ms) (object ns) = true
@@ -18,48 +18,48 @@ have_parts None q = false
 have_parts (Some d) None = false
 have_parts (Some d) (Some e) = are_parted d e
 
--- The two differ at the path, where None is that nothing stands there: they are not the same, and
--- not two with parts; below a step they are two with parts, and what stands behind the step
--- differs.
+-- Two values differ at the path, where `None` means that there is no value. At the end of the path
+-- they are not equal and do not both have parts. Before each step both have parts, and their values
+-- after the step differ at the rest of the path.
 abbrev pub DifferAt : List Step → Option Doc → Option Doc → Type 0
 DifferAt [] o q = (o ≢ q) × (have_parts o q ≡ false)
 DifferAt (s ∷ p) o q = (have_parts o q ≡ true)
     × DifferAt p (option_and_then (step s) o) (option_and_then (step s) q)
 
--- A path, and what each of the two documents A and B has there.
+-- A path, and the value of each of the two documents A and B there.
 pub record Difference : Type 0 where
   pub path : List Step
   pub of_a : Option Doc
   pub of_b : Option Doc
 
--- These are the differences of the documents: each path that is told is one at which they differ,
--- with what each has there, each such path is told, and each is before the later ones.
+-- The list contains exactly the differences of the documents. They differ at each path of the list
+-- and have these values there. Each path at which they differ is in the list, and each path
+-- precedes the later ones.
 pub record AreDifferences (a b : Doc) (told : List Difference) : Type 0 where
   pub differ : All (λ x. DifferAt x.path (Some a) (Some b)) told
   pub values : All (λ x. (x.of_a ≡ at x.path a) × (x.of_b ≡ at x.path b)) told
   pub every : (p : List Step) → DifferAt p (Some a) (Some b) → Contains (map (λ x. x.path) told) p
   pub ordered : AllPairs IsBefore (map (λ x. x.path) told)
 
--- ---- put in
+-- ---- inserting values
 
--- What a path shows of a document without its parts.
+-- The value at a path without its parts.
 abbrev pub form : Doc → Doc
 form (list ds) = list no_items
 form (object ms) = object no_members
 form d = d
 
--- The path is none of these, and leads through none.
+-- The path is not one of these, and leads through none of them.
 abbrev pub IsApart : List Difference → List Step → Type 0
 IsApart told p = All (λ x. (rest : List Step) → p ≡ x.path ++ rest → ⊥) told
 
--- The document is A's with the values of B put at the paths that are told: there stands what B has,
--- and apart from these what A has.
+-- The document is A's with the values of B inserted at the paths of the list: it has B's values
+-- there. At all other paths it has A's values, compared without their parts.
 pub record HasValuesOfB (told : List Difference) (a put : Doc) : Type 0 where
   pub at_told : All (λ x. at x.path put ≡ x.of_b) told
   pub apart : (p : List Step) → IsApart told p
       → option_map form (at p put) ≡ option_map form (at p a)
 
--- B's document is the one that has them: of documents whose members stand in order, it and no
--- other.
+-- Among the documents whose members are in order, exactly B's document has these values.
 abbrev pub PutInIsB : List Difference → Doc → Doc → Type 0
 PutInIsB told a b = (put : Doc) → is_ordered put ≡ true → HasValuesOfB told a put ↔ (put ≡ b)

@@ -1,5 +1,5 @@
--- The lines that tell differences. Source: own; a path is written as a place of a mask is, with the
--- place of an item in its brackets.
+-- Differences as lines. Source: own. A path is written like a path of a mask rule, with the index
+-- of an item in brackets.
 use Rattle.std.specs.Prelude.{ℕ, ◌-◌, ◌==◌, Bool, true, false, cond, not, ◌&&◌, ◌||◌, nat_lt, List}
 use Rattle.std.specs.Prelude.{[], ◌∷◌, ◌++◌, length, Option, Some, None, codes, decimal}
 use Rattle.std.specs.Prelude.{if◌then◌else◌}
@@ -10,7 +10,7 @@ use Rattle.dap_tree.specs.Json.{text_of}
 use Rattle.dap_tree.specs.Path.{Step, name, place}
 use Rattle.dap_difference.specs.Differences.{Difference}
 
--- A byte of a name that is written as it is: a letter, a digit, `_`, `-` or `$`.
+-- A byte of a name that is printed without quoting: a letter, a digit, `_`, `-` or `$`.
 abbrev pub is_plain : ℕ → Bool
 is_plain b = is_ascii_alphanumeric b || ((b == 95) || ((b == 45) || (b == 36)))
 
@@ -18,12 +18,12 @@ abbrev pub are_plain : List ℕ → Bool
 are_plain [] = true
 are_plain (b ∷ s) = is_plain b && are_plain s
 
--- A name of these bytes alone, at least one of them.
+-- A nonempty name that consists only of these bytes.
 abbrev pub is_plain_name : List ℕ → Bool
 is_plain_name [] = false
 is_plain_name (b ∷ s) = are_plain (b ∷ s)
 
--- A name as it is, or as a JSON string.
+-- A name, unchanged or as a JSON string.
 abbrev pub name_text : List ℕ → List ℕ
 name_text k = if is_plain_name k then k else text_of (text k)
 
@@ -31,13 +31,13 @@ abbrev pub step_text : Step → List ℕ
 step_text (name k) = codes "." ++ name_text k
 step_text (place n) = codes "[" ++ decimal n ++ codes "]"
 
--- A path, as `body.stackFrames[2].line`; `.` is the whole document.
+-- A path, such as `body.stackFrames[2].line`; `.` is the entire document.
 abbrev pub path_text : List Step → List ℕ
 path_text [] = codes "."
 path_text (name k ∷ p) = name_text k ++ flat_map step_text p
 path_text (place n ∷ p) = flat_map step_text (place n ∷ p)
 
--- A byte that goes on the character of the byte before it (UTF-8).
+-- A continuation byte (UTF-8): it belongs to the same character as the byte before it.
 abbrev pub goes_on : ℕ → Bool
 goes_on b = not (nat_lt b 128) && nat_lt b 192
 
@@ -48,23 +48,23 @@ first_characters n (b ∷ s) =
     cond (goes_on b) (b ∷ first_characters n s)
     (cond (nat_lt 0 n) (b ∷ first_characters (n - 1) s) [])
 
--- A text, cut behind 200 characters with `...`.
+-- A string, truncated after 200 characters with `...`.
 abbrev pub cut : List ℕ → List ℕ
 cut s = first_characters 200 s
     ++ (if nat_lt (length (first_characters 200 s)) (length s) then codes "..." else [])
 
--- The line of what one of the documents has at a path: none, where it has nothing there.
+-- The line for the value of one document at a path, or no line if it has no value there.
 abbrev pub value_line : List ℕ → List Step → Option Doc → List ℕ
 value_line side p None = []
 value_line side p (Some d) =
     side ++ codes " " ++ path_text p ++ codes " " ++ cut (text_of d) ++ codes "\n"
 
--- The lines of a difference: what A has, and what B has.
+-- The lines of a difference: the value of A, and the value of B.
 abbrev pub difference_lines : Difference → List ℕ
 difference_lines x =
     value_line (codes "A") x.path x.of_a ++ value_line (codes "B") x.path x.of_b
 
--- What is told of a difference can be written.
+-- The values of a difference can be written.
 abbrev pub is_sound_value : Option Doc → Bool
 is_sound_value None = true
 is_sound_value (Some d) = is_sound d

@@ -1,4 +1,4 @@
--- What contracts see of a difference.
+-- The model of a difference.
 use Rattle.std.specs.Prelude.{List, map, Option, Some, None}
 use Rattle.dap_tree.specs.Doc.{Doc}
 use Rattle.dap_tree.specs.Path.{Step, name, place}
@@ -17,7 +17,7 @@ step_of (Item n) = place n
 abbrev pub path_of : List CodeStep → List Step
 path_of steps = map step_of steps
 
--- What A and what B has there.
+-- The values of A and of B at the path.
 abbrev pub value_of_a : Values → Option Doc
 value_of_a (OnlyA t) = Some (view t.now)
 value_of_a (OnlyB t) = None

@@ -14,7 +14,7 @@ same_boolean true b = b
 same_boolean false true = false
 same_boolean false false = true
 
--- The two are the same, and have no parts.
+-- Both are equal and have no parts.
 abbrev pub same_scalar : Doc → Doc → Bool
 same_scalar null null = true
 same_scalar (boolean a) (boolean b) = same_boolean a b
@@ -23,23 +23,23 @@ same_scalar (text s) (text t) = bytes_eq s t
 same_scalar (id s y) (id t z) = same_sort s t && int_eq y z
 same_scalar _ _ = false
 
--- One side alone has something behind the step.
+-- Only one document has a value after the step.
 abbrev pub only_a : Step → Doc → Difference
 only_a s d = record { path = s ∷ []; of_a = Some d; of_b = None }
 
 abbrev pub only_b : Step → Doc → Difference
 only_b s e = record { path = s ∷ []; of_a = None; of_b = Some e }
 
--- The two, where they are not the same.
+-- The difference of the two, unless they are equal scalars.
 abbrev pub both : Doc → Doc → List Difference
 both d e =
     cond (same_scalar d e) [] (record { path = []; of_a = Some d; of_b = Some e } ∷ [])
 
--- A difference behind a step.
+-- A difference after a step.
 abbrev pub behind : Step → Difference → Difference
 behind s x = record { path = s ∷ x.path; of_a = x.of_a; of_b = x.of_b }
 
--- The items from the place n on, that B alone has.
+-- The items from index n on, which only B has.
 abbrev pub items_of_b : ℕ → Items → List Difference
 items_of_b n no_items = []
 items_of_b n (item e es) = only_b (place n) e ∷ items_of_b (suc n) es
@@ -48,8 +48,8 @@ abbrev pub members_of_b : Members → List Difference
 members_of_b no_members = []
 members_of_b (member l e ns) = only_b (name l) e ∷ members_of_b ns
 
--- The differences from A's member k on, where B has these members left: `differ` tells those of the
--- member d, and `rest` those behind it.
+-- The differences from A's member k on, if these are B's remaining members: `differ` yields those
+-- of the member d, and `rest` those after it.
 abbrev pub from_member : List ℕ → Doc → (Doc → List Difference) → (Members → List Difference)
     → Members → List Difference
 from_member k d differ rest no_members = only_a (name k) d ∷ rest no_members
@@ -65,7 +65,7 @@ abbrev mutual
   differences (object ms) (object ns) = members_differences ms ns
   differences d e = both d e
 
-  -- the items stand from the place n on
+  -- the items start at index n
   pub items_differences : ℕ → Items → Items → List Difference
   items_differences n no_items es = items_of_b n es
   items_differences n (item d ds) no_items =
@@ -78,6 +78,6 @@ abbrev mutual
   members_differences (member k d ms) ns =
       from_member k d (λ e. differences d e) (λ es. members_differences ms es) ns
 
--- A difference behind a path.
+-- A difference after a path.
 abbrev pub below : List Step → Difference → Difference
 below p x = record { path = p ++ x.path; of_a = x.of_a; of_b = x.of_b }

@@ -1,4 +1,4 @@
--- What the steps of telling differences do.
+-- The effects of the steps of finding differences.
 use Rattle.std.specs.Prelude.{◌≡◌, ℕ, false, List, ◌∷◌, ◌++◌, map, String, string_bytes}
 use Rattle.std.specs.Prelude.{Option, Some, None}
 use Rattle.std.specs.Borrow.{Bor}
@@ -14,13 +14,13 @@ use Rattle.dap_difference.specs.Shown.{path_of, told}
 use Rattle.dap_difference.specs.declared.difference.Step.{Step}
 use Rattle.dap_difference.specs.declared.difference.Difference.{Difference as CodeDifference}
 
--- These differences behind the path are appended.
+-- These differences, at paths that start with the given one, are appended.
 abbrev pub Appends : List Step → List CodeDifference → List CodeDifference → List Difference
     → Type 0
 Appends steps old new xs = told new ≡ told old ++ map (below (path_of steps)) xs
 
--- The members that were passed stand below the name, and are told: with those that are left, the
--- rest from that name on is told as with all.
+-- The members that were passed are below the name, and are appended. With the remaining members,
+-- the differences from that name on are the same as with all members.
 abbrev pub PassesLower : List ℕ → List Step → List (String Global × Tree)
     → List (String Global × Tree) → List CodeDifference → List CodeDifference → Type 0
 PassesLower k steps all left old new = (d : Doc) (differ : Doc → List Difference)
@@ -28,7 +28,7 @@ PassesLower k steps all left old new = (d : Doc) (differ : Doc → List Differen
     → told new ++ map (below (path_of steps)) (from_member k d differ rest (members_view left))
     ≡ told old ++ map (below (path_of steps)) (from_member k d differ rest (members_view all))
 
--- The first of the members does not stand below the name.
+-- The first of the members is not below the name.
 abbrev pub HasNoLower : List ℕ → Members → Type 0
 HasNoLower k no_members = Unit {0}
 HasNoLower k (member l e ns) = is_gt (slice_cmp nat_cmp k l) ≡ false
@@ -38,7 +38,8 @@ abbrev pub HasOtherFirst : List ℕ → Members → Type 0
 HasOtherFirst k no_members = Unit {0}
 HasOtherFirst k (member l e ns) = l ≡ k → ⊥
 
--- The first of the members is taken, where it has the name; else nothing is.
+-- The first of the members is returned and removed if it has the name; otherwise, nothing is
+-- removed.
 abbrev pub TakesNamed : List ℕ → List (String Global × Tree) → List (String Global × Tree)
     → Option (Bor Tree) → Type 0
 TakesNamed k old new (Some t) = (m : String Global) × (string_bytes m ≡ k)

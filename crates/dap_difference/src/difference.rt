@@ -6,11 +6,11 @@ use dap_tree::Tree;
 pub enum Step<'t> {
     /// To the member of that name of an object.
     Member(&'t str),
-    /// To the item at that place of a list, counted from 0.
+    /// To the item at that index of an array, counted from 0.
     Item(usize),
 }
 
-/// What the trees A and B have at a path.
+/// The values of the trees A and B at a path.
 #[derive(Clone, Copy)]
 pub enum Values<'t> {
     OnlyA(&'t Tree),
@@ -18,7 +18,7 @@ pub enum Values<'t> {
     Both(&'t Tree, &'t Tree),
 }
 
-/// A path at which two trees differ, and what each of them has there.
+/// A path at which two trees differ, and the value of each tree there.
 #[derive(Drop)]
 pub struct Difference<'t> {
     pub path: Vec<Step<'t>>,

@@ -1,7 +1,9 @@
-//! Laws of differences. Each function does nothing: a call of it gives its clauses to a proof.
+//! Theorems about differences. Each function is empty: calling it makes its `ensures` clauses
+//! available to the caller's proof.
 ghost use Rattle.dap_difference.specs.Laws.{NoneWhereSame};
 
-/// Nothing is told of two documents exactly where they are the same.
+/// States that two documents whose members are in order have no differences if and only if they are
+/// equal.
 pub fn nothing_differs_where_they_are_the_same()
     ensures { NoneWhereSame }
 {}

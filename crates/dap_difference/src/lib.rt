@@ -1,7 +1,7 @@
-//! How two trees differ: the leaves that differ, each with its path and what each tree has there.
+//! The differences of two trees: the leaves that differ, each with its path and the value of each
+//! tree there.
 //!
-//! [`differences`] finds them, and [`difference_text`] tells them in lines. `specs/` says what that
-//! means.
+//! [`differences`] finds them, and [`difference_text`] prints them in lines. `specs/` defines both.
 #![tactic(auto)]
 
 mod difference;

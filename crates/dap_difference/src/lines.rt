@@ -1,4 +1,4 @@
-//! Lines that tell differences, for people.
+//! Prints differences as lines for human readers.
 ghost use Rattle.std.specs.Prelude.{◌≡◌, ◌++◌, ◌≤◌, [], true, Some, length, take, IfOk, IsOk};
 ghost use Rattle.std.specs.Prelude.{OnOk};
 ghost use Rattle.std.specs.List.{flat_map};
@@ -18,10 +18,10 @@ use dap_tree::{Tree, write_tree};
 use itoa::Buffer;
 use std::alloc::{AllocError, Global};
 
-/// How many characters of a value are shown.
+/// The maximum number of characters of a value that are printed.
 const SHOWN: usize = 200;
 
-/// Whether a byte of a name is written as it is.
+/// Returns whether a byte of a name is printed without quoting.
 fn is_plain(byte: u8) -> bool
     ensures { result ≡ is_plain byte }
 {
@@ -39,7 +39,7 @@ fn are_plain(bytes: &[u8]) -> bool
     true
 }
 
-/// Whether a name is written as it is.
+/// Returns whether a name is printed without quoting.
 fn is_plain_name(name: &[u8]) -> bool
     ensures { result ≡ is_plain_name name.now }
 {
@@ -49,7 +49,7 @@ fn is_plain_name(name: &[u8]) -> bool
     }
 }
 
-/// Appends a name, as it is or as a JSON string.
+/// Appends a name, unchanged or as a JSON string.
 fn push_name(alloc: Global, name: &str, out: &mut Vec<u8>) -> Result<(), AllocError>
     ensures { OnOk result (out.new.items ≡ out.old.items ++ name_text name.now) }
 {
@@ -63,7 +63,7 @@ fn push_name(alloc: Global, name: &str, out: &mut Vec<u8>) -> Result<(), AllocEr
     out.extend_from_slice(text.as_bytes())
 }
 
-/// Appends a step behind another.
+/// Appends a step that is not the first of its path.
 fn push_step(alloc: Global, step: Step<'_>, out: &mut Vec<u8>) -> Result<(), AllocError>
     ensures { OnOk result (out.new.items ≡ out.old.items ++ step_text (step_of step.entry)) }
 {
@@ -81,7 +81,7 @@ fn push_step(alloc: Global, step: Step<'_>, out: &mut Vec<u8>) -> Result<(), All
     }
 }
 
-/// Appends the steps behind the first.
+/// Appends the steps after the first one.
 fn push_steps(alloc: Global, steps: &[Step<'_>], out: &mut Vec<u8>) -> Result<(), AllocError>
     ensures { OnOk result
         (out.new.items ≡ out.old.items ++ flat_map step_text (path_of steps.now)) }
@@ -92,11 +92,11 @@ fn push_steps(alloc: Global, steps: &[Step<'_>], out: &mut Vec<u8>) -> Result<()
     Ok(())
 }
 
-/// Appends a path, as `body.stackFrames[2].line`; `.` is the path of the whole document.
+/// Appends a path, such as `body.stackFrames[2].line`. The path of the entire document is `.`.
 ///
 /// # Errors
 ///
-/// An allocation failed.
+/// - `AllocError`: an allocation failed.
 pub fn push_path(alloc: Global, path: &[Step<'_>], out: &mut Vec<u8>) -> Result<(), AllocError>
     ensures { OnOk result (out.new.items ≡ out.old.items ++ path_text (path_of path.now)) }
 {
@@ -110,14 +110,14 @@ pub fn push_path(alloc: Global, path: &[Step<'_>], out: &mut Vec<u8>) -> Result<
     }
 }
 
-/// Whether a byte goes on the character of the byte before it.
+/// Returns whether a byte belongs to the same character as the byte before it.
 fn goes_on(byte: u8) -> bool
     ensures { result ≡ goes_on byte }
 {
     byte >= 128 && byte < 192
 }
 
-/// How many bytes the characters have that are shown of a text.
+/// Returns the length in bytes of the characters that are printed of a string.
 fn shown_length(text: &[u8]) -> usize
     ensures front { take result text.now ≡ first_characters 200 text.now }
     ensures within { result ≤ length text.now }
@@ -134,7 +134,7 @@ fn shown_length(text: &[u8]) -> usize
     text.len()
 }
 
-/// Appends a text, cut where it is long.
+/// Appends a string, truncated if it is long.
 fn push_cut(text: &[u8], out: &mut Vec<u8>) -> Result<(), AllocError>
     ensures { OnOk result (out.new.items ≡ out.old.items ++ cut text.now) }
 {
@@ -146,7 +146,7 @@ fn push_cut(text: &[u8], out: &mut Vec<u8>) -> Result<(), AllocError>
     Ok(())
 }
 
-/// Appends the line of what one side has at a path.
+/// Appends the line for the value of one side at a path.
 fn push_line(
     alloc: Global,
     side: &str,
@@ -169,7 +169,7 @@ fn push_line(
     out.extend_from_slice(b"\n")
 }
 
-/// Appends the lines of what the trees have at a path.
+/// Appends the lines for the values of the trees at a path.
 fn push_values(
     alloc: Global,
     path: &[Step<'_>],
@@ -190,15 +190,15 @@ fn push_values(
     }
 }
 
-/// The lines that tell the differences of two sound trees, in the order of their paths.
+/// Returns the differences of two sound trees as lines, in the order of their paths.
 ///
-/// A line is `A` or `B`, the path, and the JSON text of what that tree has there, cut behind 200
-/// characters with `...`; `body.stackFrames[2].line` is a path. What just one of the trees has is
-/// told on that one's line alone. Two equal scalars take no memory.
+/// A line consists of `A` or `B`, the path, and the JSON text of that tree's value there, truncated
+/// after 200 characters with `...`. A path is, for example, `body.stackFrames[2].line`. A value
+/// that exists in only one of the trees has only one line. Does not allocate for two equal scalars.
 ///
 /// # Errors
 ///
-/// An allocation failed.
+/// - `AllocError`: an allocation failed.
 pub fn difference_text(alloc: Global, a: &Tree, b: &Tree) -> Result<Vec<u8>, AllocError>
     requires a { is_sound (view a.now) ≡ true }
     requires b { is_sound (view b.now) ≡ true }

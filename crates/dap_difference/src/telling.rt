@@ -1,4 +1,4 @@
-//! The differences of two trees, leaf by leaf.
+//! Finds the differences of two trees, leaf by leaf.
 ghost use Rattle.std.specs.Prelude.{◌≡◌, ◌∷◌, ◌++◌, [], drop, IfOk, IsOk, OnOk, true};
 ghost use Rattle.dap_tree.specs.Doc.{is_ordered};
 ghost use Rattle.dap_tree.specs.View.{view, items_view, members_view};
@@ -17,15 +17,15 @@ use std::cmp::Ordering;
 use std::collections::BTreeMap;
 use std::collections::btree_map::Iter;
 
-/// The differences of two trees, in the order of their paths: each leaf that differs.
+/// Returns the differences of two trees, in the order of their paths: each leaf that differs.
 ///
-/// Lists and objects that both have are gone into; a list or an object that just one of them has is
-/// told as a whole. An id and a number that is none differ, also where they are written alike. Two
-/// equal scalars take no memory.
+/// Two arrays or two objects at the same path are compared part by part. Any other two values that
+/// differ are one difference, and so is a value that exists in only one of the trees. An id and an
+/// integer differ, even if their text is the same. Does not allocate for two equal scalars.
 ///
 /// # Errors
 ///
-/// Memory was refused.
+/// - `AllocError`: an allocation failed.
 pub fn differences<'t>(
     alloc: Global,
     a: &'t Tree,
@@ -34,18 +34,18 @@ pub fn differences<'t>(
     ensures told { IfOk result
         (λ found. told found.items ≡ differences (view a.now) (view b.now)) }
 
-    // Where members stand in order, as in each tree that is read, the paths are exactly those at
-    // which the documents differ, each with what both have there.
+    // If the members are in order, as in every tree that was read, the paths are exactly those at
+    // which the documents differ. Each path has the values of both documents.
     ensures exactly { IfOk result (λ found. is_ordered (view a.now) ≡ true
         → is_ordered (view b.now) ≡ true
         → AreDifferences (view a.now) (view b.now) (told found.items)) }
 
-    // And B's values put at them make A's document B's.
+    // Inserting B's values at these paths turns A's document into B's.
     ensures put_in { IfOk result (λ found. is_ordered (view a.now) ≡ true
         → is_ordered (view b.now) ≡ true
         → PutInIsB (told found.items) (view a.now) (view b.now)) }
 
-    // Two equal scalars have no differences, and that is known without any growth.
+    // Two equal scalars have no differences, and this is found without allocating.
     ensures scalars { same_scalar (view a.now) (view b.now) ≡ true → IsOk result }
 {
     let mut path = Vec::new(alloc);
@@ -54,7 +54,7 @@ pub fn differences<'t>(
     Ok(found)
 }
 
-/// Whether both are the same, and neither is a list or an object.
+/// Returns whether both are equal and neither is an array or an object.
 fn same_scalar(a: &Tree, b: &Tree) -> bool
     ensures { result ≡ same_scalar (view a.now) (view b.now) }
 {
@@ -68,7 +68,7 @@ fn same_scalar(a: &Tree, b: &Tree) -> bool
     }
 }
 
-/// Adds the difference at a path.
+/// Appends the difference at a path.
 fn add_found<'t>(
     alloc: Global,
     path: &[Step<'t>],
@@ -83,7 +83,7 @@ fn add_found<'t>(
     Ok(())
 }
 
-/// Adds the difference behind a step, where just one of the trees has something.
+/// Appends the difference after a step, if the value exists in exactly one of the trees.
 fn add_behind<'t>(
     alloc: Global,
     step: Step<'t>,
@@ -101,7 +101,7 @@ fn add_behind<'t>(
     Ok(())
 }
 
-/// Adds the two, where they are not the same.
+/// Appends the difference of the two trees, unless they are equal scalars.
 fn add_both<'t>(
     alloc: Global,
     a: &'t Tree,
@@ -120,7 +120,7 @@ fn add_both<'t>(
     }
 }
 
-/// Adds the differences of two trees that stand at a path.
+/// Appends the differences of two trees at a path.
 #[cycle(add)]
 fn add<'t>(
     alloc: Global,
@@ -172,7 +172,7 @@ fn add_items<'t>(
     add_items_of_b(alloc, others, items.len(), path, found)
 }
 
-/// Adds B's items from a place on, where A has none.
+/// Appends B's items from index `first` on, which do not exist in A.
 fn add_items_of_b<'t>(
     alloc: Global,
     items: &'t Vec<Tree>,
@@ -222,7 +222,7 @@ fn add_members<'t>(
     add_members_of_b(alloc, left, path, found)
 }
 
-/// Adds B's members that stand below a name, of those that are left.
+/// Appends those of B's remaining members whose names are below the given name.
 fn add_lower<'t>(
     alloc: Global,
     name: &str,
@@ -251,7 +251,7 @@ fn add_lower<'t>(
     }
 }
 
-/// Takes the next of B's members, where it has that name.
+/// Returns the next of B's members and advances, if it has that name.
 fn next_named<'t>(
     name: &str,
     left: &mut Iter<'t, String, Tree>,
@@ -272,7 +272,7 @@ fn next_named<'t>(
     }
 }
 
-/// Adds B's members that are left, which A does not have.
+/// Appends B's remaining members, which do not exist in A.
 fn add_members_of_b<'t>(
     alloc: Global,
     left: Iter<'t, String, Tree>,

@@ -7,8 +7,8 @@ use dap_mask::MaskRules;
 use dap_rules_input::{ApplyRefused, mask_bytes};
 use std::alloc::{AllocError, Global};
 
-/// Explains why rules cannot be applied to a recording. The text is empty if a read or an allocation
-/// failed.
+/// Explains why rules cannot be applied to a recording. Returns an empty string if a read or an
+/// allocation failed.
 pub fn explain_applying(
     alloc: Global,
     recording: &[u8],
@@ -25,8 +25,9 @@ pub fn explain_applying(
     }
 }
 
-/// Explains why the masked recording is rejected, which is made again. The text is empty if its text
-/// in order exceeds a limit: the records of that text are not those of the masked recording.
+/// Masks the recording again and explains why the masked recording is rejected. Returns an empty
+/// string for `Grew` if some of the rules are for the order: its record may be numbered in the text
+/// in order, not in the masked recording.
 pub(crate) fn explain_session(
     alloc: Global,
     recording: &[u8],

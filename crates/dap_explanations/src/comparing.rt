@@ -1,4 +1,4 @@
-//! Explains why one of two inputs is refused.
+//! Explains why one of two inputs is rejected.
 ghost use Rattle.dap_input.specs.Limits.{AreSound};
 
 use dap_compare::{CompareRefused, Which, compare_with};
@@ -9,7 +9,7 @@ use dap_rename::{Mode, Tables};
 use std::alloc::{AllocError, Global};
 use std::hash::RandomState;
 
-/// Explains why one of two inputs is refused. They are compared again to find the refusal.
+/// Explains why one of two inputs is rejected. Compares them again to find the error.
 pub fn explain_comparison(
     alloc: Global,
     a: &[u8],

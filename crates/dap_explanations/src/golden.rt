@@ -8,8 +8,8 @@ use dap_input::{Limits, Refused};
 use dap_mask::MaskRules;
 use std::alloc::{AllocError, Global};
 
-/// Explains why an input has no golden text. The recording that was refused is made again. The
-/// text is empty if the session has no records, or if an allocation failed.
+/// Explains why an input has no golden text. Creates the rejected recording again. Returns an empty
+/// string if the session has no records, or if an allocation failed.
 pub fn explain_golden(
     alloc: Global,
     input: &[u8],
@@ -45,7 +45,8 @@ fn explain_rules_on(
     }
 }
 
-/// Explains why the recording of an input is rejected, after the rules if there are some.
+/// Explains why the recording of an input is rejected, after the rules are applied if there are
+/// any.
 fn explain_session_of(
     alloc: Global,
     input: &[u8],

@@ -1,4 +1,4 @@
-//! Explains why a job over one input refused it.
+//! Explains why a job with one input rejected it.
 ghost use Rattle.dap_input.specs.Limits.{AreSound};
 ghost use Rattle.dap_normal.specs.NameTables.{AreReady};
 ghost use Rattle.dap_rename.specs.IndexNames.{index_limit, index_numbers};
@@ -16,8 +16,8 @@ use std::alloc::{AllocError, Global};
 use std::hash::RandomState;
 use std::io;
 
-/// Explains why `record`, `compact`, `show`, `normalise` or `check` refused an input. The job is
-/// done again to find the refusal, and its output is dropped. Of other jobs the text is empty.
+/// Explains why `record`, `compact`, `show`, `normalise` or `check` rejected an input. Runs the job
+/// again to find the error, and discards its output. Returns an empty string for any other job.
 pub fn explain_job(
     alloc: Global,
     job: &Job<'_>,
@@ -41,7 +41,7 @@ fn tables(alloc: Global, limits: Limits, hasher: RandomState) -> Tables<IndexNam
     Tables::indexed(alloc, limits.ids, hasher)
 }
 
-/// Returns why a job refuses an input.
+/// Returns why a job rejects an input.
 fn refusal_of(
     alloc: Global,
     job: &Job<'_>,

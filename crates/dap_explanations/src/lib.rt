@@ -1,8 +1,8 @@
-//! Finds why a command refused its inputs, and explains it in lines for people.
+//! Finds why a command rejected its inputs, and explains it in lines for people.
 //!
-//! The commands report a refusal in one line and return a status. Each function here does the work
-//! again on the bytes that the command read, finds the refusal, and has `dap_explain` explain it.
-//! The text is empty if the inputs are not refused. What the lines say is only tested.
+//! The commands report a rejection in one line and return a status. Each function here does the
+//! work again on the bytes that the command read, finds the error, and lets `dap_explain` explain
+//! it. The result is empty if the inputs are not rejected. The explanations are tested, not proved.
 #![tactic(auto)]
 
 mod applying;

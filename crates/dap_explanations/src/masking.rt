@@ -24,7 +24,7 @@ pub fn explain_mask(
     }
 }
 
-/// Explains why rules cannot mask an input, which is masked again to find the refusal.
+/// Explains why rules cannot mask an input. Masks it again to find the error.
 fn explain_masking(
     alloc: Global,
     rules: &MaskRules,

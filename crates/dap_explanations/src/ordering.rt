@@ -25,8 +25,8 @@ pub fn explain_order(
     }
 }
 
-/// Explains why an input is rejected, which is put in order again to find the error. The text is
-/// empty if the text in order exceeds a limit: its records are not those of the input.
+/// Explains why an input is rejected. Puts it in order again to find the error. Returns an empty
+/// string for `Grew`: its record may be numbered in the text in order, not in the input.
 fn explain_ordering(
     alloc: Global,
     rules: &MaskRules,

@@ -8,8 +8,8 @@ use dap_show::{ShowRequest, show_faulty, show_record, show_with};
 use std::alloc::{AllocError, Global};
 use std::io;
 
-/// Explains why an input was not shown, or why the first marked record was marked. The input is
-/// shown again to find the refusal, and the output is dropped.
+/// Explains why an input was not shown, or why the first marked record was marked. Shows the input
+/// again to find the error, and discards the output.
 pub fn explain_view(
     alloc: Global,
     request: ShowRequest,

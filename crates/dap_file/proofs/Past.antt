@@ -1,4 +1,4 @@
--- A content joins those that were under the name before.
+-- A content is added to those that were under the name before.
 use Rattle.std.proofs.Common.{◌≡◌, ◌⊎◌, inl, inr, ⊎_elim, ℕ, zero, suc, ◌≤◌, refl, sym, ◌∙◌, ap}
 use Rattle.std.proofs.Common.{subst, arith, List, [], ◌∷◌, ◌++◌, length, drop, map, Option, Vec}
 use Rattle.std.proofs.Common.{length-append}
@@ -32,7 +32,7 @@ drop_push zero past last le = refl
 drop_push (suc t) [] last le = absurd (omega arith)
 drop_push (suc t) (earlier ∷ past) last le = drop_push t past last (omega arith)
 
--- the target changed once
+-- The target changed once.
 module _ (old new : MemoryState) (pushed : new.past ≡ old.past ++ old.target ∷ []) where
   since : (t : ℕ) → t ≤ length old.past → drop t new.past ≡ drop t old.past ++ old.target ∷ []
   since t le = ap (drop t) pushed ∙ drop_push t old.past old.target le

@@ -1,4 +1,4 @@
--- Calls that leave the file under the name as it is, one after the other.
+-- A sequence of calls that leave the file under the name unchanged.
 use Rattle.std.proofs.Common.{◌≡◌, inl, inr, ⊎_elim, ℕ, ◌+◌, refl, sym, ◌∙◌, ap}
 use Rattle.std.proofs.Common.{List, ◌++◌, take, drop, Some, arith}
 use Rattle.std.proofs.Math.Seq.{take-add}
@@ -9,7 +9,7 @@ use Rattle.dap_file.specs.Replacing.{IsUntouched}
 use Rattle.dap_file.specs.declared.file.Replaceable.{Ghosts as Replaceable}
 
 module _ {F : Type 0} (moment : F → ℕ) (left_since : F → ℕ → Content → Type 0) where
-  -- before the first call
+  -- Before the first call.
   pub leaves_start : (P : Content → Type 0) (old : F)
       → ((c : Content) → left_since old (moment old) c → P c)
       → LeavesOnly moment left_since P old old
@@ -19,7 +19,7 @@ module _ {F : Type 0} (moment : F → ℕ) (left_since : F → ℕ → Content �
     before = λ t c le left. inl left;
   }
 
-  -- one more call, after which a crash leaves what has P
+  -- After one more call, after which every content that a crash leaves satisfies P.
   pub leaves_more : (P : Content → Type 0) (may_leave : F → Content → Type 0) (old mid new : F)
       → LeavesOnly moment left_since P old mid → Elapses moment left_since may_leave mid new
       → ((c : Content) → may_leave new c → P c) → LeavesOnly moment left_since P old new
@@ -52,7 +52,7 @@ module _ {F : Type 0} (file : Replaceable F) where
             old mid new so_far.any_moment time crash;
       }
 
--- a write behind a prefix leaves a longer prefix
+-- A write after a prefix leaves a longer prefix.
 pub appended_prefix : (before after : Content) (bytes : List ℕ) (at count : ℕ)
     → before ≡ Some (take at bytes)
     → after ≡ option_map (λ written. written ++ take count (drop at bytes)) before

@@ -1,4 +1,5 @@
-//! A file that can be read and replaced: what each call does to it, and what a crash may leave.
+//! Defines a file that can be read and replaced: the effect of each call, and what a crash may
+//! leave.
 ghost use Rattle.std.specs.Prelude.{◌≡◌, ◌⊎◌, ◌↔◌, ◌+◌, ◌<◌, ◌≤◌, ◌++◌, ◌^◌, [], List, ℕ, Option};
 ghost use Rattle.std.specs.Prelude.{length, take, Some, None, IfOk, IfSome, IsErrOf, IsSome, OnErr, OnOk};
 ghost use Rattle.std.specs.Option.{option_map};
@@ -10,7 +11,7 @@ ghost use Rattle.dap_file.specs.Calls.{MayBeRenamed};
 
 use std::alloc::Global;
 
-/// A call on the file system failed. The type that implements [`Replaceable`] keeps the reason.
+/// A call on the file system failed. The type that implements [`Replaceable`] stores the reason.
 #[derive(Clone, Copy, Debug, PartialEq, Eq)]
 pub struct FileFault {}
 
@@ -28,59 +29,59 @@ pub enum ReadFault {
 /// A step of a replacement.
 #[derive(Clone, Copy, Debug, PartialEq, Eq)]
 pub enum Step {
-    /// Making the temporary file.
+    /// Create the temporary file.
     Create,
-    /// Writing the bytes to the temporary file.
+    /// Write the bytes to the temporary file.
     Write,
-    /// Syncing the temporary file.
+    /// Sync the temporary file.
     Sync,
-    /// Giving the temporary file the name.
+    /// Rename the temporary file to the name of the file.
     Rename,
-    /// Syncing the folder.
+    /// Sync the folder.
     SyncFolder,
 }
 
 /// A file that can be read, and replaced through a temporary file in the same folder.
 ///
-/// The clauses of the calls are those of POSIX for a file system that keeps what was synced. They
-/// hold of a file whose members are known. The count of failures holds of every file.
+/// The clauses of the calls are those of POSIX for a file system that does not lose synced data.
+/// They apply only to a file whose model is known. The count of failures applies to every file.
 pub trait Replaceable {
     /// The members below describe this file. They do not describe a file of the operating system,
-    /// of whose content no contract can speak.
+    /// whose content is outside all contracts.
     ghost is_known: { Self → Type 0 };
 
-    /// What a reader finds under the name now.
+    /// The content that a reader now finds under the name.
     ghost target: { Self → Content };
 
-    /// The temporary file, if this value has made one.
+    /// The content of the temporary file, if this value has created one.
     ghost temporary: { Self → Content };
 
-    /// What a crash at this moment may leave under the name.
+    /// The contents that a crash at this moment may leave under the name.
     ghost may_leave: { Self → Content → Type 0 };
 
-    /// What the temporary file may be after a crash at this moment.
+    /// The contents that a crash at this moment may leave in the temporary file.
     ghost may_hold: { Self → Content → Type 0 };
 
-    /// The moment, as a number that does not fall.
+    /// The current moment, as a number that never decreases.
     ghost moment: { Self → ℕ };
 
-    /// What a crash at some moment from that one on might have left under the name, during a call
-    /// or between two.
+    /// The contents that a crash at or after that moment could have left under the name, during a
+    /// call or between two calls.
     ghost left_since: { Self → ℕ → Content → Type 0 };
 
-    /// How many calls failed.
+    /// The number of calls that failed.
     ghost failures: { Self → ℕ };
 
-    /// The step at which a call failed last. A failed read or removal does not change it.
+    /// The step at which a call last failed. A failed read or removal does not change it.
     ghost failed_at: { Self → Option Step };
 
-    /// Returns all bytes of the file, or `None` if there is no file.
+    /// Returns all bytes of the file, or `None` if the file does not exist.
     ///
     /// # Errors
     ///
     /// - `Failed`: a call on the file system failed.
     /// - `TooLong`: the file has more than `limit` bytes.
-    /// - `Memory`: an allocation failed. There is a file, and it is not too long.
+    /// - `Memory`: an allocation failed. The file exists and is not longer than the limit.
     fn read(&mut self, alloc: Global, limit: u64) -> Result<Option<Vec<u8>>, ReadFault>
         requires { failures self.old < 2 ^ 63 }
         ensures within { IfOk result (λ found. IfSome found (λ bytes. length bytes.items ≤ limit)) }
@@ -98,7 +99,7 @@ pub trait Replaceable {
         ensures time { is_known self.old
             → Elapses moment left_since may_leave self.old self.new };
 
-    /// Makes the temporary file, with no bytes. Fails if its name is taken.
+    /// Creates the empty temporary file. Fails if its name is already in use.
     fn create(&mut self) -> Result<(), FileFault>
         requires few { failures self.old < 2 ^ 63 }
         requires none { is_known self.old → temporary self.old ≡ None }
@@ -112,7 +113,8 @@ pub trait Replaceable {
             → Elapses moment left_since may_leave self.old self.new };
 
     /// Appends a prefix of the bytes to the temporary file and returns its length, which is 0 only
-    /// if there are no bytes. After an error nothing is known of the temporary file.
+    /// if `bytes` is empty. After an error, nothing is known about the content of the temporary
+    /// file.
     fn write(&mut self, bytes: &[u8]) -> Result<usize, FileFault>
         requires few { failures self.old < 2 ^ 63 }
         requires created { is_known self.old → IsSome (temporary self.old) }
@@ -128,7 +130,7 @@ pub trait Replaceable {
         ensures time { is_known self.old
             → Elapses moment left_since may_leave self.old self.new };
 
-    /// After `Ok`, a crash leaves the temporary file as it is.
+    /// Syncs the temporary file. After `Ok`, a crash leaves it unchanged.
     fn sync(&mut self) -> Result<(), FileFault>
         requires few { failures self.old < 2 ^ 63 }
         requires created { is_known self.old → IsSome (temporary self.old) }
@@ -142,7 +144,8 @@ pub trait Replaceable {
         ensures time { is_known self.old
             → Elapses moment left_since may_leave self.old self.new };
 
-    /// Gives the temporary file the name. After an error it may have the name or not.
+    /// Renames the temporary file to the name of the file. After an error, it may or may not have
+    /// been renamed.
     fn rename(&mut self) -> Result<(), FileFault>
         requires few { failures self.old < 2 ^ 63 }
         requires created { is_known self.old → IsSome (temporary self.old) }
@@ -158,7 +161,7 @@ pub trait Replaceable {
         ensures time { is_known self.old
             → Elapses moment left_since may_leave self.old self.new };
 
-    /// After `Ok`, a crash leaves what is under the name now.
+    /// Syncs the folder. After `Ok`, a crash leaves the current content under the name.
     fn sync_folder(&mut self) -> Result<(), FileFault>
         requires { failures self.old < 2 ^ 63 }
         ensures counted { failures self.new ≡ failures self.old + call_failures result }
@@ -171,7 +174,7 @@ pub trait Replaceable {
         ensures time { is_known self.old
             → Elapses moment left_since may_leave self.old self.new };
 
-    /// Removes the temporary file. After `Ok` there is no temporary file, even if there was none.
+    /// Removes the temporary file, if there is one. After `Ok` there is none.
     fn remove(&mut self) -> Result<(), FileFault>
         requires { failures self.old < 2 ^ 63 }
         ensures counted { failures self.new ≡ failures self.old + call_failures result }
@@ -185,18 +188,18 @@ pub trait Replaceable {
         ensures time { is_known self.old
             → Elapses moment left_since may_leave self.old self.new };
 
-    /// Returns how many calls failed since the value was made.
+    /// Returns the number of calls that failed since the value was created.
     fn failures(&self) -> u64
         ensures { result ≡ failures self.now };
 
-    /// This moment is one of those since an earlier one.
+    /// The current moment counts as a moment since any earlier one.
     ghost counts_now: { (file : Self) (t : ℕ) (c : Content)
         → t ≤ moment file → may_leave file c → left_since file t c };
 
-    /// Since this moment there is no other.
+    /// The current moment is the only one since the current moment.
     ghost only_now: { (file : Self) (c : Content)
         → left_since file (moment file) c → may_leave file c };
 
-    /// What is under the name now may stay: the end of a process is a crash too.
+    /// A crash may leave the current content under the name: the end of the process is a crash too.
     ghost stays: { (file : Self) → is_known file → may_leave file (target file) };
 }

@@ -1,4 +1,4 @@
-//! A file of the operating system that is replaced.
+//! Replaces a file of the operating system.
 ghost use Rattle.std.specs.Prelude.{◌≡◌, ◌↔◌, ◌+◌, ◌<◌, ◌^◌, None, Ok, Some};
 ghost use Rattle.std.specs.Prelude.{IfOk, IsErr, IsSome, MatchResult};
 
@@ -13,9 +13,9 @@ use std::{fs, io};
 
 /// A file of the operating system, found by its path. No clause describes its content.
 ///
-/// A replacement makes a new file: it belongs to the user and group of the process, and gets the
-/// access permissions of the old file, but no extended attribute. Other hard links to the old file
-/// keep the old content.
+/// A replacement creates a new file: it belongs to the user and group of the process. It has the
+/// access permissions of the old file, but no extended attributes. Other hard links to the old file
+/// retain the old content.
 pub struct FileAt<'a, R: Files> {
     rt: &'a R,
     place: Place,
@@ -53,20 +53,20 @@ impl<'a, R: Files> Model for FileAt<'a, R> {
 impl<'a, R: Files> FileAt<'a, R> {
     /// Finds the file at a path. The file need not exist, but its folder must.
     ///
-    /// A symbolic link is followed, even to a file that does not exist: a replacement replaces the
-    /// file that the link leads to, and the link stays. Nothing is created here.
+    /// Follows symbolic links, even to a file that does not exist: a replacement replaces the
+    /// target of the link and leaves the link. Creates nothing.
     ///
     /// The temporary file is in the folder of the file. Its name is a dot, the name of the file,
-    /// `.dapnorm-` and the 16 hexadecimal digits of `tag`. File systems that limit a name to 255
-    /// bytes therefore limit the name of the file to 229 bytes.
+    /// `.dapnorm-` and the 16 hexadecimal digits of `tag`. On file systems that limit a name to 255
+    /// bytes, the name of the file is therefore limited to 229 bytes.
     ///
     /// # Errors
     ///
     /// - `IsADirectory`: the path is that of a folder, or ends in a slash.
     /// - `InvalidInput`: the file is a device, a pipe or a socket, or the path has no file name.
-    /// - `FilesystemLoop`: the path leads over more than 40 symbolic links.
+    /// - `FilesystemLoop`: the path leads through more than 40 symbolic links.
     /// - `OutOfMemory`: an allocation failed.
-    /// - Others: the operating system reported them.
+    /// - Any other: reported by the operating system.
     pub fn new(alloc: Global, rt: &'a R, path: &str, tag: u64) -> io::Result<FileAt<'a, R>>
         ensures { IfOk result (λ file. file ≡ record { failures = 0; failed_at = None }) }
     {
@@ -80,8 +80,8 @@ impl<'a, R: Files> FileAt<'a, R> {
         })
     }
 
-    /// Returns the reason of the last failure, `None` before the first one. A failed removal does
-    /// not change the reason of an earlier failure.
+    /// Returns the reason of the last failure, or `None` before the first one. A failed removal
+    /// does not change the reason of an earlier failure.
     pub fn reason(&self) -> Option<&Error>
         ensures { IsSome result ↔ (0 < self.now.failures) }
     {

@@ -1,10 +1,10 @@
-//! The inputs of a program: files and standard input.
+//! Opens the inputs of a program: files and standard input.
 use std::alloc::Global;
 use std::fs::{self, File};
 use std::io::{self, Error, Read, Stdin};
 use std::os::fd::AsRawFd;
 
-/// The operating system's number of the standard input.
+/// The file descriptor of standard input.
 const STANDARD_INPUT_NUMBER: i32 = 0;
 
 /// An input: a file, or standard input.
@@ -29,8 +29,8 @@ impl Read for Input {
     }
 }
 
-/// An input, with the bytes that were read if they are kept to explain a refusal, and with the
-/// reason of the last read that failed.
+/// An input with the reason of the last read that failed. It also stores the bytes that were read,
+/// if they are required to explain a rejection.
 #[derive(Drop)]
 pub struct KeptInput {
     input: Input,
@@ -39,7 +39,8 @@ pub struct KeptInput {
 }
 
 impl KeptInput {
-    /// Nothing is read yet. The bytes are kept only if they are needed.
+    /// Returns an input of which nothing has been read. It stores the bytes read only if `is_kept`
+    /// is set.
     pub fn new(alloc: Global, input: Input, is_kept: bool) -> KeptInput {
         KeptInput {
             input,
@@ -52,7 +53,7 @@ impl KeptInput {
         self.input.is_standard()
     }
 
-    /// The bytes that were read. `None` if they are not kept, or if an allocation failed.
+    /// Returns the bytes that were read, or `None` if they are not stored or an allocation failed.
     pub fn bytes(&self) -> Option<&[u8]> {
         match &self.bytes {
             Some(bytes) => Some(bytes.as_slice()),
@@ -60,12 +61,12 @@ impl KeptInput {
         }
     }
 
-    /// The reason of the last read that failed.
+    /// Returns the reason of the last read that failed.
     pub fn failure(&self) -> Option<&Error> {
         self.failure.as_ref()
     }
 
-    /// Keeps these bytes too. If an allocation fails, no byte is kept any longer.
+    /// Stores these bytes too. If an allocation fails, discards all stored bytes.
     fn keep(&mut self, more: &[u8]) {
         if let Some(bytes) = &mut self.bytes {
             if bytes.extend_from_slice(more).is_err() {
@@ -96,7 +97,7 @@ pub fn is_standard(name: &str) -> bool {
     name == "-"
 }
 
-/// Opens an input. Without a name, or with `-`, it is standard input.
+/// Opens an input: standard input if there is no name or the name is `-`.
 pub fn open_input(rt: &HostRuntime, name: Option<&str>, is_kept: bool) -> io::Result<KeptInput> {
     let input = match name {
         Some(name) if !is_standard(name) => Input::File(fs::open(rt, name)?),
@@ -105,7 +106,8 @@ pub fn open_input(rt: &HostRuntime, name: Option<&str>, is_kept: bool) -> io::Re
     Ok(KeptInput::new(rt.alloc(), input, is_kept))
 }
 
-/// Returns whether the system gave a file the number of the standard input, which is closed then.
+/// Returns whether the system gave a file the descriptor of standard input, which means that
+/// standard input is closed.
 pub fn shows_closed_input(file: &File) -> bool {
     file.as_raw_fd() == STANDARD_INPUT_NUMBER
 }

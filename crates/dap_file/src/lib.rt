@@ -1,13 +1,13 @@
-//! A file that is replaced as a whole, so that at every moment the old content or the new content is
-//! there: whatever fails, whenever the process is killed, and whenever the power goes.
+//! Replaces a file as a whole: at every moment the name has either the old content or the new
+//! content, whatever fails, whenever the process is killed, and whenever the power fails.
 //!
-//! [`replace`] creates a temporary file in the same folder, writes it, syncs it, renames it over the
-//! file and syncs the folder. It works on every [`Replaceable`] file: [`MemoryFile`] is in memory,
-//! and its contracts describe its content; [`FileAt`] is a file of the operating system, of whose
-//! content no contract can speak.
+//! [`replace`] creates a temporary file in the same folder, writes it, syncs it, renames it to the
+//! name of the file and syncs the folder. It works on every [`Replaceable`] file: [`MemoryFile`] is
+//! in memory, and its contracts describe its content; [`FileAt`] is a file of the operating system,
+//! whose content is outside all contracts.
 //!
-//! [`open_input`] and [`open_output`] open what a program reads and writes, by the names that its
-//! user gave. What they do is only tested.
+//! [`open_input`] and [`open_output`] open the inputs and outputs of a program by the names that
+//! its user gave. They are tested, not proved.
 #![tactic(auto)]
 
 mod file;

@@ -1,4 +1,4 @@
-//! A file in memory, whose calls can be told to fail.
+//! Implements a file in memory whose calls can be made to fail.
 ghost use Rattle.std.specs.Prelude.{◌≡◌, ◌+◌, ◌<◌, ◌^◌, [], None, Some, IsErr, length, ⊤};
 ghost use Rattle.std.specs.Option.{option_copied};
 ghost use Rattle.std.proofs.Common.{inl, refl};
@@ -10,7 +10,7 @@ use std::alloc::Global;
 use std::marker::Model;
 use std::ops::Range;
 
-/// Which of the calls of a file fail, by their numbers from 0 on.
+/// The calls of a file that fail, by their numbers from 0 on.
 #[derive(Clone, Copy)]
 struct Failing {
     next: u64,
@@ -27,7 +27,7 @@ impl Failing {
     }
 }
 
-/// A file in memory. Each call takes effect at once, so that a crash leaves what is there.
+/// A file in memory. Each call takes effect at once, so a crash leaves the current content.
 #[derive(Drop)]
 pub struct MemoryFile {
     alloc: Global,
@@ -57,8 +57,9 @@ impl Model for MemoryFile {
 }
 
 impl MemoryFile {
-    /// Makes a file with this content, `None` for no file. The calls whose numbers from 0 on are in
-    /// `failing` fail and change nothing. A write takes at most `longest_write` bytes.
+    /// Returns a file with this content, or `None` for a file that does not exist. The calls whose
+    /// numbers from 0 on are in `failing` fail and change nothing. A write appends at most
+    /// `longest_write` bytes.
     pub fn new(
         alloc: Global,
         content: Option<Vec<u8>>,

@@ -1,4 +1,5 @@
-//! The outputs of a program: files that are replaced as a whole, devices, and standard output.
+//! Opens the outputs of a program: files that are replaced as a whole, devices, and standard
+//! output.
 ghost use Rattle.std.specs.Prelude.{◌≡◌, IfOk};
 
 use crate::file_at::FileAt;
@@ -7,7 +8,7 @@ use std::fs::{self, File, OpenOptions};
 use std::hash::{BuildHasher, Hasher, RandomState};
 use std::io;
 
-/// An output: standard output, a device or a pipe that is written as it is, or the name of a file
+/// An output: standard output, a device or a pipe that is written directly, or the name of a file
 /// that is replaced as a whole.
 #[derive(Drop)]
 pub enum Output<'a> {
@@ -16,8 +17,8 @@ pub enum Output<'a> {
     File(&'a str),
 }
 
-/// Finds the file of this name, which is replaced as a whole. The name of the temporary file has
-/// random digits.
+/// Finds the file with this name, which is replaced as a whole. The name of the temporary file
+/// contains random digits.
 pub fn find_file<'a>(
     rt: &'a HostRuntime,
     name: &str,
@@ -36,8 +37,8 @@ fn is_device(rt: &HostRuntime, name: &str) -> bool {
     }
 }
 
-/// Opens an output. Without a name, or with `-`, it is standard output. A file that is to be
-/// replaced is not opened yet: it only has to be one that can be replaced.
+/// Opens an output: standard output if there is no name or the name is `-`. A file that is to be
+/// replaced is not opened yet, but it must be one that can be replaced.
 pub fn open_output<'a>(
     rt: &HostRuntime,
     name: Option<&'a str>,

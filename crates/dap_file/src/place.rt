@@ -1,4 +1,4 @@
-//! Where a file is, after its symbolic links, and where its temporary file is.
+//! Finds the path of a file, after its symbolic links, and the path of its temporary file.
 use std::alloc::Global;
 use std::fs::Metadata;
 use std::io::{Error, ErrorKind};
@@ -7,10 +7,10 @@ use std::path::{Path, PathBuf};
 use std::rt::Files;
 use std::{fs, io};
 
-/// The most symbolic links that are followed, as on Linux.
+/// The maximum number of symbolic links that are followed, as on Linux.
 const MOST_LINKS: usize = 40;
 
-/// The bits of a mode that say who may read, write and execute.
+/// The bits of a mode that hold the permissions to read, write and execute.
 const ACCESS: u32 = 0o777;
 
 /// The paths of a file, of its temporary file and of their folder.
@@ -19,11 +19,11 @@ pub(crate) struct Place {
     pub target: PathBuf,
     pub temporary: PathBuf,
     pub folder: PathBuf,
-    /// Who may read, write and execute the file, if there is one.
+    /// The access permissions of the file, if it exists.
     pub mode: Option<u32>,
 }
 
-/// Returns where a symbolic link leads, relative to the folder that the link is in.
+/// Returns the target of a symbolic link, relative to the folder that contains the link.
 fn target_of_link<R: Files>(alloc: Global, rt: &R, mut link: PathBuf) -> io::Result<PathBuf> {
     let target = rt.read_link(alloc, link.as_str())?;
     link.pop();
@@ -31,7 +31,7 @@ fn target_of_link<R: Files>(alloc: Global, rt: &R, mut link: PathBuf) -> io::Res
     Ok(link)
 }
 
-/// Follows symbolic links, also to a file that does not exist.
+/// Follows symbolic links, even to a file that does not exist.
 fn follow_links<R: Files>(
     alloc: Global,
     rt: &R,
@@ -60,7 +60,7 @@ fn mode_of_file(found: &Metadata) -> io::Result<u32> {
     Ok(found.permissions().mode() & ACCESS)
 }
 
-/// Returns the path of the temporary file beside a file.
+/// Returns the path of the temporary file next to a file.
 fn temporary_beside(alloc: Global, target: Path<'_>, tag: u64) -> io::Result<PathBuf> {
     let Some(name) = target.file_name() else {
         return Err(Error::new(ErrorKind::InvalidInput, "has no file name"));

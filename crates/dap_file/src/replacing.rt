@@ -8,15 +8,15 @@ ghost use Rattle.dap_file.specs.Replacing.{replace_failures, step_failures};
 
 use crate::file::{FileFault, Replaceable, Step};
 
-/// Which step of a replacement failed. The file keeps the reason.
+/// The step of a replacement that failed. The file stores the reason.
 #[derive(Clone, Copy, Debug, PartialEq, Eq)]
 pub struct ReplaceFault {
     pub step: Step,
-    /// The temporary file could not be removed.
+    /// Whether the temporary file could not be removed.
     pub is_left: bool,
 }
 
-/// Writes all of the bytes to the temporary file, which has none.
+/// Writes all of the bytes to the temporary file, which is empty.
 fn write_all<F: Replaceable>(file: &mut F, bytes: &[u8]) -> Result<(), FileFault>
     requires few { F.failures file.old < 2 ^ 63 }
     requires created { F.is_known file.old → F.temporary file.old ≡ Some [] }
@@ -34,7 +34,7 @@ fn write_all<F: Replaceable>(file: &mut F, bytes: &[u8]) -> Result<(), FileFault
     Ok(())
 }
 
-/// Writes the bytes to the temporary file, which has none, syncs it and gives it the name.
+/// Writes the bytes to the temporary file, which is empty, syncs it and renames it.
 fn install<F: Replaceable>(file: &mut F, bytes: &[u8]) -> Result<(), Step>
     requires few { F.failures file.old < 2 ^ 62 }
     requires created { F.is_known file.old → F.temporary file.old ≡ Some [] }
@@ -56,14 +56,14 @@ fn install<F: Replaceable>(file: &mut F, bytes: &[u8]) -> Result<(), Step>
 
 /// Replaces the content of the file by these bytes, through a temporary file. Does not allocate.
 ///
-/// A crash during the call may leave the temporary file. The file under the name is then the old or
-/// the new one: `any_moment` says so.
+/// A crash during the call may leave the temporary file. The file under the name is then either the
+/// old or the new one, as the clause `any_moment` states.
 ///
 /// # Errors
 ///
-/// The step at which a call failed. Until the rename the file is as before, and after the rename it
-/// has the new bytes. A failed rename leaves either. The temporary file is removed after each error,
-/// if that does not fail too.
+/// The step at which a call failed. If the step is before the rename, the file is unchanged; if it
+/// is after the rename, the file has the new bytes. After a failed rename, either is possible. The
+/// temporary file is removed after each error, unless the removal fails too (`is_left`).
 pub fn replace<F: Replaceable>(file: &mut F, bytes: &[u8]) -> Result<(), ReplaceFault>
     requires few { F.failures file.old < 2 ^ 62 }
     requires none { F.is_known file.old → F.temporary file.old ≡ None }

@@ -1,4 +1,4 @@
-//! Calls on the file system of the operating system.
+//! Calls the file system of the operating system.
 ghost use Rattle.std.specs.Prelude.{◌<◌, ◌≤◌, length, IfOk, IfSome};
 
 use crate::place::Place;
@@ -9,10 +9,11 @@ use std::os::unix::fs::{OpenOptionsExt, PermissionsExt};
 use std::rt::Files;
 use std::{fs, io};
 
-/// The mode of a temporary file until it gets that of the file: only the user has access.
+/// The initial mode of a temporary file: only the user has access.
 const OWN_MODE: u32 = 0o600;
 
-/// Makes the temporary file. Until it has the permissions of the file, only the user has access.
+/// Creates the temporary file. If it is to get the permissions of an existing file, only the user
+/// has access until then.
 pub(crate) fn open_new<R: Files>(rt: &R, place: &Place) -> io::Result<R::File> {
     let mut options = OpenOptions::new();
     options.write(true).create_new(true);
@@ -22,7 +23,7 @@ pub(crate) fn open_new<R: Files>(rt: &R, place: &Place) -> io::Result<R::File> {
     options.open(rt, place.temporary.as_str())
 }
 
-/// Writes a prefix of the bytes. A write that a signal interrupted is made again.
+/// Writes a prefix of the bytes. Repeats a write that a signal interrupted.
 pub(crate) fn write_some<W: Write>(writer: &mut W, bytes: &[u8]) -> io::Result<usize>
     ensures within { IfOk result (λ count. count ≤ length bytes.now) }
     ensures some { IfOk result (λ count. 0 < length bytes.now → 0 < count) }
@@ -37,7 +38,7 @@ pub(crate) fn write_some<W: Write>(writer: &mut W, bytes: &[u8]) -> io::Result<u
     Err(ErrorKind::Interrupted.into())
 }
 
-/// Gives the temporary file the permissions of the file and syncs both.
+/// Gives the temporary file the permissions of the file and syncs it.
 pub(crate) fn sync_file<F: OpenFile>(file: &F, mode: Option<u32>) -> io::Result<()> {
     if let Some(mode) = mode {
         file.set_permissions(Permissions::from_mode(mode))?;
@@ -45,7 +46,7 @@ pub(crate) fn sync_file<F: OpenFile>(file: &F, mode: Option<u32>) -> io::Result<
     file.sync_all()
 }
 
-/// Returns whether a file system has no syncing of folders.
+/// Returns whether a file system does not support syncing folders.
 fn is_unsupported(error: &Error) -> bool {
     matches!(
         error.kind(),
@@ -53,7 +54,7 @@ fn is_unsupported(error: &Error) -> bool {
     )
 }
 
-/// Syncs a folder, on a file system that can.
+/// Syncs a folder, if the file system supports it.
 pub(crate) fn sync_folder_at<R: Files>(rt: &R, folder: &str) -> io::Result<()> {
     let opened = match fs::open(rt, folder) {
         Ok(opened) => opened.sync_all(),
@@ -65,7 +66,7 @@ pub(crate) fn sync_folder_at<R: Files>(rt: &R, folder: &str) -> io::Result<()> {
     }
 }
 
-/// Removes a file, which may be gone already.
+/// Removes a file. Returns `Ok` if it does not exist.
 pub(crate) fn remove_at<R: Files>(rt: &R, path: &str) -> io::Result<()> {
     match fs::remove_file(rt, path) {
         Err(error) if error.kind() == ErrorKind::NotFound => Ok(()),
@@ -82,7 +83,7 @@ pub(crate) enum Unread {
 }
 
 impl From<Error> for Unread {
-    /// An allocation that failed in std has no number of the operating system.
+    /// A failed allocation in std has no error number of the operating system.
     fn from(error: Error) -> Unread {
         if error.kind() == ErrorKind::OutOfMemory && error.raw_os_error().is_none() {
             Unread::Memory
@@ -92,7 +93,7 @@ impl From<Error> for Unread {
     }
 }
 
-/// Reads a file, and at most one byte past the limit.
+/// Reads a file, at most one byte past the limit.
 pub(crate) fn read_at<R: Files>(
     alloc: Global,
     rt: &R,

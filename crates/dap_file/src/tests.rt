@@ -1,4 +1,4 @@
-//! Replacements in memory with each call failing in turn, and of real files.
+//! Tests replacements in memory in which each call fails in turn, and replacements of real files.
 ghost use Rattle.std.specs.Prelude.{◌≡◌, None, IfOk};
 
 use super::*;
@@ -12,7 +12,7 @@ const OLD: &[u8; 3] = b"old";
 
 const NEW: &[u8; 7] = b"the new";
 
-/// A file of which three bytes are written at once, so that a replacement makes seven calls.
+/// Returns a file that writes at most three bytes per call: a replacement then makes seven calls.
 fn memory_file(alloc: Global, failing: Range<u64>) -> Result<MemoryFile, Fail>
     ensures none { IfOk result (λ file. file.temporary ≡ None) }
     ensures few { IfOk result (λ file. file.failures ≡ 0) }
@@ -20,7 +20,7 @@ fn memory_file(alloc: Global, failing: Range<u64>) -> Result<MemoryFile, Fail>
     Ok(MemoryFile::new(alloc, Some(OLD.to_vec(alloc)?), failing, 3))
 }
 
-/// The step of the call with this number.
+/// Returns the step of the call with this number.
 fn step_of(call: u64) -> Step {
     match call {
         0 => Step::Create,
@@ -85,7 +85,7 @@ fn a_removal_fails_too(rt: HostRuntime) -> Result<(), Fail> {
     Ok(())
 }
 
-/// Replaces the file at a path, and returns whether a read finds the new bytes.
+/// Replaces the file at a path, and returns whether a read returns the new bytes.
 fn replace_at(rt: &HostRuntime, path: &str, bytes: &[u8]) -> Result<bool, Fail> {
     let mut file = FileAt::new(rt.alloc(), rt, path, 10)?;
     replace(&mut file, bytes)?;
@@ -93,7 +93,7 @@ fn replace_at(rt: &HostRuntime, path: &str, bytes: &[u8]) -> Result<bool, Fail> 
     Ok(found.as_slice() == bytes && file.reason().is_none())
 }
 
-/// Makes a folder with no files, which has two symbolic links, and goes into it.
+/// Creates a folder with two symbolic links and no files, and makes it the current folder.
 fn enter_folder(rt: &HostRuntime) -> Result<String, Fail> {
     let number = process::id(rt.process());
     let name = format!(in rt.alloc(); "dap_file-{number}")?;
@@ -106,7 +106,7 @@ fn enter_folder(rt: &HostRuntime) -> Result<String, Fail> {
     Ok(folder.into_string())
 }
 
-/// The access permissions of the file at a path.
+/// Returns the access permissions of the file at a path.
 fn mode_of(rt: &HostRuntime, path: &str) -> Result<u32, Fail> {
     Ok(fs::symlink_metadata(rt, path)?.permissions().mode() & 0o777)
 }

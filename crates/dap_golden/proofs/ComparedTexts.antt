@@ -1,4 +1,4 @@
--- What the verdict on a golden file and a normal text says of the golden file.
+-- What the verdict on a golden file and a normal text states about the golden file.
 use Rattle.std.proofs.Common.{◌≡◌, ℕ, ℤ, List, Option, Result, Ok, Err, Vec, Global, refl, sym}
 use Rattle.std.proofs.Common.{subst, true≢false}
 use Rattle.dap_device.specs.Memory.{GivenBytes}
@@ -33,7 +33,7 @@ use Rattle.dap_golden.specs.GoldenFiles.{DiffersAt, IsNormalText, IsRefusedFile,
 
 module _ (limits : Limits) (mode : Mode) (sound : AreSound limits) (golden later : List ℕ)
     (normal : IsNormalText limits mode later) where
-  -- Where the two are the same, the text is the normal text of the golden file.
+  -- If the two are the same, the text is the normal text of the golden file.
   same_normalises : (how : List (Class × ℤ × ℤ))
       → IsRecordingVerdict limits mode (all_of golden) (all_of later) (are_same how)
       → Normalises limits mode golden later
@@ -55,7 +55,7 @@ module _ (limits : Limits) (mode : Mode) (sound : AreSound limits) (golden later
       ((equal_texts_tell limits mode sound golden later (text form.0) later made normal).1 same)
       made
 
-  -- Where the two differ, it is not.
+  -- If the two differ, it is not.
   pub differs_not_normal : (number : ℕ)
       → IsRecordingVerdict limits mode (all_of golden) (all_of later) (differ number)
       → Normalises limits mode golden later → ⊥
@@ -67,13 +67,13 @@ module _ (limits : Limits) (mode : Mode) (sound : AreSound limits) (golden later
       (differ number) (are_same _) differs (told.if_same same) in
       cc
 
-  -- The text is not refused.
+  -- The text is not rejected.
   not_refused : (number : ℕ) (fault : Fault)
       → IsRefusedAt (accepting limits mode) (all_of later) number fault → ⊥
   not_refused number (refused why) is = is.0.not_accepted normal.messages normal.accepts
   not_refused number read_fault is = true≢false (sym is.0)
 
--- The verdict of an engine that read both from memory.
+-- The verdict of `diff` over two inputs in memory.
 module _ (limits : Limits) (mode : Mode) (sound : AreSound limits) (golden later : List ℕ)
     (normal : IsNormalText limits mode later) (old_a new_a old_b new_b : GivenBytes)
     (all_a : old_a.left ≡ golden) (all_b : old_b.left ≡ later)

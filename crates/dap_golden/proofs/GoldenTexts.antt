@@ -1,4 +1,4 @@
--- The golden text of a session by its numbers.
+-- The golden text of a session, decided by its counts.
 use Rattle.std.proofs.Common.{◌≡◌, ◌≢◌, Bool, false, List, ℕ, ◌∙◌, length, ap, refl, sym}
 use Rattle.std.proofs.Common.{Option, Some, None, inl, inr}
 use Rattle.dap_mask.specs.Mask.{Mask}
@@ -25,7 +25,7 @@ use Rattle.dap_golden.specs.declared.fault.GoldenRefused.{GoldenRefused}
 use Rattle.dap_golden.specs.declared.fault.GoldenRefused.TheVariants as because
 use Rattle.dap_golden.specs.declared.normal_session.NormalSession.{NormalSession}
 
--- The numbers say that each request has a response.
+-- The counts show that each request has a response.
 abbrev pub AreZero : Checked → Type 0
 AreZero counts = (counts.client_open ≡ 0) × (counts.adapter_open ≡ 0)
 
@@ -50,14 +50,14 @@ golden allow_open session some zero limits mode recording is = record {
 
 -- ---- the rules
 
--- The step that cannot mask a recording is named.
+-- A failed step of masking is reported as `Mask`.
 pub mask_refuses : (limits : Limits) (mask : Mask) (recording : List ℕ) (why : Refused)
     → (IsOutOfMemory why → ⊥) → RefusesToMask limits mask recording why
     → RefusesMask limits mask recording (because.Mask why)
 mask_refuses limits mask recording Memory some is = absurd (some tt)
 mask_refuses limits mask recording why some is = is
 
--- The step that cannot put a masked recording in order is named.
+-- A failed step of putting in order is reported as `Session`.
 pub order_refuses : (limits : Limits) (mode : Mode) (rules : List SwapRule) (masked : List ℕ)
     (why : Refused) → (IsOutOfMemory why → ⊥) → RefusesOrderBy limits mode rules masked why
     → RefusesOrder limits mode rules masked (because.Session why)
@@ -82,7 +82,7 @@ module _ (limits : Limits) (mode : Mode) (mask : Mask) (recording : List ℕ) wh
 
 module _ (limits : Limits) (mode : Mode) (mask : Option Mask) (allow_open : Bool)
     (input : List ℕ) where
-  -- Rules that make no session of the recording leave its input without a golden text.
+  -- If the rules cannot turn the recording into a session, its input has no golden text.
   pub no_session : (recording : List ℕ) → IsRecordingOf limits input recording
       → (refused : GoldenRefused) → RefusesRulesBy limits mode mask recording refused
       → IsRefusedGolden limits mode mask allow_open input refused
@@ -111,7 +111,7 @@ module _ (limits : Limits) (mode : Mode) (mask : Option Mask) (allow_open : Bool
           named because.Memory is = tt
           named why is = absurd is
 
-  -- A session without a golden text leaves its input without one.
+  -- If a session has no golden text, neither has its input.
   pub session_refused : (session : List ℕ) → IsSessionOf limits mode mask input session
       → (refused : GoldenRefused) → RefusesGolden limits mode allow_open session refused
       → IsRefusedGolden limits mode mask allow_open input refused

@@ -1,4 +1,4 @@
--- Recording a trace over bytes in memory: what it promises of a reader and a writer is true of the
+-- Recording a trace over bytes in memory: the guarantees for a reader and a writer hold for the
 -- bytes.
 use Rattle.std.proofs.Common.{◌≡◌, ℕ, List, [], Result, Ok, Err, sym, subst, arith}
 use Rattle.dap_device.specs.declared.reading.Stop.{Stop}

@@ -1,5 +1,5 @@
--- An input has at most one recording, one session and one golden text, and if it has a golden text,
--- it is not refused.
+-- An input has at most one recording, one session and one golden text. An input with a golden text
+-- is not rejected.
 use Rattle.std.proofs.Common.{◌≡◌, ℕ, Bool, List, [], Option, Some, None, refl, sym, ◌∙◌, ap, subst}
 use Rattle.std.proofs.Common.{inl, inr, length}
 use Rattle.dap_message.specs.Message.{Sent}
@@ -75,7 +75,7 @@ one_golden_text limits mode mask sound allow_open either input a b one two =
       one.of_session.count ∙ ap (λ (ms : List Sent). length ms) messages ∙ sym two.of_session.count,
     )
 
--- ---- not refused
+-- ---- not rejected
 
 module _ (limits : Limits) (mode : Mode) (allow_open : Bool) (recording : List ℕ)
     (text : GoldenText) (golden : IsGoldenOf limits mode allow_open recording text) where

@@ -1,4 +1,4 @@
--- The numbers of a session are those of the messages of its normal text.
+-- The counts of a session are those of the messages of its normal text.
 use Rattle.std.proofs.Common.{◌≡◌, ℕ, false, List, ◌∙◌, subst}
 use Rattle.dap_device.specs.Memory.{GivenBytes}
 use Rattle.dap_rename.specs.declared.mode.Mode.{Mode}

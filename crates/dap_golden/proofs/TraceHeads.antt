@@ -14,7 +14,7 @@ both_of : (a b : Bool) → (a && b) ≡ true → (a ≡ true) × (b ≡ true)
 both_of true b is = (refl, is)
 both_of false b is = absurd cc
 
--- Of digits and a line's end, exactly the digits are counted.
+-- In digits followed by a line end, exactly the digits are counted.
 digits_counted : (digits rest : List ℕ) → list_all is_ascii_digit digits ≡ true → IsLineEnd rest
     → prefix_len is_ascii_digit (digits ++ rest) ≡ length digits
 digits_counted [] rest all (inl none) = ap (prefix_len is_ascii_digit) none
@@ -25,7 +25,7 @@ digits_counted (x ∷ digits) rest all end =
     ap (λ b. cond b (1 + prefix_len is_ascii_digit (digits ++ rest)) 0) both.0
     ∙ omega (arith, more)
 
--- What is counted are digits.
+-- The bytes counted are digits.
 one_more : (x : ℕ) (bytes : List ℕ) (b : Bool) → is_ascii_digit x ≡ b
     → list_all is_ascii_digit (take (prefix_len is_ascii_digit bytes) bytes) ≡ true
     → list_all is_ascii_digit (take (cond b (1 + prefix_len is_ascii_digit bytes) 0) (x ∷ bytes))

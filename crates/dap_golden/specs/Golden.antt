@@ -1,5 +1,5 @@
--- The text of a golden file: how it is made from an input, and why an input has none. Source: own,
--- over traces, recordings, the rules of a file and normal forms.
+-- The text of a golden file: how it is created from an input, and why an input has none. Source:
+-- own, over traces, recordings, the rules of a file and normal forms.
 use Rattle.std.specs.Prelude.{◌≡◌, ◌≢◌, ◌⊎◌, ℕ, Bool, false, List, [], length, Option, Some, None}
 use Rattle.std.specs.Borrow.{Bor}
 use Rattle.std.specs.Option.{option_map}
@@ -28,33 +28,33 @@ use Rattle.dap_golden.specs.declared.fault.GoldenRefused.TheVariants as because
 use Rattle.dap_golden.specs.declared.golden.GoldenText.{GoldenText}
 use Rattle.dap_golden.specs.TraceHead.{IsTraceHead}
 
--- ---- the recording of an input, and what the rules make of it
+-- ---- the recording of an input, and the session that the rules make of it
 
--- the mask that the rules are, if there are any
+-- The mask of the rules, if there are any.
 abbrev pub mask_given : Option (Bor MaskRules) → Option Mask
 mask_given rules = option_map (λ r. mask_of r.now) rules
 
--- The recording of an input (own): that of the trace, if the input starts like one, and otherwise
--- the input itself.
+-- The recording of an input (own): that of the trace if the input starts like a trace, and
+-- otherwise the input itself.
 pub data IsRecordingOf (limits : Limits) (input recording : List ℕ) : Type 0 where
   of_trace : IsTraceHead input → (messages : List (Side × List ℕ))
       → IsRecordedAs limits input messages → recording ≡ recording_text messages
       → IsRecordingOf limits input recording
   unchanged : (IsTraceHead input → ⊥) → recording ≡ input → IsRecordingOf limits input recording
 
--- The recording is masked to this one. Without rules it is unchanged.
+-- The recording is masked to `masked`. Without rules it is unchanged.
 abbrev pub MasksBy : Limits → Option Mask → List ℕ → List ℕ → Type 0
 MasksBy limits None recording masked = masked ≡ recording
 MasksBy limits (Some mask) recording masked = IsMaskedTo limits mask recording masked
 
--- The rules make this session of the recording: it is masked, and then put in order if there are
--- rules for the order. Without rules it is unchanged.
+-- The rules turn the recording into this session: it is masked, and then put in order if some of
+-- the rules are for the order. Without rules it is unchanged.
 abbrev pub AppliesBy : Limits → Mode → Option Mask → List ℕ → List ℕ → Type 0
 AppliesBy limits mode None recording session = session ≡ recording
 AppliesBy limits mode (Some mask) recording session =
     AppliesRules limits mode mask recording session
 
--- The input has a recording, and this is the session that the rules make of it.
+-- The input has a recording, which the rules turn into this session.
 pub record IsSessionOf (limits : Limits) (mode : Mode) (mask : Option Mask)
     (input session : List ℕ) : Type 0 where
   pub recording : List ℕ
@@ -67,8 +67,8 @@ pub record IsSessionOf (limits : Limits) (mode : Mode) (mask : Option Mask)
 abbrev pub AreAnswered : List Sent → Type 0
 AreAnswered messages = (side : Side) → open_requests side messages ≡ 0
 
--- The text is the normal text of a recording with at least one record. Unless open requests are
--- allowed, each request in the recording has a response.
+-- The text is the normal text of a recording with at least one record. If `allow_open` is not set,
+-- each request in the recording has a response.
 pub record IsGoldenOf (limits : Limits) (mode : Mode) (allow_open : Bool) (recording : List ℕ)
     (text : GoldenText) : Type 0 where
   pub canonical : IsCanonical limits mode recording text.bytes.items
@@ -83,16 +83,16 @@ pub record IsGolden (limits : Limits) (mode : Mode) (mask : Option Mask) (allow_
   pub of_input : IsSessionOf limits mode mask input session
   pub of_session : IsGoldenOf limits mode allow_open session text
 
--- the messages of the session
+-- The messages of the session.
 abbrev pub messages_of : {limits : Limits} {mode : Mode} {mask : Option Mask} {allow_open : Bool}
     {input : List ℕ} {text : GoldenText} → IsGolden limits mode mask allow_open input text
     → List Sent
 messages_of is = is.of_session.canonical.normalises.messages
 
--- ---- refusals
+-- ---- rejections
 
--- The recording is accepted, but so many requests of the client and of the adapter have no
--- response, and that is not allowed.
+-- The recording is accepted, but `client` requests of the client and `adapter` requests of the
+-- adapter have no response, and that is not allowed.
 pub record LeavesOpen (limits : Limits) (mode : Mode) (allow_open : Bool) (recording : List ℕ)
     (client adapter : ℕ) : Type 0 where
   pub not_allowed : allow_open ≡ false
@@ -102,14 +102,14 @@ pub record LeavesOpen (limits : Limits) (mode : Mode) (allow_open : Bool) (recor
   pub adapter_is : adapter ≡ open_requests Adapter messages
   pub some : client ≡ 0 → adapter ≡ 0 → ⊥
 
--- The recording is refused for this, or leaves requests open.
+-- The recording is rejected for this reason, or has requests without a response.
 abbrev pub RefusesSession : Limits → Mode → Bool → List ℕ → Refused → Type 0
 RefusesSession limits mode allow_open recording (Incomplete client adapter) =
     LeavesOpen limits mode allow_open recording client adapter
 RefusesSession limits mode allow_open recording refused =
     IsRefused (accepting limits mode) recording refused
 
--- The rules make no session of the input's recording, for this.
+-- The rules cannot turn the input's recording into a session, for this reason.
 pub record HasNoSession (limits : Limits) (mode : Mode) (mask : Option Mask) (input : List ℕ)
     (refused : ApplyRefused) : Type 0 where
   pub recording : List ℕ
@@ -119,7 +119,7 @@ pub record HasNoSession (limits : Limits) (mode : Mode) (mask : Option Mask) (in
   pub is_refused : IsRefusedByRules limits mode rules recording refused
 
 -- Why an input has no golden text. Each step was reached only if all steps before it succeeded.
--- `Session` is an error of putting the masked recording in order, or of the session made so.
+-- `Session` is an error of putting the masked recording in order, or of the resulting session.
 abbrev pub IsRefusedGolden : Limits → Mode → Option Mask → Bool → List ℕ → GoldenRefused → Type 0
 IsRefusedGolden limits mode mask allow_open input (because.Trace refused) =
     IsTraceHead input

@@ -1,4 +1,4 @@
--- What the steps of making a golden text do.
+-- What the steps of creating a golden text do.
 use Rattle.std.specs.Prelude.{ℕ, Bool, List, [], Option, Some, None}
 use Rattle.dap_tree.specs.declared.side.Side.{Side}
 use Rattle.dap_rename.specs.declared.mode.Mode.{Mode}
@@ -16,7 +16,7 @@ use Rattle.dap_golden.specs.declared.fault.GoldenRefused.TheVariants as because
 use Rattle.dap_golden.specs.Golden.{RefusesSession}
 use Rattle.dap_golden.specs.TraceHead.{IsTraceHead}
 
--- The input is a trace and is refused for this, or an allocation failed.
+-- The input is a trace and is rejected for this reason, or an allocation failed.
 abbrev pub RefusesTrace : Limits → List ℕ → GoldenRefused → Type 0
 RefusesTrace limits input (because.Trace refused) =
     IsTraceHead input
@@ -24,19 +24,19 @@ RefusesTrace limits input (because.Trace refused) =
 RefusesTrace limits input because.Memory = Unit {0}
 RefusesTrace limits input _ = ⊥
 
--- The rules cannot mask the recording for this, or an allocation failed.
+-- The rules cannot mask the recording for this reason, or an allocation failed.
 abbrev pub RefusesMask : Limits → Mask → List ℕ → GoldenRefused → Type 0
 RefusesMask limits mask recording (because.Mask refused) =
     IsRefused (masking limits mask) recording refused
 RefusesMask limits mask recording because.Memory = Unit {0}
 RefusesMask limits mask recording _ = ⊥
 
--- The same of rules that may not be given.
+-- The same for optional rules.
 abbrev pub RefusesMaskBy : Limits → Option Mask → List ℕ → GoldenRefused → Type 0
 RefusesMaskBy limits None recording refused = ⊥
 RefusesMaskBy limits (Some mask) recording refused = RefusesMask limits mask recording refused
 
--- The rules make no session of the recording for this, or an allocation failed.
+-- The rules cannot turn the recording into a session for this reason, or an allocation failed.
 abbrev pub RefusesRules : Limits → Mode → Mask → List ℕ → GoldenRefused → Type 0
 RefusesRules limits mode mask recording (because.Mask refused) =
     IsRefusedByRules limits mode mask recording (step.Mask refused)
@@ -45,20 +45,20 @@ RefusesRules limits mode mask recording (because.Session refused) =
 RefusesRules limits mode mask recording because.Memory = Unit {0}
 RefusesRules limits mode mask recording _ = ⊥
 
--- The same of rules that may not be given.
+-- The same for optional rules.
 abbrev pub RefusesRulesBy : Limits → Mode → Option Mask → List ℕ → GoldenRefused → Type 0
 RefusesRulesBy limits mode None recording refused = ⊥
 RefusesRulesBy limits mode (Some mask) recording refused =
     RefusesRules limits mode mask recording refused
 
--- The masked recording is not put in order by the rules for this, or an allocation failed.
+-- The rules cannot put the masked recording in order for this reason, or an allocation failed.
 abbrev pub RefusesOrder : Limits → Mode → List SwapRule → List ℕ → GoldenRefused → Type 0
 RefusesOrder limits mode rules masked (because.Session refused) =
     IsNotOrderedBy limits mode rules masked refused
 RefusesOrder limits mode rules masked because.Memory = Unit {0}
 RefusesOrder limits mode rules masked _ = ⊥
 
--- The session has no golden text for this, or an allocation failed.
+-- The session has no golden text for this reason, or an allocation failed.
 abbrev pub RefusesGolden : Limits → Mode → Bool → List ℕ → GoldenRefused → Type 0
 RefusesGolden limits mode allow_open session (because.Session refused) =
     RefusesSession limits mode allow_open session refused

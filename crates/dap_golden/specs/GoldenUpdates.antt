@@ -1,4 +1,4 @@
--- What `golden` does with its input and its golden file, and what it returns. Source: own.
+-- The effect of `golden` on its input and its golden file, and its result. Source: own.
 use Rattle.std.specs.Prelude.{◌≡◌, ◌≢◌, ◌⊎◌, ℕ, ◌+◌, Bool, true, false, List, Option, Some, None}
 use Rattle.std.specs.Prelude.{Result, Ok, Err}
 use Rattle.dap_device.specs.declared.device.Source.{Ghosts as Source}
@@ -25,7 +25,7 @@ use Rattle.dap_golden.specs.declared.updates.GoldenStop.TheVariants as stop
 
 module _ {I : Type 0} (source : Source I) (limits : Limits) (mask : Option Mask)
     (request : GoldenRequest) (old new : I) where
-  -- These bytes are the whole input, or its first bytes up to one past the limit.
+  -- These bytes are the complete input, or its first bytes up to one past the limit.
   pub record HasRead (bytes : List ℕ) : Type 0 where
     pub reason : Stop
     pub came : HasCome source old new limits.input bytes reason
@@ -52,7 +52,7 @@ module _ {I : Type 0} (source : Source I) (limits : Limits) (mask : Option Mask)
 -- ---- the golden file
 
 module _ {F : Type 0} (file : Replaceable F) (old new : F) where
-  -- The golden file is as before, and a crash leaves nothing that it could not leave before.
+  -- The golden file is unchanged, and a crash leaves only contents that it could leave before.
   abbrev pub IsKept : Type 0
   IsKept = file.is_known old → KeepsTarget file.target file.may_leave old new
 
@@ -64,7 +64,7 @@ module _ {F : Type 0} (file : Replaceable F) (old new : F) where
   abbrev pub HasFailed : Type 0
   HasFailed = file.failures new ≡ file.failures old + 1
 
-  -- Nothing failed, and the golden file is as before.
+  -- Nothing failed, and the golden file is unchanged.
   abbrev pub IsOnlyRead : Type 0
   IsOnlyRead = (file.failures new ≡ file.failures old) × IsKept
 
@@ -89,13 +89,12 @@ module _ {F : Type 0} (file : Replaceable F) (old new : F) where
   Finds bytes (Err stop.Memory) = IsOnlyRead
   Finds bytes _ = ⊥
 
-  -- The golden file had other content, and now it has this text and nothing else, also after a
-  -- crash.
+  -- The golden file had another content. Now it has this text, and a crash leaves no other content.
   pub record IsWritten (bytes : List ℕ) : Type 0 where
     pub other : file.is_known old → file.target old ≢ Some bytes
     pub replaced : file.is_known old → HasReplaced file new bytes
 
-  -- The golden file is given the text, unless it has it.
+  -- The text is written to the golden file, unless the file already has it.
   abbrev pub Updates : GoldenText → Result GoldenDone GoldenStop → Type 0
   Updates text (Ok done.Unchanged) = Had (Some text.bytes.items) × IsOnlyRead
   Updates text (Ok (done.Written records)) = (records ≡ text.records) × IsWritten text.bytes.items
@@ -105,17 +104,17 @@ module _ {F : Type 0} (file : Replaceable F) (old new : F) where
   Updates text (Err stop.Memory) = IsOnlyRead
   Updates text _ = ⊥
 
--- ---- both
+-- ---- input and golden file
 
 module _ {I F : Type 0} (source : Source I) (file : Replaceable F) (limits : Limits)
     (mask : Option Mask) (request : GoldenRequest) (old_input new_input : I) where
-  -- What is done with the golden text of the input.
+  -- Updates the golden file with the golden text of the input, or compares the two.
   abbrev pub RunsOn : Bool → GoldenText → F → F → Result GoldenDone GoldenStop → Type 0
   RunsOn true text old new result = Updates file old new text result
   RunsOn false text old new result = Compares file old new limits request.mode text result
 
-  -- The input has no golden text, and nothing is done with the golden file; or it has one, and the
-  -- golden file is updated or compared.
+  -- The input has no golden text and the golden file is not touched; or it has one, and the golden
+  -- file is updated or compared.
   abbrev pub Answers : F → F → Result GoldenDone GoldenStop → Type 0
   Answers old new result =
       ((why : GoldenStop) × (result ≡ Err why)
@@ -123,8 +122,8 @@ module _ {I F : Type 0} (source : Source I) (file : Replaceable F) (limits : Lim
       ⊎ ((text : GoldenText) × HasText source limits mask request old_input new_input text
       × RunsOn request.update text old new result)
 
-  -- What a crash during the run may leave: what it could leave before, or on an update the text of
-  -- the input, whole.
+  -- The contents that a crash during the run may leave: those that it could leave before, or, on an
+  -- update, the complete text of the input.
   abbrev pub MayBeLeft : F → Content → Type 0
   MayBeLeft old content =
       file.may_leave old content

@@ -1,4 +1,4 @@
--- What one pass over a recording gives: its normal text and its numbers. Source: own.
+-- The result of one pass over a recording: its normal text and its counts. Source: own.
 use Rattle.std.specs.Prelude.{ℕ, List}
 use Rattle.dap_rename.specs.declared.mode.Mode.{Mode}
 use Rattle.dap_input.specs.declared.limits.Limits.{Limits}
@@ -6,7 +6,7 @@ use Rattle.dap_normal.specs.Checking.{AreCounted}
 use Rattle.dap_normal.specs.Normalising.{IsCanonical}
 use Rattle.dap_golden.specs.declared.normal_session.NormalSession.{NormalSession}
 
--- The bytes are the normal text of the recording, and the numbers are those of its messages.
+-- The bytes are the normal text of the recording, and the counts are those of its messages.
 pub record IsNormalSession (limits : Limits) (mode : Mode) (recording : List ℕ)
     (session : NormalSession) : Type 0 where
   pub canonical : IsCanonical limits mode recording session.bytes.items

@@ -1,6 +1,6 @@
--- How an input starts that is a trace. Source: own. A trace starts with a marker and the line of a
--- count, a recording with a marker and the name of a header field, so that no trace and no
--- recording start alike.
+-- The first bytes of a trace. Source: own. A trace starts with a marker and the line of a count,
+-- and a recording starts with a marker and the name of a header field. Therefore the first bytes of
+-- an input decide which of the two it is.
 use Rattle.std.specs.Prelude.{◌≡◌, ◌<◌, ◌⊎◌, ℕ, true, List, [], ◌∷◌, ◌++◌, length}
 use Rattle.std.specs.Char.{is_ascii_digit}
 use Rattle.std.specs.List.{list_all}
@@ -15,7 +15,7 @@ IsMarker byte = (side : Side) × (byte ≡ marker side)
 abbrev pub IsLineEnd : List ℕ → Type 0
 IsLineEnd bytes = (bytes ≡ []) ⊎ ((more : List ℕ) × (bytes ≡ 10 ∷ more))
 
--- The bytes start with at least one decimal digit, and LF or nothing follows the digits.
+-- The bytes start with at least one decimal digit, and the digits are followed by LF or the end.
 pub record StartsWithCount (bytes : List ℕ) : Type 0 where
   pub digits : List ℕ
   pub rest : List ℕ

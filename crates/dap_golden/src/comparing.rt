@@ -13,16 +13,16 @@ use dap_input::Limits;
 use dap_rename::Mode;
 use std::alloc::Global;
 
-/// How a golden file compares with the text of a later session.
+/// The result of comparing a golden file with the text of a later session.
 #[derive(Debug, Drop)]
 pub enum GoldenVerdict {
-    /// The golden file is the text, byte for byte.
+    /// The golden file equals the text, byte for byte.
     Same,
-    /// The sessions differ first at this record. The lines are those of [`diff`], the golden file
-    /// first.
+    /// The first record in which the sessions differ is this one. The lines are those of [`diff`],
+    /// with the golden file first.
     Differs { record: u64, lines: Vec<u8> },
     /// The sessions are the same except for ids, but the golden file is not a normal text: someone
-    /// changed it by hand, or an older version wrote it.
+    /// edited it, or an older version wrote it.
     NotNormal,
 }
 
@@ -43,16 +43,16 @@ pub fn compare_golden(
     requires limits { AreSound limits }
     requires text { IsNormalText limits mode text.now.bytes.items }
 
-    // `Same` is returned if and only if the golden file has exactly these bytes, so that an update
-    // would leave it unchanged.
+    // `Same` is returned if and only if the golden file has exactly these bytes. An update would
+    // then leave it unchanged.
     ensures same { (result ≡ Ok GoldenVerdict.Same) ↔ (golden.now ≡ text.now.bytes.items) }
 
-    // `NotNormal` is returned only for another golden file with this normal text, and for such a
-    // file no other verdict is.
+    // If the comparison returns a verdict, the verdict is `NotNormal` if and only if the golden
+    // file is another recording with this normal text.
     ensures not_normal { IfOk result (λ verdict. (verdict ≡ GoldenVerdict.NotNormal)
         ↔ IsNotNormal limits mode golden.now text.now.bytes.items) }
 
-    // Of each verdict, and of an error, what it says.
+    // The meaning of each verdict and of each error.
     ensures verdict { IfOk result (IsGoldenVerdict limits mode golden.now text.now.bytes.items) }
     ensures err { IfErr result (IsGoldenFault limits mode golden.now text.now.bytes.items) }
 {

@@ -1,22 +1,22 @@
-//! Why there is no golden text, and why a golden file cannot be compared.
+//! Defines why an input has no golden text, and why a golden file cannot be compared.
 use dap_input::Refused;
 use thiserror::Error;
 
 /// Why an input has no golden text.
 ///
-/// The variants are in the order of the steps. The error inside is never `ReadFault`, `WriteFault`
+/// The variants are in the order of the steps. The inner error is never `ReadFault`, `WriteFault`
 /// or `Memory`.
 #[derive(Clone, Copy, Debug, PartialEq, Eq, Error)]
 pub enum GoldenRefused {
     /// The trace was rejected.
     #[error("{0}")]
     Trace(Refused),
-    /// The rules cannot mask the recording. Records count from 1 in the recording.
+    /// The rules cannot mask the recording. Records are numbered from 1 in the recording.
     #[error("{0}")]
     Mask(Refused),
-    /// The masked recording was rejected, or leaves a request without a response. Records count
-    /// from 1 in the masked recording. If its text in order exceeds the limits, they count from 1
-    /// in that text.
+    /// The masked recording was rejected, or has a request without a response. Records are numbered
+    /// from 1 in the masked recording. If its text in order exceeds the limits, they are numbered
+    /// from 1 in that text.
     #[error("{0}")]
     Session(Refused),
     /// The masked recording has no records.
@@ -30,7 +30,7 @@ pub enum GoldenRefused {
 /// Why a golden file cannot be compared.
 #[derive(Clone, Copy, Debug, PartialEq, Eq, Error)]
 pub enum GoldenFault {
-    /// The golden file was rejected. Records count from 1 in it. The error inside is never
+    /// The golden file was rejected. Records are numbered from 1 in it. The inner error is never
     /// `ReadFault`, `WriteFault` or `Memory`.
     #[error("{0}")]
     Golden(Refused),

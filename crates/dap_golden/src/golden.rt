@@ -1,4 +1,4 @@
-//! Makes the text of a golden file.
+//! Creates the text of a golden file.
 ghost use Rattle.std.specs.Prelude.{◌≡◌, ◌↔◌, IfErr, IfOk, IsTrue, List, ℕ};
 ghost use Rattle.std.specs.Cow.{cow_slice_items};
 ghost use Rattle.dap_input.specs.Limits.{AreSound};
@@ -73,7 +73,7 @@ pub fn recording_of<'a>(
     Ok(CowSlice::Owned(recording))
 }
 
-/// Masks a recording, and frees it then.
+/// Masks a recording, then frees it.
 fn mask_recording(
     alloc: Global,
     recording: CowSlice<'_, u8>,
@@ -114,8 +114,8 @@ fn order_recording(
     }
 }
 
-/// Masks a recording if there are rules, and frees it then. Otherwise the recording is unchanged.
-/// The masked recording is not put in order.
+/// Masks a recording if there are rules, then frees it. Without rules, returns the recording
+/// unchanged. Does not put the masked recording in order.
 ///
 /// # Errors
 ///
@@ -141,7 +141,7 @@ pub fn apply_rules<'a>(
     Ok(CowSlice::Owned(masked))
 }
 
-/// Masks a recording and puts it in order, if there are rules. Otherwise it is unchanged.
+/// Masks a recording and puts it in order, if there are rules. Without rules, returns it unchanged.
 fn session_of<'a>(
     alloc: Global,
     recording: CowSlice<'a, u8>,
@@ -171,8 +171,8 @@ fn are_answered(counts: Checked) -> bool
     counts.client_open == 0 && counts.adapter_open == 0
 }
 
-/// Returns the golden text of a session. It must have records, and each request a response unless
-/// open requests are allowed.
+/// Returns the golden text of a session. The session must have at least one record. Each request
+/// must have a response, unless `allow_open` is set.
 fn golden_of(session: NormalSession, allow_open: bool) -> Result<GoldenText, GoldenRefused>
     ensures ok { IfOk result (λ text. (limits : Limits) (mode : Mode) (recording : List ℕ)
         → IsNormalSession limits mode recording session
@@ -214,19 +214,19 @@ fn golden_of_recording(
     }
 }
 
-/// Makes the text of a golden file from a trace or a recording in memory.
+/// Creates the text of a golden file from a trace or a recording in memory.
 ///
 /// An input that starts with a marker, decimal digits and LF is a trace, and is recorded. Any other
-/// input is a recording. If there are rules, the recording is masked, and then put in order if
-/// there are rules for the order. This session is checked as [`check`](dap_normal::check) does and
-/// normalised. It must have at least one record, and each request a response, unless `allow_open`
-/// is set.
+/// input is a recording. If there are rules, the recording is masked, and then put in order if some
+/// of the rules are for the order. The resulting session is checked in the same way as by
+/// [`check`](dap_normal::check), and normalised. It must have at least one record. Each request
+/// must have a response, unless `allow_open` is set.
 ///
 /// The input is not copied. Each intermediate text is freed after its last use.
 ///
 /// # Errors
 ///
-/// The first step that fails, with its first error:
+/// The error of the first step that fails:
 ///
 /// - `Trace`: the trace was rejected, or ends inside a piece or a frame.
 /// - `Mask`: the rules cannot mask a record of the recording.
@@ -244,13 +244,13 @@ pub fn golden_text(
 ) -> Result<GoldenText, GoldenRefused>
     requires limits { AreSound limits }
 
-    // The text is that of the input, its rules and the mode, and an error names the first step
-    // that fails.
+    // The text is that of the input with its rules and mode. An error names the first step that
+    // fails.
     ensures ok { IfOk result (IsGolden limits mode (mask_given rules.entry) allow_open input.now) }
     ensures err { IfErr result
         (IsRefusedGolden limits mode (mask_given rules.entry) allow_open input.now) }
 
-    // So `compare_golden` takes the text.
+    // The text satisfies the precondition of `compare_golden`.
     ensures normal { IfOk result (λ text. IsNormalText limits mode text.bytes.items) }
 {
     let recording = recording_of(alloc, input, limits)?;

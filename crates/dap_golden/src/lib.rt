@@ -1,4 +1,4 @@
-//! The text of a golden file, made from a trace or a recording, and its comparison with a golden
+//! Creates the text of a golden file from a trace or a recording, and compares it with a golden
 //! file.
 #![tactic(auto)]
 

@@ -1,4 +1,4 @@
-//! Normalises a recording in memory in one pass, and counts what it has.
+//! Normalises a recording in memory in one pass, and counts its records and unanswered requests.
 ghost use Rattle.std.specs.Prelude.{◌≡◌, [], IfErr, IfOk};
 ghost use Rattle.dap_input.specs.Limits.{AreSound};
 ghost use Rattle.dap_normal.specs.NameTables.{AreReady};
@@ -13,15 +13,15 @@ use dap_normal::{Checked, NormalRecords, index_tables};
 use dap_rename::{Mode, NameTable, Tables};
 use std::alloc::Global;
 
-/// The normal text of a recording, and its numbers.
+/// The normal text of a recording, and its counts.
 #[derive(Drop)]
 pub struct NormalSession {
     pub bytes: Vec<u8>,
     pub counts: Checked,
 }
 
-/// Does what [`normalise_bytes`](dap_normal::normalise_bytes) and [`check`](dap_normal::check) do,
-/// in one pass.
+/// Does the same as [`normalise_bytes`](dap_normal::normalise_bytes) and
+/// [`check`](dap_normal::check), in one pass.
 ///
 /// # Errors
 ///
@@ -40,7 +40,7 @@ pub fn normalise_session(
     normalise_with(alloc, recording, limits, tables, mode)
 }
 
-/// Does what [`normalise_session`] does, with these tables for the ids.
+/// Does the same as [`normalise_session`], with these tables for the ids.
 fn normalise_with<T: NameTable + Drop>(
     alloc: Global,
     recording: &[u8],

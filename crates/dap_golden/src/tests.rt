@@ -1,4 +1,4 @@
-//! Worked rows: a session of one event, written out as a trace, a recording and a golden file.
+//! Tests a session of one event, written as a trace, a recording and a golden file.
 use crate::{GoldenRefused, GoldenText, GoldenVerdict, compare_golden, golden_text};
 use dap_frame::FrameLimits;
 use dap_input::{Limits, Refused};
@@ -18,11 +18,11 @@ const LIMITS: Limits = Limits {
 const TRACE: &[u8] =
     b"<20\nContent-Length: 64\r\n<66\n\r\n{\"body\":{\"output\":\"hi\"},\"event\":\"output\",\"seq\":5,\"type\":\"event\"}";
 
-/// The event with another number, and its members in another order.
+/// The event with another sequence number, and with its members in another order.
 const RECORDING: &[u8] =
     b"<Content-Length: 64\r\n\r\n{\"seq\":7,\"type\":\"event\",\"event\":\"output\",\"body\":{\"output\":\"hi\"}}\n";
 
-/// The event as the golden file has it.
+/// The event in the golden file.
 const GOLDEN: &[u8] =
     b"<Content-Length: 64\r\n\r\n{\"body\":{\"output\":\"hi\"},\"event\":\"output\",\"seq\":1,\"type\":\"event\"}\n";
 
@@ -38,7 +38,7 @@ fn golden(alloc: Global, input: &[u8]) -> Result<GoldenText, GoldenRefused> {
     golden_text(alloc, input, None, false, LIMITS, Mode::Whole)
 }
 
-/// Whether the input has the golden file, of one record.
+/// Returns whether the input has this golden text, of one record.
 fn has_golden(alloc: Global, input: &[u8]) -> bool {
     match golden(alloc, input) {
         Ok(text) => text.records == 1 && text.bytes.as_slice() == GOLDEN,
@@ -46,7 +46,7 @@ fn has_golden(alloc: Global, input: &[u8]) -> bool {
     }
 }
 
-/// Why the input has no golden text.
+/// Returns why the input has no golden text.
 fn refused(alloc: Global, input: &[u8]) -> Option<GoldenRefused> {
     golden(alloc, input).err()
 }
@@ -73,10 +73,10 @@ fn compared(alloc: Global, file: &[u8]) -> Option<GoldenVerdict> {
     }
 }
 
-/// The lines for the other event as the golden file.
+/// The lines if the golden file contains the other event.
 const LINES: &[u8] = b"< event \"output\"\nA body.output \"ho\"\nB body.output \"hi\"\n";
 
-/// Whether the golden file differs at the first record, with these lines.
+/// Returns whether the golden file differs in the first record, with these lines.
 fn differs(alloc: Global, file: &[u8]) -> bool {
     match compared(alloc, file) {
         Some(GoldenVerdict::Differs { record, lines }) => record == 1 && lines.as_slice() == LINES,

@@ -32,7 +32,7 @@ fn is_line_end(bytes: &[u8]) -> bool
     }
 }
 
-/// Returns whether the bytes start with decimal digits and then end or have LF.
+/// Returns whether the bytes start with decimal digits that are followed by LF or the end.
 fn starts_with_count(bytes: &[u8]) -> bool
     ensures { IsTrue result ↔ StartsWithCount bytes.now }
 {
@@ -40,7 +40,7 @@ fn starts_with_count(bytes: &[u8]) -> bool
     0 < digits && is_line_end(&bytes[digits..])
 }
 
-/// Returns whether the input is a trace. Any other input is taken as a recording.
+/// Returns whether the input is a trace. Any other input is treated as a recording.
 pub fn is_trace(input: &[u8]) -> bool
     ensures { IsTrue result ↔ IsTraceHead input.now }
 {

@@ -1,4 +1,4 @@
-//! Compares a session with its golden file, or makes or renews the golden file.
+//! Compares a session with its golden file, or creates or updates the golden file.
 ghost use Rattle.std.specs.Prelude.{◌≡◌, ◌↔◌, ◌+◌, ◌<◌, ◌≤◌, ◌^◌, None, IfOk, length};
 ghost use Rattle.dap_file.specs.Crash.{LeavesOnly};
 ghost use Rattle.dap_file.specs.Replacing.{IsOldOrNew};
@@ -18,26 +18,26 @@ use dap_mask::MaskRules;
 use dap_rename::Mode;
 use std::alloc::Global;
 
-/// What `golden` is to do.
+/// The options of `golden`.
 #[derive(Clone, Copy, Debug, PartialEq, Eq)]
 pub struct GoldenRequest {
-    /// Write the golden file if it differs or does not exist. Otherwise the session is compared
-    /// with it.
+    /// Whether to write the golden file if it differs or does not exist. If not set, the session is
+    /// compared with it.
     pub update: bool,
-    /// Accept a session in which some request has no response.
+    /// Whether to accept a session in which a request has no response.
     pub allow_open: bool,
-    /// How the ids of the session are numbered.
+    /// The mode in which the ids of the session are numbered.
     pub mode: Mode,
 }
 
-/// What `golden` did.
+/// The result of `golden`.
 #[derive(Debug, Drop)]
 pub enum GoldenDone {
-    /// The session is compared with the golden file.
+    /// The session was compared with the golden file.
     Compared(GoldenVerdict),
-    /// The golden file had the text of the session already.
+    /// The golden file already had the text of the session.
     Unchanged,
-    /// The golden file was made or replaced. The text of the session has so many records.
+    /// The golden file was created or replaced. The text of the session has this many records.
     Written { records: u64 },
 }
 
@@ -52,7 +52,7 @@ pub enum GoldenStop {
     Missing,
     /// The golden file could not be read.
     GoldenUnread,
-    /// The golden file is longer than an input may be.
+    /// The golden file is longer than the limit for an input.
     GoldenTooLong,
     /// The golden file is not an accepted recording.
     Golden(Refused),
@@ -62,7 +62,7 @@ pub enum GoldenStop {
     Memory,
 }
 
-/// Reads an input and makes its golden text.
+/// Reads an input and creates its golden text.
 fn read_text<I: Source>(
     alloc: Global,
     input: &mut I,
@@ -153,7 +153,7 @@ fn has_bytes<F: Replaceable>(
     }
 }
 
-/// Writes the text of the session to the golden file, unless the file has it.
+/// Writes the text of the session to the golden file, unless the file already has it.
 fn update_file<F: Replaceable>(
     alloc: Global,
     file: &mut F,
@@ -180,17 +180,17 @@ fn update_file<F: Replaceable>(
     }
 }
 
-/// Compares a session with its golden file, or makes or renews the golden file.
+/// Compares a session with its golden file, or creates or updates the golden file.
 ///
 /// The input is a trace or a recording, as [`golden_text`] describes. It is read to its end before
-/// the golden file is opened. With `update` the golden file is replaced as a whole, as
-/// [`replace`] describes, unless it has the text already.
+/// the golden file is opened. With `update`, the golden file is replaced as a whole, as [`replace`]
+/// describes, unless it already has the text.
 ///
 /// # Errors
 ///
 /// - `Unread`: a read of the input failed.
 /// - `Input`: the input has no golden text. The golden file is not opened.
-/// - `Missing`: there is no golden file, and `update` is not set.
+/// - `Missing`: the golden file does not exist, and `update` is not set.
 /// - `GoldenUnread`: a read of the golden file failed.
 /// - `GoldenTooLong`: the golden file has more than `limits.input` bytes, and `update` is not set.
 /// - `Golden`: the golden file was rejected, and `update` is not set.
@@ -210,18 +210,19 @@ pub fn golden_file<I: Source, F: Replaceable>(
     requires few { F.failures file.old < 2 ^ 61 }
     requires none { F.is_known file.old → F.temporary file.old ≡ None }
 
-    // What the text of the input and the golden file say is returned, and the golden file is
-    // written only on an update, after the input is judged.
+    // The result is determined by the text of the input and the golden file. The golden file is
+    // written only on an update, after the input was checked.
     ensures answer { Answers I.Source F.Replaceable limits (mask_given rules.entry) request
         input.old input.new file.old file.new result }
 
-    // A crash, the end of the process or a loss of power at any moment leaves what it could have
-    // left before the call, or, on an update, the whole text of the session.
+    // A crash, the end of the process or a loss of power may happen at any moment. It leaves a
+    // content that it could have left before the call, or, on an update, the complete text of the
+    // session.
     ensures any_moment { F.is_known file.old
         → LeavesOnly F.moment F.left_since (MayBeLeft I.Source F.Replaceable limits
         (mask_given rules.entry) request input.old input.new file.old) file.old file.new }
 
-    // It reads at most one byte past the limit.
+    // At most one byte past the limit is read.
     ensures taken { I.given input.new ≤ I.given input.old + limits.input + 1 }
 {
     let text = read_text(alloc, input, rules, request, limits)?;

@@ -1,4 +1,4 @@
--- What is left of messages, one by one.
+-- Masked messages, one by one.
 use Rattle.std.proofs.Common.{◌≡◌, ◌⊎◌, inl, inr, true, false, Bool, List, []}
 use Rattle.std.proofs.Common.{◌∷◌, ◌++◌, map, refl, sym, ◌∙◌, ap, subst}
 use Rattle.std.proofs.lemmas.Bool.{true≢false, cases_Bool}
@@ -32,7 +32,7 @@ module _ (mask : Mask) where
       ap text (left-append messages others)
       ∙ text-append (left_of mask messages) (left_of mask others)
 
-  -- of a message that is left out nothing is left, and of another one the masked message
+  -- A dropped message leaves nothing; any other message leaves the masked message.
   pub left_none : (m : Sent) → is_dropped mask.dropped m.doc ≡ true → left_of mask (m ∷ []) ≡ []
   left_none m dropped = rw dropped refl
 

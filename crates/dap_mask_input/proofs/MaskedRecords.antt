@@ -1,4 +1,4 @@
--- A record that is masked behind others: what is left of it is appended, or it is refused.
+-- Masking one record after others: its output is appended, or the record is rejected.
 use Rattle.std.proofs.Common.{◌≡◌, ◌⊎◌, inl, inr, ℕ, ◌+◌, ◌<◌, ◌≤◌, List, [], ◌∷◌}
 use Rattle.std.proofs.Common.{◌++◌, length, Ok, Err, refl, sym, ◌∙◌, ap, subst, arith, append-nil}
 use Rattle.std.proofs.Common.{length-append, None, Some, Result}
@@ -23,7 +23,7 @@ use Rattle.dap_mask_input.proofs.LeftLists.{left-append, left_none, left_one, ma
 module _ (limits : Limits) (mask : Mask) (messages : List Sent) (held : Held) (n written : ℕ)
     (fits : Fits limits (left_of mask messages))
     (count : written ≡ length (masked_text mask messages)) where
-  -- an event that the rules leave out
+  -- An event that the rules drop.
   pub left_out : (out : List ℕ) → IsLeftOf mask held.1 None
       → Masked limits mask messages held n out out (Ok written)
   left_out out (d, read, dropped) =
@@ -45,7 +45,7 @@ module _ (limits : Limits) (mask : Mask) (messages : List Sent) (held : Held) (n
         count = count ∙ ap (λ ms. length (text ms)) (sym same);
       }
 
-  -- a fraction is left
+  -- A number that is not an integer of 64 bits remains after masking.
   pub fraction_left : LeavesFraction mask held.1
       → RefusesHeld (Objects limits mask messages held) n (Fraction n)
   fraction_left (d, read, (stays, not_sound)) =
@@ -58,7 +58,7 @@ module _ (limits : Limits) (mask : Mask) (messages : List Sent) (held : Held) (n
         ),
       )
 
-  -- what is left is written
+  -- The masked message is written.
   module _ (e : Doc) (is : IsLeftOf mask held.1 (Some e)) where
     abbrev message : Sent
     message = record { side = held.0; doc = is.0 }

@@ -1,4 +1,5 @@
--- A masked text is masked to itself, and tells the messages but for what the rules take away.
+-- A masked text masks to itself, and determines the messages except for the values that the rules
+-- remove.
 use Rattle.std.proofs.Common.{◌≡◌, ℕ, ◌≤◌, true, not, List, [], ◌∷◌, length, map}
 use Rattle.std.proofs.Common.{refl, sym, ◌∙◌, ap, ap₂, subst}
 use Rattle.std.specs.List.{AllByRecursion, AllZip}
@@ -35,7 +36,7 @@ use Rattle.dap_mask_input.proofs.MaskingFacts.{accepted_facts, value_laws}
 
 -- ---- messages that were read
 
--- some content is read as the message
+-- Some content is read as the message.
 abbrev IsSomeRead : Sent → Type 0
 IsSomeRead m = (content : List ℕ) × IsReadLoosely content m.doc
 
@@ -63,7 +64,7 @@ contents_of (m ∷ ms) = (m.side, text_of m.doc) ∷ contents_of ms
 
 module _ (mask : Mask) (safe : are_safe mask.changes ≡ true)
     (settled : are_settled mask.changes ≡ true) where
-  -- ---- what is left of what is left
+  -- ---- masking masked messages
 
   kept_again : (m : Sent) → is_kept mask (mask_message mask m) ≡ is_kept mask m
   kept_again m = ap not (dropped-masked mask.changes mask.dropped m.doc safe)
@@ -113,7 +114,7 @@ module _ (mask : Mask) (safe : are_safe mask.changes ≡ true)
       (equal_from_agree mask.changes m.doc n.doc safe (ordered n read.0) agree.0.1))
       (all_equal ms ns read.1 agree.1)
 
-  -- What is left of what was read is read from its own text.
+  -- The masked messages are read from their own text.
   read_again : (messages : List Sent) → AllByRecursion IsSomeRead messages
       → AreWhole (left_of mask messages)
       → AreMessages (contents_of (left_of mask messages)) (left_of mask messages)
@@ -133,7 +134,7 @@ module _ (mask : Mask) (safe : are_safe mask.changes ≡ true)
         read_again messages read.1 sound.1,
       ))
 
--- What is typed from a content is typed from what is read of it.
+-- A message typed from a content is typed from the document that is read from that content.
 typed_as : (records : List Held) (ms ts : List Sent) → AreMessages records ms
     → AreTypedMessages records ts → AllZip IsTypedAs ms ts
 typed_as [] [] [] read typed = tt
@@ -168,7 +169,7 @@ module _ (limits : Limits) (sound : AreSound limits) where
 
   module _ (mask : Mask) (safe : are_safe mask.changes ≡ true)
       (settled : are_settled mask.changes ≡ true) where
-    -- ---- what is masked is masked to itself
+    -- ---- masked output masks to itself
 
     left_accepted : (bytes : List ℕ) (messages : List Sent) → IsAccepted limits mask bytes messages
         → IsAccepted limits mask (text (left_of mask messages)) (left_of mask messages)
@@ -246,7 +247,7 @@ module _ (limits : Limits) (sound : AreSound limits) where
         typed_as again.records (left_of mask messages) n.messages again.read
         (subst (λ records. AreTypedMessages records n.messages) same typed.typed)
 
-    -- ---- all that is promised
+    -- ---- all guarantees
 
     module _ (leave : leave_ids mask.changes ≡ true) where
       each_masked : (messages : List Sent) → AllByRecursion IsSomeRead messages

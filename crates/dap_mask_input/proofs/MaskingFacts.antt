@@ -1,4 +1,4 @@
--- Recordings that are masked: what their runs owe, and that they are the accepted ones.
+-- Masked recordings satisfy the laws of runs, and the accepted recordings are the accepted runs.
 use Rattle.std.proofs.Common.{◌≡◌, ◌⊎◌, inl, inr, ℕ, ◌+◌, ◌≤◌, List, [], ◌∷◌, ◌++◌, length, refl}
 use Rattle.std.proofs.Common.{sym, ◌∙◌, ap, ap₂, subst, arith, append_assoc, append-nil}
 use Rattle.std.proofs.Common.{length-append}
@@ -26,7 +26,7 @@ message_once held m n one two =
     (one_loose_reading held.1 m.doc n.doc one.1 two.1)
 
 module _ (limits : Limits) (mask : Mask) where
-  -- ---- one judgement
+  -- ---- at most one outcome
 
   whole_of_other : (held : Held) (m n : Sent) → IsMessage held m → IsMessage held n
       → AreWhole (left_of mask (m ∷ [])) → AreWhole (left_of mask (n ∷ []))
@@ -78,7 +78,7 @@ module _ (limits : Limits) (mask : Mask) where
     next_not_objected = next_not_objected;
   }
 
-  -- ---- some judgement
+  -- ---- some outcome
 
   module _ (before : List Sent) (held : Held) where
     abbrev Judgement : Type 0
@@ -149,7 +149,7 @@ module _ (limits : Limits) (mask : Mask) where
             (omega (arith, ap length split, length-append front more)),
       )
 
-  -- the records of a run, that they hold its messages, and that what is left can be written
+  -- The records of a run contain its messages, and the masked messages can be written.
   records_of : (before messages : List Sent) (used : ℕ) (bytes : List ℕ)
       → Run (masking limits mask) before used bytes messages
       → (records : List Held) × IsRecording limits.frame bytes records
@@ -195,7 +195,7 @@ module _ (limits : Limits) (mask : Mask) where
         };
   }
 
-  -- A reader of records gives the records that are masked.
+  -- A reader of records returns the records that are masked.
   pub reads_records : ReadsAs (masking limits mask) (record_items limits.frame) held_of
   reads_records = record {
     records = readable limits.frame;

@@ -1,4 +1,4 @@
--- What the loop of `mask` over the records of its input keeps, and what it may answer.
+-- The invariant of the loop of `mask` over the records of its input, and its possible results.
 use Rattle.std.proofs.Common.{◌≡◌, inl, inr, ℕ, ◌+◌, ◌-◌, ◌<◌, List, [], ◌∷◌, ◌++◌}
 use Rattle.std.proofs.Common.{Option, Some, None, Result, Ok, Err, refl, sym, ◌∙◌, subst}
 use Rattle.std.proofs.Common.{length}
@@ -39,8 +39,8 @@ use Rattle.dap_mask_input.proofs.PendingTexts.{IsAtHand, Waiting, failed_inside,
 use Rattle.dap_mask_input.proofs.PendingTexts.{none_waiting, on, stops_before}
 use Rattle.dap_mask_input.proofs.PendingTexts.{stops_behind, waits_on}
 
--- The records before the next one are judged, and what is left of them went out or waits. The text
--- of what is left is so long.
+-- The records before the next one are accepted, and their masked text, of `written` bytes, was
+-- written or is buffered.
 pub record Going {R W : Type 0} (limits : Limits) (mask : Mask) (source : Source R) (sink : Sink W)
     (start reader : R) (before writer : W) (records : Records RecordReading) (written : ℕ)
     (waiting : List ℕ) : Type 0 where
@@ -107,7 +107,7 @@ module _ {R W : Type 0} (rules : MaskRules) (limits : Limits) (sound : AreSound 
 
   module _ (reader : R) (writer : W) (records : Records RecordReading) (written : ℕ)
       (waiting : List ℕ) (was : Goes reader writer records written waiting) where
-    -- where all that waits went out
+    -- All buffered output was written.
     all_out : (mid : W) → AllWritten sink writer mid waiting
         → Streaming (masking limits mask) (StandsForRecord limits.frame) (masked_text mask) source
         sink start reader before mid records was.values
@@ -122,7 +122,7 @@ module _ {R W : Type 0} (rules : MaskRules) (limits : Limits) (sound : AreSound 
       Reads answer = ReadsNext (record_items limits.frame) (StandsForRecord limits.frame) source
           records new reader after answer
 
-      -- what waits did not go out, and no record is to be written behind it
+      -- The buffered output was not written completely, and no record is to be written after it.
       failed : (answer : Result (Option WholeRecord) Refused) → Reads answer → (end : W)
           → FrontWritten sink writer end waiting → Fails after end
       failed answer read end front =
@@ -210,7 +210,7 @@ module _ {R W : Type 0} (rules : MaskRules) (limits : Limits) (sound : AreSound 
         not_masked_gives_up because end result (inr (front, is)) memory =
             absurd (let e = sym is ∙ memory in cc)
 
-        -- what is left of the record was appended to what waits
+        -- The masked record was appended to the buffered output.
         module _ (next : ℕ) (longer : List ℕ)
             (is : Masked limits mask was.values (held_of whole) records.number waiting longer
             (Ok next)) where

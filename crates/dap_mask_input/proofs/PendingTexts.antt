@@ -1,4 +1,4 @@
--- What is left of records and awaits a write, and where a write stops that fails inside it.
+-- Masked records that are buffered, and the record in which a write that fails stops.
 use Rattle.std.proofs.Common.{◌≡◌, ◌⊎◌, ⊎_elim, inl, inr, ℕ, ◌+◌, ◌-◌, ◌<◌, ◌≤◌, List, [], ◌∷◌}
 use Rattle.std.proofs.Common.{◌++◌, length, take, Option, Some, Result, Ok, refl, sym, ◌∙◌}
 use Rattle.std.proofs.Common.{ap, subst, arith, append_assoc, append-nil, length-append}
@@ -41,7 +41,7 @@ use Rattle.dap_mask_input.specs.MaskingSteps.{Masked}
 use Rattle.dap_mask_input.proofs.MaskingFacts.{reads_records}
 
 module _ (limits : Limits) (mask : Mask) where
-  -- The records before this one are accepted, and this is what is left of them.
+  -- The records before this one are accepted, and `given` is their masked text.
   pub record AreBefore (bytes : List ℕ) (number : ℕ) (given : List ℕ) : Type 0 where
     pub values : List Sent
     pub front : List ℕ
@@ -51,8 +51,8 @@ module _ (limits : Limits) (mask : Mask) where
     pub is_number : number ≡ length values + 1
     pub text_is : given ≡ masked_text mask values
 
-  -- So many of the bytes that await a write, behind those that went out, end in what is left of
-  -- this record.
+  -- The first `taken` buffered bytes, after the bytes already written, end in the output of this
+  -- record.
   pub record StopsIn (bytes sent waiting : List ℕ) (taken : ℕ) : Type 0 where
     pub number : ℕ
     pub given : List ℕ
@@ -64,12 +64,12 @@ module _ (limits : Limits) (mask : Mask) where
     pub within : count ≤ length next
     pub same : sent ++ take taken waiting ≡ given ++ take count next
 
-  -- The whole next record is among the bytes that have come.
+  -- The unread bytes contain the complete next record.
   abbrev pub IsAtHand : Records RecordReading → Type 0
   IsAtHand records = HasItem (record_items limits.frame) records.pieces.unread
 
-  -- What went out and what awaits a write are what is left of the records. Where some awaits one,
-  -- the next record is at hand.
+  -- The bytes written and the bytes buffered are the output of the records. If any bytes are
+  -- buffered, the next record is buffered too.
   pub record Waiting (records : Records RecordReading) (bytes given sent waiting : List ℕ)
       : Type 0 where
     pub text_is : given ≡ sent ++ waiting
@@ -93,7 +93,7 @@ module _ {R : Type 0} (source : Source R) (limits : Limits) (mask : Mask) (start
     text_is = refl;
   }
 
-  -- where all went out
+  -- All output was written.
   pub none_waiting : Waiting limits mask records was.bytes (masked_text mask values)
       (masked_text mask values) []
   none_waiting = record {
@@ -129,13 +129,13 @@ module _ {R : Type 0} (source : Source R) (limits : Limits) (mask : Mask) (start
         records new reader after answer
 
     module _ (answer : Result (Option WholeRecord) Refused) (read : Reads answer) where
-      -- No more was read than the next record asked for.
+      -- No more was read than the next record requires.
       pub read_to : IsReadTo (masking limits mask) (was.bytes ++ read.more) records.number
       read_to = steps.read_to (masking limits mask) (record_items limits.frame) held_of
           (reads_records limits mask) (StandsForRecord limits.frame) source was.bytes records values
           was.behind new reader after answer read
 
-      -- a record that is at hand asks for none
+      -- A record that is buffered requires no read.
       no_more : IsAtHand limits mask records → read.more ≡ []
       no_more has = none_of read.needed
         where
@@ -156,7 +156,7 @@ module _ {R : Type 0} (source : Source R) (limits : Limits) (mask : Mask) (start
           (sym (ap (λ t. was.bytes ++ t) (no_more has) ∙ append-nil was.bytes))
           (waits.stops taken few)
 
-      -- where the next record gives no text
+      -- The next record produces no output.
       pub stops_before : (taken : ℕ) → taken ≤ length waiting
           → StopsIn limits mask (was.bytes ++ read.more) sent waiting taken
       stops_before taken few =
@@ -176,7 +176,7 @@ module _ {R : Type 0} (source : Source R) (limits : Limits) (mask : Mask) (start
                 ∙ sym waits.text_is ∙ sym (append-nil (masked_text mask values));
           }
 
-    -- where it does
+    -- The next record produces output.
     module _ (whole : WholeRecord) (read : Reads (Ok (Some whole))) (written : ℕ)
         (longer : List ℕ)
         (is : Masked limits mask values (held_of whole) records.number waiting longer (Ok written))

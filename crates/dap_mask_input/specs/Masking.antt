@@ -1,5 +1,5 @@
--- What is left of the messages of a recording, and what a recording is first refused for. Source:
--- own, over recordings and the rules of a mask.
+-- The masked messages of a recording, and the first error for which a recording is rejected.
+-- Source: own, over recordings and the rules of a mask.
 use Rattle.std.specs.Prelude.{◌≡◌, ℕ, ◌≤◌, Bool, true, not, List, [], ◌∷◌, ◌++◌, length, map}
 use Rattle.std.specs.List.{filter, AllByRecursion}
 use Rattle.dap_tree.specs.Doc.{is_sound}
@@ -14,12 +14,12 @@ use Rattle.dap_input.specs.declared.limits.Limits.{Limits}
 use Rattle.dap_input.specs.Judging.{Judging, Objection, no_message, grew}
 use Rattle.dap_normal.specs.Accepting.{Held, Fits, text}
 
--- The content that the record holds is JSON text, and this is what its side sent; each number that
--- is not kept whole is out of range.
+-- The content of the record is JSON, and `message` is the message that its side sent. A number that
+-- is not an integer of 64 bits is read as out of range.
 abbrev pub IsMessage : Held → Sent → Type 0
 IsMessage held message = (message.side ≡ held.0) × IsReadLoosely held.1 message.doc
 
--- The records hold these messages, in order.
+-- The records contain these messages, in order.
 abbrev pub AreMessages : List Held → List Sent → Type 0
 AreMessages [] [] = Unit {0}
 AreMessages [] (message ∷ messages) = ⊥
@@ -27,13 +27,13 @@ AreMessages (held ∷ records) [] = ⊥
 AreMessages (held ∷ records) (message ∷ messages) = IsMessage held message
     × AreMessages records messages
 
--- ---- what is left
+-- ---- masked messages
 
--- No rule leaves the message out.
+-- No rule drops the message.
 abbrev pub is_kept : Mask → Sent → Bool
 is_kept mask message = not (is_dropped mask.dropped message.doc)
 
--- The messages that no rule leaves out, in their order.
+-- The messages that no rule drops, in their order.
 abbrev pub kept : Mask → List Sent → List Sent
 kept mask messages = filter (is_kept mask) messages
 
@@ -42,21 +42,21 @@ abbrev pub mask_message : Mask → Sent → Sent
 mask_message mask message =
     record { side = message.side; doc = masked mask.changes message.doc }
 
--- What is left of the messages.
+-- The messages after masking.
 abbrev pub left_of : Mask → List Sent → List Sent
 left_of mask messages = map (mask_message mask) (kept mask messages)
 
--- The text of what is left.
+-- The text of the messages after masking.
 abbrev pub masked_text : Mask → List Sent → List ℕ
 masked_text mask messages = text (left_of mask messages)
 
--- Each message can be written: no fraction is left in it.
+-- Each message can be written: all of its numbers are integers of 64 bits.
 abbrev pub AreWhole : List Sent → Type 0
 AreWhole messages = AllByRecursion (λ message. is_sound message.doc ≡ true) messages
 
--- ---- what is accepted and refused
+-- ---- accepted and rejected recordings
 
--- The bytes are a recording of these messages within the limits, and what is left of them can be
+-- The bytes are a recording of these messages within the limits, and the masked messages can be
 -- written within the limits.
 pub record IsAccepted (limits : Limits) (mask : Mask) (bytes : List ℕ)
     (messages : List Sent) : Type 0 where
@@ -67,14 +67,15 @@ pub record IsAccepted (limits : Limits) (mask : Mask) (bytes : List ℕ)
   pub whole : AreWhole (left_of mask messages)
   pub fits : Fits limits (left_of mask messages)
 
--- The message that a record holds is accepted behind these.
+-- The message in the record `held` is accepted after these messages.
 pub record IsNext (limits : Limits) (mask : Mask) (before : List Sent) (held : Held)
     (message : Sent) : Type 0 where
   pub is_message : IsMessage held message
   pub whole : AreWhole (left_of mask (message ∷ []))
   pub fits : Fits limits (left_of mask (before ++ message ∷ []))
 
--- Behind these messages, what a record holds is refused for this, in this order.
+-- After these messages, the record `held` is rejected for this reason. The reasons are checked in
+-- this order.
 abbrev pub Objects : Limits → Mask → List Sent → Held → Objection → Type 0
 Objects limits mask before held (no_message no_reading) = HasNoReading held.1
 Objects limits mask before held (no_message fraction) =
@@ -84,7 +85,7 @@ Objects limits mask before held grew =
     × (Fits limits (left_of mask (before ++ message ∷ [])) → ⊥)
 Objects limits mask before held why = ⊥
 
--- recordings as they are masked
+-- Recordings as `mask` checks them.
 abbrev pub masking : Limits → Mask → Judging
 masking limits mask = record {
   Held = Held;

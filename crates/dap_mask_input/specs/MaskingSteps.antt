@@ -14,8 +14,8 @@ use Rattle.dap_input.specs.declared.refused.Refused.TheVariants.{Grew, Memory}
 use Rattle.dap_normal.specs.Accepting.{Held}
 use Rattle.dap_mask_input.specs.Masking.{IsNext, Objects, masked_text}
 
--- Behind these messages, whose text is so long, the record that holds this is accepted, and what is
--- left of it is appended to what was there before; the whole text is then so long.
+-- After these messages, the record `held` is accepted, and its masked record is appended to the
+-- output buffer. The masked text of all messages then has `after` bytes.
 pub record IsTaken (limits : Limits) (mask : Mask) (messages : List Sent) (held : Held)
     (old new : List ℕ) (after : ℕ) : Type 0 where
   pub message : Sent
@@ -25,7 +25,7 @@ pub record IsTaken (limits : Limits) (mask : Mask) (messages : List Sent) (held 
   pub text_is : masked_text mask (messages ++ message ∷ []) ≡ masked_text mask messages ++ longer
   pub count : after ≡ length (masked_text mask (messages ++ message ∷ []))
 
--- Record n, which holds this, is taken or refused.
+-- Outcome for record n: it is accepted or rejected.
 abbrev pub Masked : Limits → Mask → List Sent → Held → ℕ → List ℕ → List ℕ → Result ℕ Refused
     → Type 0
 Masked limits mask messages held n old new (Ok after) =
@@ -33,7 +33,8 @@ Masked limits mask messages held n old new (Ok after) =
 Masked limits mask messages held n old new (Err because) =
     RefusesHeld (Objects limits mask messages held) n because
 
--- The record of a document is appended behind a text that has so many bytes, or passes a limit.
+-- The record of a document is appended to an output that has `written` bytes so far, or exceeds a
+-- limit.
 abbrev pub Writes : Limits → Side → Doc → ℕ → ℕ → List ℕ → List ℕ → Result ℕ Refused → Type 0
 Writes limits side doc n written old new (Ok after) =
     (length (text_of doc) ≤ limits.frame.content) × (new ≡ old ++ record_text side (text_of doc))

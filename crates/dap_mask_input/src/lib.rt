@@ -1,4 +1,4 @@
-//! Recordings masked: what changes from run to run is taken away of each message.
+//! Masks recordings: removes from each message the values that change from run to run.
 #![tactic(auto)]
 
 pub mod laws;

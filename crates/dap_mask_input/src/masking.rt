@@ -23,19 +23,19 @@ use dap_recording::{Record, RecordReader, Side, write_record};
 use dap_tree::{Scratch, Tree, TreeFault, write_tree_to};
 use std::alloc::Global;
 
-/// How long a text grows before it is written, though the next record is at hand.
+/// The number of buffered output bytes that are written even if the next record is buffered.
 const PIECE: usize = 65_536;
 
-/// Room that is kept from record to record.
+/// Buffers that are reused for every record.
 #[derive(Drop)]
 struct Room {
     scratch: Scratch,
-    /// The text of a content.
+    /// The canonical content of one record.
     content: Vec<u8>,
 }
 
-/// Appends the record of a tree behind a text that has so many bytes, and answers how many it then
-/// has.
+/// Appends the record of a tree to an output that has `written` bytes so far. Returns the new
+/// number of bytes.
 fn append_record(
     alloc: Global,
     number: u64,
@@ -71,9 +71,9 @@ fn append_record(
     Ok(after)
 }
 
-/// Appends the record of what the rules leave of a record, behind a text that has so many bytes,
-/// and answers how many it then has. Nothing is left of an event that they leave out. On an error
-/// nothing is appended.
+/// Appends the record that the rules make of `whole` to an output that has `written` bytes so far.
+/// Returns the new number of bytes. Appends nothing for an event that the rules drop, or on an
+/// error.
 fn append_masked(
     alloc: Global,
     rules: &MaskRules,
@@ -112,7 +112,7 @@ fn append_masked(
     }
 }
 
-/// Gives the answer once all that was written is flushed.
+/// Flushes the writer and returns `answer`, or `WriteFault` if the flush fails.
 fn flushed<W: Sink>(writer: &mut W, answer: Result<(), Refused>) -> Result<(), Refused>
     requires { W.failures writer.old < 2 ^ 63 }
     ensures { Flushes W.Sink writer.old writer.new answer result }
@@ -123,8 +123,7 @@ fn flushed<W: Sink>(writer: &mut W, answer: Result<(), Refused>) -> Result<(), R
     }
 }
 
-/// Writes the text that waits, and gives the answer: where memory was refused, at once, and else
-/// once all that was written is flushed.
+/// Writes the buffered output and returns `answer`. Flushes first, unless `answer` is `Memory`.
 fn ended<W: Sink>(writer: &mut W, text: &[u8], answer: Result<(), Refused>) -> Result<(), Refused>
     requires { W.failures writer.old < 2 ^ 62 }
     ensures { Ends W.Sink text.now writer.old writer.new answer result }
@@ -138,8 +137,8 @@ fn ended<W: Sink>(writer: &mut W, text: &[u8], answer: Result<(), Refused>) -> R
     }
 }
 
-/// Writes what is left of each record of an input, of which nothing has been read. What is left of
-/// records that came together goes out together, before more is read.
+/// Masks and writes each record of an input that has not been read yet. Masked records that are
+/// buffered together are written together, before more is read.
 fn mask_records<R: Source, W: Sink>(
     alloc: Global,
     rules: &MaskRules,
@@ -157,8 +156,8 @@ fn mask_records<R: Source, W: Sink>(
         (IsMaskedTo limits (mask_of rules.now)) R.Source W.Sink reader.old reader.new
         writer.old writer.new result }
 
-    // If memory was refused, what is left of each record that was taken has gone out, but perhaps
-    // of the last.
+    // After a failed allocation, each record that was read has been masked and written, except
+    // possibly the last one.
     ensures given_up { IsErrOf result Refused.Memory
         → HasGivenUpAt (masking limits (mask_of rules.now)) (Masks limits (mask_of rules.now))
         (IsMaskedTo limits (mask_of rules.now)) R.Source W.Sink records.new.number
@@ -196,21 +195,22 @@ fn mask_records<R: Source, W: Sink>(
 
 /// Reads a recording and writes it masked, record by record.
 ///
-/// Each message is masked by the rules, and written as its canonical content; the events that the
-/// rules leave out are not written. It asks nothing of a message but that its content is JSON whose
-/// numbers are whole behind the masks.
+/// Applies the rules to each message and writes its canonical content. Events that the rules drop
+/// are not written. A message is checked only for being JSON whose numbers, after masking, are
+/// integers of 64 bits.
 ///
-/// At most 65,536 bytes are read past a record before it is written, and at most one byte past
-/// `limits.input`: what is left of records that came together goes out together. Where a record is
-/// refused, what is left of those before it has been written. What was written is flushed at the
-/// end, also before a refusal is answered. Records are counted from 1 in the order of the input,
-/// those left out too.
+/// Reads at most 65,536 bytes past a record before that record is written, and at most one byte
+/// past `limits.input`. Masked records that are buffered together are written together. If a record
+/// is rejected, the records before it have been written. The output is flushed at the end, even
+/// before a rejection is returned. Records are numbered from 1 in the order of the input, including
+/// the dropped ones.
 ///
 /// # Errors
 ///
-/// The first refusal of the input; `ReadFault` where the reader failed and what came before is not
-/// refused; `WriteFault` where the writer failed, also in place of a refusal where the flush before
-/// it failed; `Memory`, which nothing is flushed before.
+/// - The first error of the input, if it is rejected.
+/// - `ReadFault`: the reader failed, and the bytes read before are not rejected.
+/// - `WriteFault`: the writer failed. It replaces a rejection if the flush before it fails.
+/// - `Memory`: an allocation failed. The writer is not flushed.
 pub fn mask<R: Source, W: Sink>(
     alloc: Global,
     rules: &MaskRules,
@@ -223,15 +223,15 @@ pub fn mask<R: Source, W: Sink>(
     requires read_failures { R.failures reader.old < 2 ^ 62 }
     requires write_failures { W.failures writer.old < 2 ^ 62 }
 
-    // The masked text of the input goes out and is flushed. Where a record is refused, that of
-    // those before it does and is; where memory is refused, no flush comes behind it; where the
-    // writer fails, a front of the text goes out. A fault of a device is answered exactly where
-    // that device failed.
+    // The masked output of the input is written and flushed. If a record is rejected, the output of
+    // the records before it is written and flushed. If an allocation fails, nothing is flushed
+    // after it. If the writer fails, a prefix of the output is written. `ReadFault` and
+    // `WriteFault` are returned if and only if the reader or the writer failed.
     ensures answer { Streams (masking limits (mask_of rules.now)) (Masks limits (mask_of rules.now))
         (IsMaskedTo limits (mask_of rules.now)) R.Source W.Sink reader.old reader.new
         writer.old writer.new result }
 
-    // It takes at most one byte past the limit.
+    // At most one byte past the limit is read.
     ensures taken { R.given reader.new ≤ R.given reader.old + limits.input + 1 }
 {
     let frames = RecordReader::new(alloc, limits.frame);

@@ -9,8 +9,8 @@ use std::alloc::Global;
 pub struct Entry {
     /// The number of the record, counted from 1.
     pub number: u64,
-    /// The number of the last `stopped` event before the record, if the ids of frames and
-    /// references are numbered anew after each stop; otherwise 0.
+    /// The number of the last `stopped` event before the record, if frame ids and variables
+    /// references restart after each stop; otherwise 0.
     pub stop: u64,
     /// The side, the kind and the name of the message, such as `< event "stopped"`.
     pub head: String,

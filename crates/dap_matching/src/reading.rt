@@ -84,7 +84,7 @@ fn message_in(alloc: Global, text: &[u8], limits: Limits) -> Result<Message, All
     }
 }
 
-/// Returns whether the ids of frames and references are numbered anew after a message.
+/// Returns whether frame ids and variables references restart after a message.
 fn begin_again_after(mode: Mode, message: &Message) -> bool {
     mode == Mode::PerStop && message.kind() == Kind::Event && message.name() == "stopped"
 }

@@ -1,4 +1,5 @@
--- The rows that are asked of a message do what all rows do, and its kind and its name tell them.
+-- The rows that apply to a message have the same effect as all rows, and are determined by its kind
+-- and name.
 use Rattle.dap_tree.specs.Doc.{Doc, null, boolean, whole, text, list, object, id, get}
 use Rattle.dap_tree.specs.declared.side.Side.{Side}
 use Rattle.dap_tree.specs.declared.sort.Sort.{Sort}
@@ -34,7 +35,7 @@ use Rattle.dap_message.proofs.Envelopes.{get-filled}
 use Rattle.dap_message.proofs.FilledFits.{object-if}
 use Rattle.dap_message.proofs.RowMarks.{asked-mark_row}
 
--- ---- faults and marks of the rows that are asked
+-- ---- errors and marks by the rows that apply
 
 first-asked : (rs : List ProfileRow) (d : Doc)
     → first_fault rs d ≡ first_by (filter (λ r. is_asked r.kind r.name d) rs) d
@@ -82,7 +83,7 @@ pub mark-asked : (side : Side) (d : Doc) → mark side d ≡ marks_by (asked_row
 unfolding mark_by_rows asked_rows
 mark-asked side d = marks-asked profile side d d (λ k n. refl)
 
--- ---- the kind and the name tell the rows
+-- ---- the kind and the name determine the rows
 
 text-value : (w : List ℕ) (o : Option Doc)
     → is_text w o ≡ option_map_or (bytes_eq w) (text_value o) false
@@ -118,7 +119,7 @@ told-third false true c h g = g refl
 told-third false false true h g = refl
 told-third false false false h g = refl
 
--- a document has one kind at most
+-- a document has at most one kind
 kind-typed : (k : Kind) (s : List ℕ)
     → bytes_eq (type_name k) s ≡ option_map_or (same_kind k) (kind_typed s) false
 kind-typed Request s =
@@ -145,7 +146,7 @@ kind-told k d =
     go None = refl
     go (Some s) = kind-typed k s
 
--- the name by which rows are asked, if it has a kind
+-- the name that decides which rows apply, if the document has a kind
 abbrev pub any_name : Option Kind → Doc → Option (List ℕ)
 any_name k d = option_map_or (λ j. name_told j d) k None
 
@@ -153,7 +154,7 @@ asked-told : (r : ProfileRow) (d : Doc)
     → is_asked r.kind r.name d ≡ asks (kind_told d) (any_name (kind_told d) d) r
 asked-told r d = go r.kind r.name
   where
-    -- the word stands there and a body may
+    -- the value is this string, and there may be a body
     worded : (w : List ℕ) (o : Option Doc) (b : Bool)
         → (is_text w o && b) ≡ option_map_or (bytes_eq w) (cond b (text_value o) None) false
     worded w o true = both (is_text w o) ∙ text-value w o
@@ -220,7 +221,7 @@ asked-rows d =
     filter-same (λ r. is_asked r.kind r.name d) (asks (kind_told d) (any_name (kind_told d) d))
     profile (λ r. asked-told r d)
 
--- ---- stretch by stretch
+-- ---- range by range
 
 first_by-append : (xs ys : List ProfileRow) (d : Doc)
     → first_by (xs ++ ys) d ≡ option_or (first_by xs d) (first_by ys d)
@@ -242,7 +243,7 @@ first-drop f xs i x d lt =
     at_drop_more (λ ys. first_by (flat_map f ys) d) xs i x lt
     ∙ first_by-append (f (get_or xs i x)) (flat_map f (drop (i + 1) xs)) d
 
--- what the first stretch that is left tells is told, and where it tells nothing the others do
+-- the error of the first remaining range is the error; if it has no error, the other ranges decide
 pub first-told : {X : Type 0} (f : X
     → List ProfileRow) (xs : List X) (i : ℕ) (x : X) (d : Doc) (o : Option MessageFault)
     → i < length xs
@@ -284,7 +285,7 @@ marks-drop f xs i x side d lt =
     at_drop_more (λ ys. marks_by (flat_map f ys) side d) xs i x lt
     ∙ marks_by-append (f (get_or xs i x)) (flat_map f (drop (i + 1) xs)) side d
 
--- ---- the fault of a document
+-- ---- the error of a document
 
 kind-any : (d : Doc) → has_kind d ≡ is_some (kind_told d)
 kind-any d =
@@ -318,7 +319,7 @@ refuses d (Missing n) h = h
 refuses d (WrongType n) h = h
 refuses d Memory h = tt
 
--- ---- capabilities that are filled in
+-- ---- filling in capabilities
 
 pub asked-filled : (side : Side) (d : Doc) → asked_rows (filled side d) ≡ asked_rows d
 unfolding asked_rows

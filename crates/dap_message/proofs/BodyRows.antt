@@ -1,4 +1,4 @@
--- Which rows capabilities that are filled in can touch, and that these are not broken by them.
+-- The rows that filling in capabilities can affect, and that it does not violate them.
 use Rattle.dap_tree.specs.Doc.{Doc, null, boolean, whole, text, list, object, id, Members}
 use Rattle.dap_tree.specs.Doc.{no_members, get, get_member, put}
 use Rattle.dap_tree.proofs.Booleans.{and_left, and_right}
@@ -24,13 +24,13 @@ use Rattle.dap_message.proofs.Edits.{by_bool}
 use Rattle.dap_message.proofs.Envelopes.{given_other, apart, fault_free, free_cause, one_cause}
 use Rattle.dap_message.proofs.FilledOnce.{get_member-put}
 
--- ---- rows that the body does not touch
+-- ---- rows whose paths do not lead into the body
 
 abbrev pub elsewhere : List PlaceStep → Bool
 elsewhere (named k ∷ ps) = not (bytes_eq k (codes "body"))
 elsewhere _ = false
 
--- a row that a successful answer to `initialize` is not asked
+-- a row that does not apply to a successful response to `initialize`
 abbrev pub of_others : Option Kind → Option (List ℕ) → Bool
 of_others (Some Request) (Some n) = true
 of_others (Some Event) (Some n) = true
@@ -44,7 +44,7 @@ abbrev pub all_calm : List ProfileRow → Bool
 all_calm [] = true
 all_calm (r ∷ rs) = calm r && all_calm rs
 
--- d and e are alike but for the body
+-- d and e are equal except for the body
 abbrev pub AlikeOutside : Doc → Doc → Type 0
 AlikeOutside d e = (is_object e ≡ is_object d)
     × ((k : List ℕ) → bytes_eq k (codes "body") ≡ false → get k e ≡ get k d)
@@ -86,7 +86,7 @@ fault-elsewhere r d e a h =
     (option_map (of_row r.number) (first_cause (map (cause_against r.want r.needed) f))) None)
     (asked-outside r.kind r.name d e a) (found-elsewhere r.place d e a h)
 
--- ---- rows that are not asked
+-- ---- rows that do not apply
 
 pub other_word : (v w : List ℕ) (o : Option Doc) → bytes_eq v w ≡ false → is_text w o ≡ true
     → is_text v o ≡ false
@@ -195,7 +195,7 @@ first-append (r ∷ rs) ys d =
 abbrev pub GoodBool : Option Doc → Type 0
 GoodBool o = cause_against WantBool false o ≡ None
 
--- what the rows of the capabilities say of a body
+-- the rows of the capabilities are not violated by a body
 abbrev pub GoodAt : Option Doc → List ℕ → Type 0
 GoodAt o c =
     first_cause (map (cause_against WantBool false) (option_map_or (parts_at (named c ∷ [])) o []))
@@ -328,7 +328,7 @@ body_was d t ob h =
     rw ob at o in
     one_cause (cause_against Object false (get (codes "body") d)) c
 
--- the first profile: rows that the body does not touch, the body's row, and those of the
+-- the first rows: rows whose paths do not lead into the body, the row of the body, and those of the
 -- capabilities
 abbrev pub before_body : List ProfileRow
 before_body = take 49 first_rows
@@ -351,7 +351,7 @@ pub calm_after : all_calm after_body ≡ true
 unfolding first_rows
 calm_after = refl
 
--- no later row is asked of a successful answer to `initialize`
+-- no later row applies to a successful response to `initialize`
 pub calm_later : all_calm later_rows ≡ true
 unfolding later_rows
 calm_later = refl

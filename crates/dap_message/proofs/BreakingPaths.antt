@@ -1,4 +1,4 @@
--- What is broken at a place, path by path, beside the list of what stands there.
+-- Violations at a row's path, in terms of the paths of a document and of the list of values.
 use Rattle.dap_tree.specs.Doc.{Doc, null, boolean, whole, text, list, object, id, Items, no_items}
 use Rattle.dap_tree.specs.Doc.{item, get, get_member}
 use Rattle.dap_tree.specs.Path.{Step, name, place, get_item, StandsBefore, IsBefore}
@@ -20,7 +20,7 @@ use Rattle.dap_message.specs.declared.broken_rows.Cause.{Cause}
 use Rattle.dap_message.proofs.Envelopes.{fault_free, some_is}
 use Rattle.dap_message.proofs.NameOrder.{itself}
 
--- the first path of a place at which something is broken
+-- the first path that matches a row's path and has a violation
 pub record FirstAt (w : Want) (b : Bool) (ps : List PlaceStep) (d : Doc) (c : Cause) : Type 0 where
   pub path : List Step
   pub fits : fits_place ps path ≡ true
@@ -30,7 +30,7 @@ pub record FirstAt (w : Want) (b : Bool) (ps : List PlaceStep) (d : Doc) (c : Ca
   pub first : (q : List Step) (o : Option Doc) (e : Cause) → IsBefore q path
       → fits_place ps q ≡ true → shown q d ≡ Some o → cause_against w b o ≡ Some e → ⊥
 
--- nothing is broken at the place
+-- no path that matches the row's path has a violation
 abbrev pub NoneAt : Want → Bool → List PlaceStep → Doc → Type 0
 NoneAt w b ps d = (q : List Step) (o : Option Doc) (e : Cause) → fits_place ps q ≡ true
     → shown q d ≡ Some o → cause_against w b o ≡ Some e → ⊥
@@ -91,7 +91,7 @@ shown-none k [] d each ps o f g h = cc
 shown-none k (s ∷ q) d p ps o f g h =
     no_cause (shown (name k ∷ s ∷ q) d) o (ap (option_and_then (shown (s ∷ q))) g) h
 
--- ---- where no part is broken, no path is
+-- ---- if no value is a violation, no path has one
 
 last_free : (w : Want) (b : Bool) (k l : List ℕ) (d : Doc) (o : Option Doc) (e : Cause)
     → judged w b (parts_at (named k ∷ []) d) ≡ None → bytes_eq k l ≡ true
@@ -180,7 +180,7 @@ none_at w b (each ∷ ps) d h (name l ∷ q) o c f s j = cc
 none_at w b (each ∷ ps) d h (place i ∷ q) o c f s j =
     each_free w b ps (λ e g. none_at w b ps e g) d h i q o c f s j
 
--- ---- where a part is broken, a path is
+-- ---- if a value is a violation, some path has one
 
 last_first : (k : List ℕ) (q : List Step) → IsBefore q (name k ∷ [])
     → fits_place (named k ∷ []) q ≡ true → ⊥
@@ -249,7 +249,7 @@ next_at w b k p ps below d (Some e) c g h =
           there.first r.0 o x r.1 r.2 r.3 j;
     }
 
--- the first element of a list in which something is broken
+-- the first element of an array with a violation
 record FirstItem (w : Want) (b : Bool) (ps : List PlaceStep) (ds : Items) (c : Cause) : Type 0 where
   index : ℕ
   element : Doc
@@ -352,7 +352,7 @@ first_at w b (named k ∷ p ∷ ps) d c h =
     next_at w b k p ps (λ e x g. first_at w b (p ∷ ps) e x g) d (get k d) c refl h
 first_at w b (each ∷ ps) d c h = each_at w b ps (λ e x g. first_at w b ps e x g) d c h
 
--- ---- there is one first path
+-- ---- there is exactly one first path
 
 pub three : (i j : ℕ) → (i < j ⊎ j < i) ⊎ (i ≡ j)
 three zero zero = inr refl

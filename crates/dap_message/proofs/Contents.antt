@@ -1,4 +1,4 @@
--- The laws of contents and their messages, from those of documents.
+-- The laws about contents and their messages, from those about documents.
 use Rattle.dap_tree.specs.Doc.{Doc, null, boolean, whole, text, list, object, id, get, is_plain}
 use Rattle.dap_tree.specs.Doc.{is_sound, is_ordered, all_utf8}
 use Rattle.dap_tree.specs.Json.{text_of, IsRead, Outcome, HasOutcome}
@@ -46,7 +46,7 @@ pub one_message : (side : Side) (bytes : List ℕ) (m n : Doc) → IsTypedConten
 one_message side bytes m n h k =
     h.2.1 ∙ ap (message_of side) (read_once bytes h.0 k.0 h.1 k.1) ∙ sym k.2.1
 
--- what a refusal tells of the content's outcome
+-- what a rejection implies for the outcome of the content
 two_outcomes : (bytes : List ℕ) (o p : Outcome) → HasOutcome bytes o → HasOutcome bytes p
     → (o ≡ p → ⊥) → ⊥
 two_outcomes bytes o p h k other = other (one_outcome bytes o p h k)
@@ -98,7 +98,7 @@ by_outcome side bytes contents.fraction h = inr (fraction, h)
 pub some_message : (side : Side) (bytes : List ℕ) → Decided side bytes
 some_message side bytes = let o = some_outcome bytes in by_outcome side bytes o.0 o.1
 
--- ---- what messages keep
+-- ---- the properties of messages
 
 proper_found : (is : List (Sort × ℤ)) (k : ℕ) (d : Sort × ℤ) → k < length is
     → list_all (λ i. is_proper_number i.0 i.1) is ≡ true → get_or is k d ≡ (Reference, pos 0) → ⊥
@@ -183,7 +183,7 @@ own_again side d m plain h =
           ∙ ap (message_of side) (sym numbers),
     )
 
--- ---- what the skeleton tells
+-- ---- what the skeleton determines
 
 text_value-skeleton : (o : Option Doc) → text_value (option_map skeleton o) ≡ text_value o
 text_value-skeleton None = refl

@@ -1,4 +1,4 @@
--- What an edit of a place does to a document, path by path.
+-- The effect of an edit at a row's path on a document, path by path.
 use Rattle.dap_tree.specs.Doc.{Doc, null, boolean, whole, text, list, object, id, Items, no_items}
 use Rattle.dap_tree.specs.Doc.{item, Members, no_members, member, get, change_member, change_child}
 use Rattle.dap_tree.specs.Doc.{map_items, change_items}
@@ -19,7 +19,7 @@ pub by_bool : {P : Type 0} → (b : Bool) → (b ≡ true → P) → (b ≡ fals
 by_bool true f g = f refl
 by_bool false f g = g refl
 
--- two documents that look alike from above
+-- two documents that are equal in their first level
 abbrev pub Alike : Option Doc → Option Doc → Type 0
 Alike a b = option_map top a ≡ option_map top b
 
@@ -114,7 +114,7 @@ step-marked s (list ds) st = refl
 step-marked s (object ms) st = refl
 step-marked s (id r n) st = refl
 
--- what stands at a path after an edit: what stood there, marked where the place speaks of the path
+-- the value at a path after an edit: the previous value, marked if the path matches
 abbrev pub AtEdit : List PlaceStep → Sort → Doc → List Step → Type 0
 AtEdit ps s d p =
     Alike (at p (edit ps (marked s) d))

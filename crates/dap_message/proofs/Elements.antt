@@ -1,4 +1,4 @@
--- The elements of a list that is lent.
+-- The elements of a borrowed array.
 use Rattle.dap_tree.specs.Doc.{Doc}
 use Rattle.dap_tree.specs.declared.tree.Tree.{Tree}
 use Rattle.dap_tree.specs.View.{items_of, view}

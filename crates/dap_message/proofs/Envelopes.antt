@@ -1,4 +1,4 @@
--- A document with no fault has an envelope when it is marked.
+-- A document without errors has an envelope after it is marked.
 use Rattle.dap_tree.specs.Doc.{Doc, null, boolean, whole, text, list, object, id, Members}
 use Rattle.dap_tree.specs.Doc.{no_members, member, get, get_member, put}
 use Rattle.dap_tree.specs.Path.{Step, name, at}
@@ -43,7 +43,7 @@ use Rattle.dap_message.specs.declared.fault.MessageFault.TheVariants as MessageF
 use Rattle.dap_message.proofs.Edits.{by_bool, get-change_other}
 use Rattle.dap_message.proofs.RowMarks.{one_step, text-top, at-mark}
 
--- ---- members that a capability does not touch
+-- ---- members that are not capabilities
 
 pub apart : (k l : List ℕ) → bytes_eq k l ≡ false → k ≡ l → ⊥
 apart k l h e = true≢false (sym ((bytes_eq-Decides k l).1 e) ∙ h)
@@ -92,7 +92,7 @@ pub get-filled : (q : List ℕ) (side : Side) (d : Doc) → bytes_eq q (codes "b
     → get q (filled side d) ≡ get q d
 get-filled q side d h = get-filled_if q (tells_capabilities side d) d (apart q (codes "body") h)
 
--- ---- what marks keep of a member
+-- ---- properties of a member that marks do not change
 
 module _ {X : Type 0} (F : Option Doc → X) (F-top : (o : Option Doc)
     → F (option_map top o) ≡ F o) where
@@ -200,7 +200,7 @@ flag-kept rs side k b d h =
     ∙ ap (λ o. boolean_value (option_map (made rs side d (name k ∷ [])) o)) h
     ∙ ap (λ e. boolean_value (Some e)) (made-boolean rs side d (name k ∷ []) b)
 
--- ---- rows that are not broken
+-- ---- rows that are not violated
 
 pub fault_free : {X : Type 0} (a b : Option X) → option_or a b ≡ None → (a ≡ None) × (b ≡ None)
 fault_free None b h = (refl, h)
@@ -376,7 +376,7 @@ other_is : (side : Side) (n : ℤ) → is_id_number n ≡ true
 other_is Client n h = (refl, h)
 other_is Adapter n h = (refl, h)
 
--- ---- all together
+-- ---- all rows together
 
 abbrev pub row_1 : ProfileRow
 row_1 = record {

@@ -1,4 +1,4 @@
--- Capabilities that are filled in break no row.
+-- Filling in capabilities violates no row.
 use Rattle.dap_tree.specs.Doc.{Doc, null, boolean, whole, text, list, object, id, no_members, get}
 use Rattle.dap_tree.specs.Doc.{change_child}
 use Rattle.dap_tree.specs.declared.side.Side.{Side}
@@ -69,7 +69,7 @@ split d =
     ∙ ap (λ o. option_or (first_fault before_body d) (option_or (row_fault row_50 d) o))
     (first-append after_body (capability_rows 105 capabilities) d)
 
--- the rows are not broken by capabilities that are filled in
+-- filling in capabilities does not violate these rows
 abbrev pub AreKept : List ProfileRow → Type 0
 AreKept rows =
     (d e : Doc) → AlikeOutside d e → Tells d → is_object d ≡ true → is_object e ≡ true
@@ -117,7 +117,7 @@ pub rows_broken : (d : Doc) → first_fault profile d ≡ None → row_broken d 
 unfolding broken_by_rows
 rows_broken d h = h
 
--- a document that fits the profile fits the first one
+-- a document that fits the profile fits its first rows
 pub first_fits : (d : Doc) → Fits d → FitsRows first_rows d
 unfolding broken_by_rows
 first_fits d h =
@@ -136,7 +136,7 @@ kind-filled side d =
     ap (λ o. is_text (codes "request") o || is_text (codes "response") o
     || is_text (codes "event") o) (get-filled (codes "type") side d refl)
 
--- capabilities that are filled in break no row
+-- filling in capabilities violates no row
 pub fault-filled : (side : Side) (d : Doc) → fault d ≡ None → fault (filled side d) ≡ None
 fault-filled Client d h = h
 fault-filled Adapter d h =

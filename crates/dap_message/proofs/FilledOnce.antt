@@ -1,5 +1,5 @@
--- A message with its ids as numbers is its document with the capabilities, and capabilities are
--- filled in once.
+-- A message with its ids as integers is its document with the capabilities filled in, and filling
+-- them in twice is the same as once.
 use Rattle.dap_tree.specs.Doc.{Doc, null, boolean, whole, text, list, object, id, Items, no_items}
 use Rattle.dap_tree.specs.Doc.{item, Members, no_members, member, get_member, put, change_member}
 use Rattle.dap_tree.specs.Doc.{change_child, map_items, change_items, all_plain, items_plain}
@@ -30,7 +30,7 @@ use Rattle.dap_message.proofs.Edits.{by_bool}
 use Rattle.dap_message.proofs.Envelopes.{get-filled, given_other, apart}
 use Rattle.dap_message.proofs.PartTests.{DocTest, nameless, passes-filled}
 
--- ---- the ids as numbers again
+-- ---- ids as integers again
 
 without_at : (o : Ordering) (l : List ℕ) (d e : Doc) (ms changed : Members)
     → without_ids e ≡ without_ids d → members_without_ids changed ≡ members_without_ids ms
@@ -105,7 +105,7 @@ without-mark : (rs : List ProfileRow) (side : Side) (d : Doc)
 without-mark [] side d = refl
 without-mark (r ∷ rs) side d = without-mark rs side (mark_row r side d) ∙ without-mark_row r side d
 
--- ---- no id comes in with the capabilities
+-- ---- filling in capabilities adds no ids
 
 abbrev plain_test : DocTest
 plain_test =
@@ -117,7 +117,7 @@ plain_test =
       of_false = refl;
     }
 
--- a message's ids as numbers: its tree with the capabilities
+-- a message with its ids as integers is its tree with the capabilities filled in
 pub numbers-again : (rows : List ProfileRow) (side : Side) (d : Doc) → is_plain d ≡ true
     → without_ids (mark_by_rows rows side (filled side d)) ≡ filled side d
 unfolding mark_by_rows
@@ -126,7 +126,7 @@ numbers-again rows side d h =
     ∙ without_plain (filled side d)
     (passes-filled plain_test (tells_capabilities side d) d refl refl (plain_parts d h))
 
--- ---- capabilities once filled in are given
+-- ---- capabilities that are filled in are given
 
 put_same : (o : Ordering) (k l : List ℕ) (d e : Doc) (ms rest : Members) → slice_cmp nat_cmp k l ≡ o
     → get_member k rest ≡ Some d

@@ -1,5 +1,5 @@
--- What marks and capabilities keep of a document: that it is sound, and that no id is a variables
--- reference of 0.
+-- Properties of a document that marks and capabilities do not change: it is sound, and no id is a
+-- variables reference of 0.
 use Rattle.dap_tree.specs.Doc.{Doc, null, boolean, whole, text, list, object, id, Items, no_items}
 use Rattle.dap_tree.specs.Doc.{item, Members, no_members, member, change_child, change_items, fits}
 use Rattle.dap_tree.specs.Doc.{items_fit, members_fit, is_sound, is_plain, all_plain, items_plain}
@@ -31,7 +31,7 @@ use Rattle.dap_message.proofs.Edits.{by_bool}
 use Rattle.dap_message.proofs.PartTests.{PartTest, DocTest, nameless, member_changed, items_changed}
 use Rattle.dap_message.proofs.PartTests.{member_defaulted, members_false, passes-message}
 
--- ---- how deep, and in range
+-- ---- depth and range
 
 abbrev Fits : ℕ → Doc → Type 0
 Fits n d = fits n d ≡ true

@@ -1,5 +1,5 @@
--- The later rows of the profile behind the first ones: what they make of a message of the first
--- rows, also with other numbers at its ids.
+-- The later rows of the profile, after the first ones: their effect on a message by the first rows,
+-- even if its ids have other numbers.
 use Rattle.dap_tree.specs.Doc.{Doc, null, boolean, whole, text, list, object, id, Items, no_items}
 use Rattle.dap_tree.specs.Doc.{item, Members, no_members, member, change_member, change_child}
 use Rattle.dap_tree.specs.Doc.{map_items, change_items, is_plain}
@@ -43,7 +43,7 @@ use Rattle.dap_message.proofs.Shapes.{asked-shape, skeleton_keeps}
 use Rattle.dap_message.proofs.SortsApart.{first_agree}
 use Rattle.dap_message.proofs.TypedAgain.{filled_again, message_again, read_again, text_again}
 
--- ---- rows behind rows
+-- ---- rows followed by rows
 
 mark_rows-append : (xs ys : List ProfileRow) (side : Side) (d : Doc)
     → mark_rows (xs ++ ys) side d ≡ mark_rows ys side (mark_rows xs side d)
@@ -55,7 +55,7 @@ mark-later : (side : Side) (d : Doc)
 unfolding mark_by_rows profile
 mark-later side d = mark_rows-append first_rows later_rows side d
 
--- ---- ids of some sorts
+-- ---- ids of some kinds
 
 abbrev among : (Sort → Bool) → List (Sort × ℤ) → List (Sort × ℤ)
 among p is = filter (λ i. p i.0) is
@@ -66,7 +66,7 @@ joined p xs ys us vs h g =
     filter-append (λ i. p i.0) xs ys ∙ ap₂ (λ a b. a ++ b) h g
     ∙ sym (filter-append (λ i. p i.0) us vs)
 
--- an id of another sort changes nothing
+-- an id of another kind changes nothing
 module _ (p : Sort → Bool) (f : Doc → Doc) (same : (d : Doc)
     → among p (ids (f d)) ≡ among p (ids d)) where
   among_at : (o : Ordering) (l : List ℕ) (d : Doc) (ms changed : Members)
@@ -132,7 +132,7 @@ among-edit p (named k ∷ ps) s h d =
 among-edit p (each ∷ ps) s h d =
     among-items p (edit ps (marked s)) (λ e. among-edit p ps s h e) d
 
--- the row marks no id of these sorts
+-- the row marks no id of these kinds
 abbrev spares : (Sort → Bool) → Side → ProfileRow → Bool
 spares p side r = option_map_or (λ s. not (p s)) (sort_of side r.want) true
 
@@ -182,7 +182,7 @@ first-later : (side : Side) (d : Doc) → first_ids (with_later_ids side d) ≡ 
 unfolding mark_by_rows
 first-later side d = among-mark is_first_sort later_rows side d (later_spares side)
 
--- ids as numbers are none
+-- ids as integers are not ids
 mutual
   no_ids-without : (d : Doc) → ids (without_ids d) ≡ []
   no_ids-without null = refl
@@ -203,7 +203,7 @@ mutual
   no_members_ids-without (member k d ms) =
       ap₂ (λ a b. a ++ b) (no_ids-without d) (no_members_ids-without ms)
 
--- a message of the first rows has no id of a later sort
+-- a message by the first rows has no id of a later kind
 none_later : (side : Side) (m : Doc) → m ≡ mark_by_rows first_rows side (without_ids m)
     → later_ids m ≡ []
 none_later side m is =
@@ -220,7 +220,7 @@ all_first (i ∷ is) h = go (is_later_sort i.0) h (λ g. all_first is g)
     go true h rest = cc
     go false h rest = ap (λ js. i ∷ js) (rest h)
 
--- ---- the numbers of the first sorts set to 0
+-- ---- the numbers of the first kinds set to 0
 
 abbrev mutual
   zeroed : Doc → Doc
@@ -260,7 +260,7 @@ mutual
   members_skeleton-zeroed (member k d ms) =
       ap₂ (member k) (skeleton-zeroed d) (members_skeleton-zeroed ms)
 
--- the ids of later sorts stay
+-- the ids of later kinds are unchanged
 abbrev one_id : Sort → ℤ → List (Sort × ℤ)
 one_id s z = (s, z) ∷ []
 
@@ -318,7 +318,7 @@ one_gone : (s : Sort) (z : ℤ) (b : Bool) → cond b (one_id s z) [] ≡ []
 one_gone s z true h = cc
 one_gone s z false h = refl
 
--- where no id is of a later sort, only the skeleton is left
+-- if no id is of a later kind, the result is the skeleton
 mutual
   zeroed-first : (d : Doc) → later_ids d ≡ [] → zeroed d ≡ skeleton d
   zeroed-first null h = refl
@@ -343,7 +343,7 @@ mutual
       ap₂ (member k) (zeroed-first d (later_left (ids d) (members_ids ms) h))
       (members_zeroed-first ms (later_right (ids d) (members_ids ms) h))
 
--- ---- later rows do not look at these numbers
+-- ---- later rows do not depend on these numbers
 
 module _ (f : Doc → Doc) (same : (d : Doc) → zeroed (f d) ≡ f (zeroed d)) where
   zeroed_at : (o : Ordering) (l : List ℕ) (d : Doc) (ms changed there : Members)
@@ -451,7 +451,7 @@ zeroed-later side d = zeroed-mark later_rows side d (later_spares side)
 
 -- ---- messages
 
--- documents of one skeleton, without ids of later sorts, get the same ids of later sorts
+-- documents with the same skeleton and no ids of later kinds get the same ids of later kinds
 zeroed_alike : (side : Side) (m n : Doc) → skeleton n ≡ skeleton m → later_ids m ≡ []
     → later_ids n ≡ [] → zeroed (with_later_ids side n) ≡ zeroed (with_later_ids side m)
 zeroed_alike side m n same hm hn =
@@ -471,7 +471,7 @@ later_given side m n same hm hn =
       later = sym (later-zeroed a) ∙ ap later_ids alike ∙ later-zeroed b;
     }
 
--- a message is that of the first rows with the ids of the later ones
+-- a message is the message by the first rows with the ids of the later rows
 pub message-later : (side : Side) (d : Doc)
     → message_of side d ≡ with_later_ids side (message_by_rows first_rows side d)
 message-later side d = mark-later side (filled side d)
@@ -514,7 +514,7 @@ first_again side d n plain fits same fit =
           (later_given side old n same old_none none),
     )
 
--- a message of the first rows, with other numbers at its ids, is typed by the profile
+-- a message by the first rows, with other numbers at its ids, is typed by the profile
 pub document_later : (side : Side) (d old m n : Doc) → is_plain d ≡ true
     → IsTypedByRows first_rows side d old → IsTyped side d m → skeleton n ≡ skeleton old
     → has_id_numbers n ≡ true

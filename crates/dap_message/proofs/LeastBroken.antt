@@ -1,4 +1,4 @@
--- The fault of a message names the least row that is broken at some path.
+-- The error of a message names the violated row with the lowest number.
 use Rattle.dap_tree.specs.Doc.{Doc}
 use Rattle.std.proofs.Common.{◌≡◌, ◌⊎◌, ⊎_elim, ℕ, zero, suc, ◌+◌, ◌<◌, ◌↔◌, Bool, true, false}
 use Rattle.std.proofs.Common.{cond, List, [], ◌∷◌, length, map, get_or, Contains, Option, Some}
@@ -103,7 +103,7 @@ row_told r d c at =
     asked_fault r d at.breaks.asked
     ∙ ap (option_map (of_row r.number)) (first_told r d c (broken r d) at refl)
 
--- ---- the rows by their numbers
+-- ---- the rows and their numbers
 
 abbrev numbers_from : ℕ → List ProfileRow → List ℕ
 numbers_from n [] = []
@@ -135,7 +135,7 @@ same_row [] i r s lt f g = absurd (omega arith)
 same_row (q ∷ rs) zero r s lt f g = sym f ∙ g
 same_row (q ∷ rs) (suc i) r s lt f g = same_row rs i r s (omega arith) f g
 
--- ---- the first row of a list that is broken
+-- ---- the first row of a list that is violated
 
 all_kept : (rs : List ProfileRow) (d : Doc) → first_fault rs d ≡ None → (i : ℕ) (r : ProfileRow)
     → i < length rs → get_or rs i r ≡ r → row_fault r d ≡ None
@@ -187,7 +187,7 @@ first_row [] d f h = cc
 first_row (q ∷ rs) d f h =
     more_rows q rs d f (row_fault q d) (first_fault rs d) refl h (λ g. first_row rs d f g)
 
--- ---- the least row
+-- ---- the row with the lowest number
 
 same_number : (m n : ℕ) (c e : Cause) → of_row m c ≡ of_row n e → m ≡ n
 same_number m n Missing Missing h = cc
@@ -252,7 +252,7 @@ told_least_by d n c l None is =
     (all_kept profile d is l.listed.0 l.row l.listed.1 l.listed.2) (row_told l.row d c l.broken))
 told_least_by d n c l (Some f) is = is ∙ ap Some (told_among d n c l f is)
 
--- ---- the fault
+-- ---- the error
 
 judged_by : (a b : Bool) (o : Option MessageFault) (n : ℕ) (c : Cause)
     → cond a (cond b o (Some UnknownType)) (Some NotObject) ≡ Some (of_row n c)
@@ -300,7 +300,7 @@ fits_by_path d = (
       (rows_broken d (kept_fault d h.1 (first_fault profile d) refl)),
 )
 
--- ---- no document has the fault of memory
+-- ---- no document has the error `Memory`
 
 not_memory : (n : ℕ) (c : Cause) → of_row n c ≡ Memory → ⊥
 not_memory n Missing h = cc

@@ -1,4 +1,4 @@
--- Each element that a message lists is shown.
+-- Each element that a message lists has a view.
 use Rattle.dap_tree.specs.Doc.{Doc, null, boolean, whole, text, list, object, id, get, is_plain}
 use Rattle.dap_tree.specs.Ids.{skeleton, with_ids, without_ids}
 use Rattle.dap_tree.specs.declared.side.Side.{Side}
@@ -37,7 +37,7 @@ use Rattle.dap_message.proofs.Envelopes.{fault_free, fault_parts, free_at, free_
 use Rattle.dap_message.proofs.Envelopes.{rows_free}
 use Rattle.dap_message.proofs.Shapes.{KeepsShape, asked-shape, skeleton_keeps, without_keeps}
 
--- ---- the elements of a list, with the ids as numbers or without their numbers
+-- ---- the elements of an array, with the ids as integers or with all numbers 0
 
 module _ (h : Doc → Doc) (keeps : KeepsShape h) where
   list-shape : (o : Option Doc)
@@ -76,7 +76,7 @@ module _ (h : Doc → Doc) (keeps : KeepsShape h) where
       ∙ if_asked (is_asked (Some Response) (Some command) d)
       (unwrap_or (option_and_then list_of inner) [])
 
--- ---- what is shown is there, whatever the numbers of the ids
+-- ---- a view exists, whatever the numbers of the ids are
 
 name-skeleton : (o : Option Doc)
     → is_some (text_value (option_map skeleton o)) ≡ is_some (text_value o)
@@ -111,7 +111,7 @@ reference-skeleton (Some (list ds)) = refl
 reference-skeleton (Some (object ms)) = refl
 reference-skeleton (Some (id s z)) = refl
 
--- what is shown is there where each part of it is
+-- a view exists if each of its parts does
 frame_parts : (a : Option ℤ) (b : Option (List ℕ)) (c d : Option ℤ)
     → is_some (frame_from a b c d) ≡ is_some a && is_some b && is_some c && is_some d
 frame_parts (Some i) (Some n) (Some l) (Some c) = refl
@@ -200,7 +200,7 @@ shows_all-skeleton d =
     (listed-shape skeleton skeleton_keeps (codes "variables") (codes "variables") d)
     ∙ all_alike (λ e. is_some (variable_of e)) skeleton variable-skeleton (listed_variables d))
 
--- documents of one skeleton show their elements alike
+-- documents with the same skeleton have views of the same elements
 pub shows_all-alike : (m n : Doc) → skeleton n ≡ skeleton m → shows_all n ≡ shows_all m
 shows_all-alike m n same = sym (shows_all-skeleton n) ∙ ap shows_all same ∙ shows_all-skeleton m
 
@@ -208,7 +208,7 @@ shows_all-alike m n same = sym (shows_all-skeleton n) ∙ ap shows_all same ∙ 
 pub shows_all-with : (d : Doc) (ns : List ℤ) → shows_all (with_ids d ns) ≡ shows_all d
 shows_all-with d ns = shows_all-alike d (with_ids d ns) (skeleton-with d ns)
 
--- ---- what is shown is there, once it is there with the ids as numbers
+-- ---- a view exists if it exists with the ids as integers
 
 name-without : (o : Option Doc) → is_some (text_value (option_map without_ids o)) ≡ true
     → is_some (text_value o) ≡ true
@@ -243,9 +243,9 @@ reference-without (Some (list ds)) h = h
 reference-without (Some (object ms)) h = h
 reference-without (Some (id s z)) h = refl
 
--- ---- what the rows ask of each element
+-- ---- what the rows require of each element
 
--- what a needed place judges well is there and has the type
+-- a required value without a violation exists and has the expected type
 text_well : (o : Option Doc) → cause_against Text true o ≡ None → is_some (text_value o) ≡ true
 text_well None h = cc
 text_well (Some null) h = cc
@@ -304,7 +304,7 @@ reference_well (Some (list ds)) h = cc
 reference_well (Some (object ms)) h = cc
 reference_well (Some (id s z)) h = cc
 
--- each of the documents is cause_against well at a place in it
+-- the value at a row's path has no violation in each of the documents
 abbrev AllWell : List PlaceStep → Want → List Doc → Type 0
 AllWell ps w [] = Unit {0}
 AllWell ps w (d ∷ ds) = (broken_at ps w true d ≡ None) × AllWell ps w ds
@@ -326,7 +326,7 @@ all_well ps w (d ∷ ds) h =
     in
     (p.0, all_well ps w ds p.1)
 
--- a place in each element of a list of the body
+-- the values at a row's path in each element of an array of the body
 found_each : (ps : List PlaceStep) (name : List ℕ) (body : Option Doc)
     → option_map_or (parts_at (named name ∷ each ∷ ps)) body []
     ≡ flat_map (parts_at ps)
@@ -345,7 +345,7 @@ found_each ps name (Some b) = go (get name b)
     go None = refl
     go (Some e) = inner (list_of e)
 
--- a needed row of each element of a list of the body
+-- a required row for each element of an array of the body
 abbrev row_of_each : ℕ → List ℕ → List ℕ → List PlaceStep → Want → ProfileRow
 row_of_each n command name ps w =
     record {
@@ -371,8 +371,8 @@ each_well n command name ps w d asked free =
     (ap (λ os. first_cause (map (cause_against w true) os))
     (sym (found_each ps name (get (codes "body") d))) ∙ b)
 
--- the elements of a message's list are cause_against well with their ids as numbers, where its row
--- is not broken
+-- the elements of a message's array, with their ids as integers, have no violation if the row of
+-- the array is not violated
 listed_well : (n : ℕ) (command name : List ℕ) (ps : List PlaceStep) (w : Want) (m : Doc)
     → is_asked (Some Response) (Some command) (without_ids m) ≡ true
     → row_fault (row_of_each n command name ps w) (without_ids m) ≡ None
@@ -481,7 +481,7 @@ variables_there (d ∷ ds) o n v r =
     (reference_there (codes "variablesReference") d ob r.0))
     (variables_there ds o.1 n.1 v.1 r.1)
 
--- a list of which nothing is asked is empty
+-- an array to which no row applies is empty
 none_listed : (p : Doc → Bool) (command name : List ℕ) (m : Doc)
     → is_asked (Some Response) (Some command) m ≡ false → list_all p (listed command name m) ≡ true
 none_listed p command name m h =
@@ -489,8 +489,8 @@ none_listed p command name m h =
     (cond b (unwrap_or (option_and_then list_of (option_and_then (get name) (get (codes "body") m)))
     []) [])) h
 
--- where the message with its ids as numbers breaks no row, each element of the list passes, if it
--- does where it is asked
+-- Each element of the array passes the test if the message with its ids as integers violates no
+-- row, provided that it does so if the row applies.
 all_listed : (p : Doc → Bool) (command name : List ℕ) (m : Doc)
     → (is_asked (Some Response) (Some command) (without_ids m) ≡ true
     → list_all p (listed command name m) ≡ true) → list_all p (listed command name m) ≡ true
@@ -573,7 +573,7 @@ fits_shows m h =
     (and_both (are_frames (listed_frames m)) (are_scopes (listed_scopes m)) (frames_listed m free)
     (scopes_listed m free)) (variables_listed m free)
 
--- a message shows each element of its list
+-- a message has a view of each element of its array
 pub shows_all-typed : (side : Side) (d m : Doc) → is_plain d ≡ true → IsTyped side d m
     → shows_all m ≡ true
 shows_all-typed side d m plain h = fits_shows m (own_again side d m plain h).0
@@ -582,7 +582,7 @@ pub content_shows : (side : Side) (bytes : List ℕ) (m : Doc) → IsTypedConten
     → shows_all m ≡ true
 content_shows side bytes m (d, reads, h) = shows_all-typed side d m (read_is_plain bytes d reads) h
 
--- ---- nothing is passed over
+-- ---- no element is omitted
 
 passed_over : {A : Type 0} (o : Option A) (xs : List A) (os : List (Option A)) → is_some o ≡ true
     → map Some xs ≡ os → map Some (cons_option o xs) ≡ o ∷ os

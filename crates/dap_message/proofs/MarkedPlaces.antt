@@ -1,5 +1,5 @@
--- Marks as a list of places with their sorts: what it makes of a list, of an object and of a
--- number, and that the rows' places of different sorts never meet.
+-- Marks as a list of row paths with kinds of ids: their effect on an array, an object and a number,
+-- and that paths of different kinds never match the same path.
 use Rattle.dap_tree.specs.Doc.{Doc, null, boolean, whole, text, list, object, id, Items, no_items}
 use Rattle.dap_tree.specs.Doc.{item, Members, no_members, member, change_member, map_items}
 use Rattle.dap_tree.specs.Ids.{ids, items_ids, members_ids, id_count, with_ids, items_with_ids}
@@ -25,7 +25,7 @@ use Rattle.dap_message.specs.Rows.{is_id_number}
 use Rattle.dap_message.proofs.NameOrder.{equal_at, other_at}
 use Rattle.dap_message.proofs.Edits.{by_bool}
 
--- places whose numbers become ids of a sort, in turn
+-- row paths at which numbers become ids of a kind, one after another
 pub data Pending : Type 0 where
   done : Pending
   mark_at : Sort → List PlaceStep → Pending → Pending
@@ -34,9 +34,9 @@ abbrev pub edits : Pending → Doc → Doc
 edits done d = d
 edits (mark_at s ps es) d = edits es (edit ps (marked s) d)
 
--- ---- the items of a list
+-- ---- the items of an array
 
--- what is pending for each item of a list
+-- the pending marks for each item of an array
 abbrev for_items : Pending → Pending
 for_items done = done
 for_items (mark_at s [] es) = for_items es
@@ -63,7 +63,7 @@ edits-list (mark_at s (each ∷ ps) es) ds =
 
 -- ---- the members of an object
 
--- what is pending for the first member of a name, and for the members after it
+-- the pending marks for the first member with a name, and for the members after it
 abbrev for_member : List ℕ → Pending → Pending
 for_member l done = done
 for_member l (mark_at s [] es) = for_member l es
@@ -129,9 +129,9 @@ members_edits-member (mark_at s (named k ∷ ps) es) l d ms =
     named_step k l s ps es d ms (bytes_eq k l) refl (λ e os. members_edits-member es l e os)
 members_edits-member (mark_at s (each ∷ ps) es) l d ms = members_edits-member es l d ms
 
--- ---- places of different sorts do not meet
+-- ---- paths of different kinds do not meet
 
--- two places speak of one path, whatever the document
+-- two row paths match a common path, whatever the document is
 abbrev pub meet : List PlaceStep → List PlaceStep → Bool
 meet [] [] = true
 meet (named k ∷ ps) (named l ∷ qs) = bytes_eq k l && meet ps qs
@@ -232,7 +232,7 @@ edits-id (mark_at t (each ∷ ps) es) s z = edits-id es s z
 same_sorts : (s t : Sort) (y z : ℤ) → id s y ≡ id t z → s ≡ t
 same_sorts s t y z h = cc
 
--- a place that may make ids of a number which a later one makes an id, makes ids of the same sort
+-- if a row path matches a number that a later one turns into an id, both have the same kind
 agreed : (t : Sort) (es : Pending) (s : Sort) (z : ℤ) → AgreeWith t [] es
     → edits es (whole z) ≡ id s z → t ≡ s
 agreed t done s z a h = cc
@@ -264,7 +264,7 @@ pub id_number : (s : Sort) (z : ℤ) → is_id_of s z ≡ true → is_id_number 
 id_number Reference z h = and_left (is_id_number z) (not (int_eq z (pos 0))) h
 id_number s z h = h
 
--- places that make one number an id of a sort make every number one that may be
+-- row paths that turn one number into an id of a kind do so with every number that may be one
 edits-other : (es : Pending) (s : Sort) (z y : ℤ) → Agree es → is_id_of s y ≡ true
     → edits es (whole z) ≡ id s z → edits es (whole y) ≡ id s y
 edits-other done s z y a fit h = cc
@@ -319,7 +319,7 @@ later_members : (k l : List ℕ) (d e : Doc) (ms os : Members) → member k d ms
     → ms ≡ os
 later_members k l d e ms os h = cc
 
--- the places that give a document its ids give it the same ids with other numbers
+-- row paths that yield the ids of a document yield the same ids with other numbers
 mutual
   pub edits-again : (es : Pending) → Agree es → (m : Doc) (ns : List ℤ)
       → IdNumbers (ids (with_ids m ns)) → edits es (without_ids m) ≡ m

@@ -1,4 +1,4 @@
--- The names of a message stand in order, and are UTF-8, where those of its document do and are.
+-- The members of a message are in order, and its strings are UTF-8, if this holds for its document.
 use Rattle.dap_tree.specs.Doc.{Doc, Members, no_members, member, put, change_member, is_below_all}
 use Rattle.dap_tree.specs.Doc.{is_ordered, items_ordered, members_ordered, all_utf8, items_utf8}
 use Rattle.dap_tree.specs.Doc.{members_utf8}

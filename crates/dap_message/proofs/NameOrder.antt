@@ -1,4 +1,4 @@
--- Which way a choice by the order of two names goes.
+-- The branch that a comparison of two names selects.
 use Rattle.std.proofs.Common.{◌≡◌, ℕ, true, false, List, Ordering, Less, Equal, Greater, nat_cmp}
 use Rattle.std.proofs.Common.{refl, ◌∙◌, is_eq}
 use Rattle.std.proofs.lemmas.Map.Text.{is_eq-slice_cmp}

@@ -1,5 +1,5 @@
--- Just one document is marked as the rows tell, path by path, where the members of the document
--- stand in order.
+-- Exactly one document is marked as the rows define, path by path, if the members of the document
+-- are in order.
 use Rattle.dap_tree.specs.Doc.{Doc, null, boolean, whole, text, list, object, id, Items, no_items}
 use Rattle.dap_tree.specs.Doc.{item, Members, no_members, member, get_member, is_below_all}
 use Rattle.dap_tree.specs.Doc.{is_ordered, items_ordered, members_ordered}
@@ -42,7 +42,7 @@ none_below k (member l d ms) h =
 get_first : (k : List ℕ) (d : Doc) (ms : Members) → get_member k (member k d ms) ≡ Some d
 get_first k d ms = equal_at (slice_cmp nat_cmp k k) (get_member k ms) (Some d) (itself k)
 
--- ---- what stands at each path tells the document
+-- ---- the values at all paths determine the document
 
 abbrev AlikeBelow : Option Doc → Option Doc → Type 0
 AlikeBelow a b = (p : List Step) → Alike (option_and_then (at p) a) (option_and_then (at p) b)
@@ -104,7 +104,7 @@ mutual
       (members_told ms os (and_right (is_ordered d) (members_ordered ms) parts) others rest)
   members_told _ _ o h t = cc
 
--- there is just one marked document
+-- there is exactly one marked document
 pub one_marked : (side : Side) (d e : Doc) → is_ordered d ≡ true → IsMarked profile side d e
     → e ≡ mark side d
 unfolding IsMarked

@@ -1,4 +1,4 @@
--- Tests that ask each part of a document, and are kept by capabilities and marks.
+-- Tests of every part of a document whose result capabilities and marks do not change.
 use Rattle.dap_tree.specs.Doc.{Doc, null, boolean, whole, text, list, object, id, Items, no_items}
 use Rattle.dap_tree.specs.Doc.{item, Members, no_members, member, get_member, put, change_member}
 use Rattle.dap_tree.specs.Doc.{change_child, map_items, change_items}
@@ -22,14 +22,14 @@ use Rattle.dap_message.specs.Message.{message_by_rows}
 use Rattle.dap_message.specs.Rows.{is_asked}
 use Rattle.dap_message.proofs.Edits.{by_bool}
 
--- A test of members and items by one of their documents, and by one of each name beside what
--- follows it.
+-- A test of members and items: by the test of each document in them, and by a test of each name and
+-- the members after it.
 pub record PartTest : Type 0 where
   pub document : Doc → Bool
   pub members : Members → Bool
   pub items : Items → Bool
   pub beside : List ℕ → Members → Bool
-  -- the names that may be put in
+  -- the names that may be inserted
   pub may_come : List ℕ → Bool
   pub no_member : members no_members ≡ true
   pub each_member : (k : List ℕ) (d : Doc) (ms : Members)
@@ -99,7 +99,7 @@ module _ (t : PartTest) where
       (member_defaulted k (boolean false) ms
       (and_left (t.may_come k) (list_all t.may_come ks) n) hf hm)
 
--- ---- members and items of which no name is asked
+-- ---- members and items whose names are not tested
 
 module _ (P : Doc → Bool) (Q : Members → Bool) (each_member : (k : List ℕ) (d : Doc) (ms : Members)
     → Q (member k d ms) ≡ (P d && Q ms)) where
@@ -142,7 +142,7 @@ nameless P Q R none each_member each_item =
 
 -- ---- documents
 
--- A test of a document that is the one of its members or items.
+-- A test of a document that is the test of its members or items.
 pub record DocTest : Type 0 where
   pub parts : PartTest
   pub of_object : (ms : Members) → parts.document (object ms) ≡ parts.members ms
@@ -213,7 +213,7 @@ module _ (t : DocTest) where
 
 -- ---- marks
 
--- Each id that marks make passes the test.
+-- Each id that marks produce passes the test.
 abbrev pub TakesIds : DocTest → Type 0
 TakesIds t = (s : Sort) (z : ℤ) → is_id_of s z ≡ true → Passes t (id s z)
 

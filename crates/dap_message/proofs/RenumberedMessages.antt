@@ -1,4 +1,4 @@
--- Other numbers at the ids keep what a message keeps.
+-- Other numbers at the ids do not change the properties of a message.
 use Rattle.dap_tree.specs.Doc.{Doc, null, boolean, whole, text, list, object, id, Members}
 use Rattle.dap_tree.specs.Doc.{no_members, member, get, get_member}
 use Rattle.dap_tree.specs.Ids.{ids, id_count, with_ids, members_with_ids}
@@ -26,7 +26,7 @@ numbers_zip [] (n ∷ ns) h = refl
 numbers_zip (x ∷ xs) [] h = absurd (omega arith)
 numbers_zip (x ∷ xs) (n ∷ ns) h = ap (λ is. (x.0, n) ∷ is) (numbers_zip xs ns (omega arith))
 
--- the ids get the numbers, in order
+-- the ids have these numbers, in order
 pub ids-with : (d : Doc) (ns : List ℤ) → length ns ≡ length (ids d)
     → ids (with_ids d ns) ≡ renumbered d ns
 ids-with d ns h = ids_with d ns ∙ numbers_zip (ids d) ns h

@@ -1,4 +1,4 @@
--- The edits of all rows make the marked document.
+-- The edits of all rows yield the marked document.
 use Rattle.dap_tree.specs.Doc.{Doc, null, boolean, whole, text, list, object, id, get}
 use Rattle.dap_tree.specs.Path.{Step, name, at}
 use Rattle.dap_tree.specs.declared.side.Side.{Side}
@@ -18,7 +18,7 @@ use Rattle.dap_message.specs.Marks.{is_id_of, marked, top, edit, made, made_by, 
 use Rattle.dap_message.specs.Marks.{sort_of, IsMarked, mark}
 use Rattle.dap_message.proofs.Edits.{Alike, at-edit, by_bool}
 
--- ---- a row is asked of a marked document as of the one before
+-- ---- a row applies to a marked document if and only if it applies to the one before
 
 pub text-top : (w : List ℕ) (o : Option Doc) → is_text w (option_map top o) ≡ is_text w o
 text-top w None = refl
@@ -180,7 +180,7 @@ made_alike : (f : Doc → Doc) → ((x : Doc) → top (f x) ≡ f (top x)) → (
     → Alike (option_map f a) (option_map f b)
 made_alike f h a b e = option_top f h a ∙ ap (option_map f) e ∙ sym (option_top f h b)
 
--- the rows are asked of either document alike
+-- the same rows apply to both documents
 made-asked : (rs : List ProfileRow) (side : Side) (d e : Doc)
     → ((k : Option Kind) (n : Option (List ℕ)) → is_asked k n e ≡ is_asked k n d)
     → (p : List Step) (x : Doc) → made rs side e p x ≡ made rs side d p x
@@ -200,7 +200,7 @@ option_same : (f g : Doc → Doc) → ((x : Doc) → f x ≡ g x) → (o : Optio
 option_same f g h None = refl
 option_same f g h (Some x) = ap Some (h x)
 
--- one row, edited
+-- one row as an edit
 at-mark_row : (r : ProfileRow) (side : Side) (d : Doc) (p : List Step)
     → Alike (at p (mark_row r side d)) (option_map (made_by r side d p) (at p d))
 at-mark_row r side d p = go (sort_of side r.want) (is_asked r.kind r.name d)

@@ -1,5 +1,5 @@
--- Maps of a document that keep its shape: what members, lists and places look like in the document
--- that they make.
+-- Maps of documents that keep the shape: the members, arrays and values at row paths in the
+-- resulting document.
 use Rattle.dap_tree.specs.Doc.{Doc, null, boolean, whole, text, list, object, id, Items, no_items}
 use Rattle.dap_tree.specs.Doc.{item, Members, no_members, member, get, get_member}
 use Rattle.dap_tree.specs.Ids.{ids, items_ids, members_ids, map_ids, items_map_ids}
@@ -25,7 +25,7 @@ map_append : {A B : Type 0} (f : A → B) (xs ys : List A) → map f (xs ++ ys) 
 map_append f [] ys = refl
 map_append f (x ∷ xs) ys = ap (λ zs. f x ∷ zs) (map_append f xs ys)
 
--- a map of documents that keeps all but the numbers
+-- a map of documents that changes only numbers
 pub record KeepsShape (h : Doc → Doc) : Type 0 where
   pub member : (k : List ℕ) (d : Doc) → get k (h d) ≡ option_map h (get k d)
   pub is_object : (d : Doc) → is_object (h d) ≡ is_object d
@@ -93,9 +93,9 @@ module _ (h : Doc → Doc) (keeps : KeepsShape h) where
       (ap₂ (λ a b. a && b) (text-shape (type_name k) (codes "type") d)
       (text-shape n (name_key k) d)) (body-shape k d)
 
--- ---- something else in the place of each id
+-- ---- replacing each id
 
--- what is put there is a number: no object, list, text or truth value, and more than null
+-- the replacement is a number: not an object, array, string, boolean or null
 pub record PutsNumbers (f : Sort → ℤ → Doc) : Type 0 where
   pub member : (k : List ℕ) (s : Sort) (z : ℤ) → get k (f s z) ≡ None
   pub is_object : (s : Sort) (z : ℤ) → is_object (f s z) ≡ false
@@ -213,7 +213,7 @@ skeleton_keeps =
       given = λ s z. refl;
     })
 
--- two documents of one skeleton are asked the same rows, their ids as numbers
+-- the same rows apply to two documents with the same skeleton, with their ids as integers
 pub asked_without : (m n : Doc) → skeleton n ≡ skeleton m
     → AskedAlike (without_ids m) (without_ids n)
 asked_without m n same k o =
@@ -223,7 +223,7 @@ asked_without m n same k o =
     ∙ asked-shape skeleton skeleton_keeps m k o
     ∙ sym (asked-shape without_ids without_keeps m k o)
 
--- ---- ids with numbers that they may have
+-- ---- ids with valid numbers
 
 abbrev pub NumbersAt : Option Doc → Type 0
 NumbersAt None = Unit {0}

@@ -1,4 +1,5 @@
--- The places of the profile that want ids of different sorts never meet in one message.
+-- The row paths of the profile that expect ids of different kinds never match the same path in one
+-- message.
 use Rattle.dap_tree.specs.Doc.{Doc, text, get}
 use Rattle.dap_tree.specs.declared.side.Side.{Side}
 use Rattle.dap_tree.specs.declared.side.Side.TheVariants.{Client, Adapter}
@@ -28,7 +29,7 @@ use Rattle.dap_message.specs.Rows.{may_have_body}
 use Rattle.dap_message.proofs.RowMarks.{asked-mark_row}
 use Rattle.dap_message.proofs.MarkedPlaces.{Pending, done, mark_at, edits, meet, AgreeWith, Agree}
 
--- what is pending of a row in a document
+-- the pending marks of a row in a document
 abbrev pub then_row : Option Sort → Bool → List PlaceStep → Pending → Pending
 then_row None b ps es = es
 then_row (Some s) true ps es = mark_at s ps es
@@ -46,7 +47,7 @@ edits-then_row None b ps es d = refl
 edits-then_row (Some s) true ps es d = refl
 edits-then_row (Some s) false ps es d = refl
 
--- d and e answer alike whether a row is asked of them
+-- the same rows apply to d and e
 abbrev pub AskedAlike : Doc → Doc → Type 0
 AskedAlike d e = (k : Option Kind) (n : Option (List ℕ)) → is_asked k n e ≡ is_asked k n d
 
@@ -61,7 +62,7 @@ mark_rows-edits (r ∷ rs) side d e h =
     ∙ sym (edits-then_row (sort_of side r.want) (is_asked r.kind r.name d) r.place
     (pending rs side d) e)
 
--- ---- rows that are asked of one message
+-- ---- rows that apply to the same message
 
 abbrev one_kind : Kind → Kind → Bool
 one_kind Request Request = true
@@ -73,7 +74,7 @@ abbrev one_name : Option (List ℕ) → Option (List ℕ) → Bool
 one_name (Some n) (Some m) = bytes_eq n m
 one_name _ _ = true
 
--- there may be a message of which both are asked
+-- there may be a message to which both rows apply
 abbrev both_asked : Option Kind → Option (List ℕ) → Option Kind → Option (List ℕ) → Bool
 both_asked (Some k) n (Some l) m = one_kind k l && one_name n m
 both_asked _ n _ m = true
@@ -130,7 +131,7 @@ abbrev sorts_apart : Option Sort → Option Sort → Bool → Bool
 sorts_apart (Some s) (Some t) b = same_sort s t || not b
 sorts_apart _ _ b = true
 
--- two rows want ids of one sort, or do not meet in a message
+-- two rows expect ids of the same kind, or do not meet in a message
 abbrev apart : ProfileRow → ProfileRow → Bool
 apart r q =
     sorts_apart (sort_of Client r.want) (sort_of Client q.want) (meet r.place q.place
@@ -144,7 +145,7 @@ profile_apart : all_apart profile ≡ true
 unfolding profile first_rows later_rows
 profile_apart = refl
 
--- the sort that a side's message has where a client's has this one
+-- the kind for a side's message that corresponds to this kind for a client's message
 abbrev from_side : Side → Sort → Sort
 from_side Client s = s
 from_side Adapter ClientSeq = AdapterSeq
@@ -217,7 +218,7 @@ agree_pending (r ∷ rs) side d h =
     refl (is_asked r.kind r.name d) refl
     (agree_pending rs side d (and_right (list_all (apart r) rs) (all_apart rs) h))
 
--- places of these rows that want different sorts never meet in one message
+-- the paths of these rows that expect different kinds never meet in one message
 abbrev pub AllAgree : List ProfileRow → Type 0
 AllAgree rows = (side : Side) (d : Doc) → Agree (pending rows side d)
 

@@ -1,4 +1,4 @@
--- The kind that a document tells is kept by what typing and renumbering change.
+-- Typing and renumbering do not change the kind of a document.
 use Rattle.std.proofs.Common.{◌≡◌, ◌∙◌, ℤ, true, false, List, Some, ap, refl, sym}
 use Rattle.std.specs.Option.{option_map_or}
 use Rattle.dap_tree.specs.Doc.{Doc}

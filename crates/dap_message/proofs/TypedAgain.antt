@@ -1,5 +1,5 @@
--- A document that differs from a message at the numbers of its ids alone, each one that an id of
--- its sort may have, is typed again as itself.
+-- A document that differs from a message only in the numbers of its ids is typed again as itself,
+-- if the numbers are valid for their kinds.
 use Rattle.dap_tree.specs.Doc.{Doc, null, boolean, whole, text, list, object, id, Items, no_items}
 use Rattle.dap_tree.specs.Doc.{item, Members, no_members, member, get, get_member, put}
 use Rattle.dap_tree.specs.Doc.{change_member, change_child, is_plain, is_sound, in_range}
@@ -56,11 +56,11 @@ use Rattle.dap_message.proofs.Shapes.{KeepsShape, without_keeps, skeleton_keeps,
 use Rattle.dap_message.proofs.Shapes.{asked-shape, asked_without, NumbersAt, AllNumbered}
 use Rattle.dap_message.proofs.Shapes.{numbers_found}
 
--- the document with 0 for the number of each id, and no id
+-- the document with each id replaced by the integer 0
 abbrev zeroed : Doc → Doc
 zeroed d = without_ids (skeleton d)
 
--- ---- what the rows judge
+-- ---- what the rows check
 
 abbrev Well : Want → Bool → Option Doc → Type 0
 Well w b o = cause_against w b o ≡ None
@@ -235,15 +235,15 @@ fits_numbered d fit h =
     faultless (without_ids d) (sym (object_zeroed d) ∙ p.0) (sym (kind_zeroed d) ∙ p.1)
     (rows_broken (without_ids d) (rows_numbered profile d fit (rows_free (zeroed d) p.2)))
 
--- a message's rows stand with other numbers that its ids may have
+-- a message's rows are not violated with other valid numbers at its ids
 pub fits_again : (m n : Doc) → skeleton n ≡ skeleton m → IdNumbers (ids n) → Fits (without_ids m)
     → Fits (without_ids n)
 fits_again m n same fit h =
     fits_numbered n fit (ap (λ d. fault (without_ids d)) same ∙ fits_zeroed m h)
 
--- ---- the capabilities are there
+-- ---- the capabilities exist
 
--- the body is given, and in it each of these names
+-- the body is given, and each of these names in it
 abbrev has_all : List (List ℕ) → Doc → Bool
 has_all ks d =
     is_given (get (codes "body") d)
@@ -335,7 +335,7 @@ false-given_body ks (Some (object ms)) h =
     ap (λ os. Some (object os)) (false-noop ks ms (list_given ks ms h))
 false-given_body ks (Some (id s z)) h = refl
 
--- nothing is filled in where all is there
+-- nothing is filled in if everything is given
 fill-noop : (ks : List (List ℕ)) (d : Doc) → has_all ks d ≡ true
     → change_child (codes "body") (false_at ks) (default_to (codes "body") (object no_members) d)
     ≡ d
@@ -371,7 +371,7 @@ has_all-again ks m n same h =
     ∙ sym (has_all-shape without_ids without_keeps ks m)
     ∙ h
 
--- capabilities that a message has are there with other numbers, whatever rows told its ids
+-- the capabilities of a message exist with other numbers too, whatever rows defined its ids
 pub filled_again : (rows : List ProfileRow) (side : Side) (d n : Doc) → is_plain d ≡ true → Fits d
     → skeleton n ≡ skeleton (message_by_rows rows side d)
     → filled side (without_ids n) ≡ without_ids n
@@ -392,7 +392,7 @@ filled_again rows Adapter d n plain fits same =
     ∙ capabilities-noop (without_ids n) (has_all-again capabilities m n same full))
     (λ t. ap (λ b. cond b (with_capabilities (without_ids n)) (without_ids n)) t)
 
--- ---- the marks come again
+-- ---- the marks are the same again
 
 mark-again_with : (rows : List ProfileRow) → AllAgree rows → (side : Side) (m n : Doc)
     → skeleton n ≡ skeleton m → IdNumbers (ids n)
@@ -409,7 +409,7 @@ mark-again_with rows agree side m n same fit h =
     mark_rows-edits rows side (without_ids m) (without_ids n) (asked_without m n same)
     ∙ ap (λ e. edits es (without_ids e)) (sym is) ∙ again ∙ is
 
--- a document with other numbers is the message of its numbers by the same rows
+-- a document with other numbers is the message of its numbers, by the same rows
 pub message_again : (rows : List ProfileRow) → AllAgree rows → (side : Side) (d n : Doc)
     → is_plain d ≡ true → Fits d → skeleton n ≡ skeleton (message_by_rows rows side d)
     → has_id_numbers n ≡ true → n ≡ message_by_rows rows side (without_ids n)
@@ -461,8 +461,9 @@ plain_again m n same fit sound =
 
 -- ---- typed again
 
--- a document that differs from a message, whatever rows told its ids, at the numbers of its ids
--- alone is plain with its ids as numbers, and fits the profile as the message's document does
+-- Let a document differ from a message only in the numbers of its ids, whatever rows defined its
+-- ids. Then it is plain with its ids as integers, and fits the profile like the document of the
+-- message.
 pub read_again : (rows : List ProfileRow) (side : Side) (d n : Doc) → is_plain d ≡ true → Fits d
     → skeleton n ≡ skeleton (message_by_rows rows side d) → has_id_numbers n ≡ true
     → (is_plain (without_ids n) ≡ true) × Fits (without_ids n)
@@ -480,7 +481,7 @@ typed_again side d n plain fits same fit =
     let again = read_again profile side d n plain fits same fit in
     (again.0, (again.1, message_again profile profile_agree side d n plain fits same fit))
 
--- its text is read as its document with the ids as numbers
+-- its text is read as the document with its ids as integers
 pub text_again : (rows : List ProfileRow) (side : Side) (d n : Doc) → is_plain d ≡ true
     → is_ordered d ≡ true → all_utf8 d ≡ true → skeleton n ≡ skeleton (message_by_rows rows side d)
     → has_id_numbers n ≡ true → IsRead (text_of n) (without_ids n)

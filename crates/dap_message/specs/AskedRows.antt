@@ -1,5 +1,5 @@
--- The rows that are asked of a message: found by its kind and its name, and what is broken and
--- marked by them.
+-- The rows that apply to a message, found by its kind and its name, and the errors and marks that
+-- they define.
 use Rattle.dap_tree.specs.Doc.{Doc, get}
 use Rattle.dap_tree.specs.declared.side.Side.{Side}
 use Rattle.std.specs.Prelude.{ℕ, cond, List, [], ◌∷◌, Option, Some, None, option_map}
@@ -15,13 +15,13 @@ use Rattle.dap_message.specs.Marks.{sort_of, marked, edit}
 use Rattle.dap_message.specs.Rows.{is_asked, type_name, name_key, may_have_body, of_row, broken_at}
 use Rattle.dap_message.specs.declared.fault.MessageFault.{MessageFault}
 
--- The rows that are asked of the document, in order.
+-- The rows that apply to the document, in order.
 unfoldable pub asked_rows : Doc → List ProfileRow
 asked_rows d = filter (λ r. is_asked r.kind r.name d) profile
 
 -- ---- by kind and name
 
--- The kind with this `type`.
+-- The kind of a message with this `type`.
 abbrev pub kind_typed : List ℕ → Option Kind
 kind_typed s =
     cond (bytes_eq (type_name Request) s) (Some Request)
@@ -32,26 +32,27 @@ kind_typed s =
 abbrev pub kind_told : Doc → Option Kind
 kind_told d = option_and_then kind_typed (text_value (get (codes "type") d))
 
--- The name by which rows are asked of a document of a kind; none where it may have no body.
+-- The name that decides which rows apply to a document of a kind, or `None` if it has no name or
+-- may not have a body.
 abbrev pub name_told : Kind → Doc → Option (List ℕ)
 name_told k d = cond (may_have_body k d) (text_value (get (name_key k) d)) None
 
--- ---- what rows that are asked do
+-- ---- the effect of rows that apply
 
--- The fault of a message by one row.
+-- The error of a message for one row that applies to it.
 abbrev pub fault_by : ProfileRow → Doc → Option MessageFault
 fault_by r d = option_map (of_row r.number) (broken_at r.place r.want r.needed d)
 
--- The fault of the first of them that is broken.
+-- The error for the first of these rows that is violated.
 abbrev pub first_by : List ProfileRow → Doc → Option MessageFault
 first_by [] d = None
 first_by (r ∷ rs) d = option_or (fault_by r d) (first_by rs d)
 
--- The document with the ids that one row tells.
+-- The document with the ids that one row defines.
 abbrev pub mark_by : ProfileRow → Side → Doc → Doc
 mark_by r side d = option_map_or (λ s. edit r.place (marked s) d) (sort_of side r.want) d
 
--- The document with the ids that they tell.
+-- The document with the ids that these rows define.
 abbrev pub marks_by : List ProfileRow → Side → Doc → Doc
 marks_by [] side d = d
 marks_by (r ∷ rs) side d = marks_by rs side (mark_by r side d)

@@ -1,5 +1,4 @@
--- The capabilities that are read as false where an adapter's response to `initialize` leaves them
--- out.
+-- The capabilities that are read as false if an adapter's response to `initialize` omits them.
 use Rattle.dap_tree.specs.Doc.{Doc, null, boolean, object, Members, no_members, put, get_member}
 use Rattle.dap_tree.specs.Doc.{change_child}
 use Rattle.dap_tree.specs.declared.side.Side.{Side}
@@ -8,39 +7,39 @@ use Rattle.std.specs.Prelude.{ℕ, Bool, true, false, cond, List, [], ◌∷◌,
 use Rattle.dap_profile.specs.declared.profile.Kind.TheVariants.{Response}
 use Rattle.dap_message.specs.Rows.{is_asked}
 
--- Something but null stands there.
+-- There is a value other than null.
 abbrev pub is_given : Option Doc → Bool
 is_given None = false
 is_given (Some null) = false
 is_given (Some d) = true
 
--- The members with d at a name that is absent or null.
+-- Sets the member at a name to d if it is absent or null.
 abbrev pub default_member : List ℕ → Doc → Members → Members
 default_member k d ms = cond (is_given (get_member k ms)) ms (put k d ms)
 
--- The object with d at a name that is absent or null.
+-- Sets the member of an object at a name to d if it is absent or null.
 abbrev pub default_to : List ℕ → Doc → Doc → Doc
 default_to k d (object ms) = object (default_member k d ms)
 default_to k d e = e
 
--- The members with false at each of these names that is absent or null.
+-- Sets each member with one of these names to false if it is absent or null.
 abbrev pub false_members : List (List ℕ) → Members → Members
 false_members [] ms = ms
 false_members (k ∷ ks) ms = false_members ks (default_member k (boolean false) ms)
 
--- The object with false at each of these names that is absent or null.
+-- Sets each member of an object with one of these names to false if it is absent or null.
 abbrev pub false_at : List (List ℕ) → Doc → Doc
 false_at ks (object ms) = object (false_members ks ms)
 false_at ks d = d
 
--- An adapter tells its capabilities in its successful response to `initialize` (DAP specification).
--- Its `capabilities` event tells only those that change, so nothing is added there.
+-- An adapter reports its capabilities in its successful response to `initialize` (DAP
+-- specification). Its `capabilities` event contains only those that changed, so nothing is added to
+-- that event.
 abbrev pub tells_capabilities : Side → Doc → Bool
 tells_capabilities Client d = false
 tells_capabilities Adapter d = is_asked (Some Response) (Some (codes "initialize")) d
 
--- The names of the capabilities that are true or false (DAP specification, Capabilities), in byte
--- order.
+-- The names of the boolean capabilities (DAP specification, Capabilities), in byte order.
 abbrev pub capabilities : List (List ℕ)
 capabilities =
     codes "supportSuspendDebuggee"
@@ -80,13 +79,13 @@ capabilities =
     ∷ codes "supportsWriteMemoryRequest"
     ∷ []
 
--- An absent or null body is an empty object, and in it each absent or null capability is false: all
--- are optional in the DAP specification, and the reading as false is own.
+-- An absent or null body is read as an empty object, and each absent or null capability in it as
+-- false. All of them are optional in the DAP specification; reading them as false is own.
 unfoldable pub with_capabilities : Doc → Doc
 with_capabilities d =
     change_child (codes "body") (false_at capabilities)
     (default_to (codes "body") (object no_members) d)
 
--- The document with the capabilities that its side may leave out.
+-- The document with the capabilities filled in that its side may omit.
 abbrev pub filled : Side → Doc → Doc
 filled side d = cond (tells_capabilities side d) (with_capabilities d) d

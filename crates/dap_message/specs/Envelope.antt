@@ -6,7 +6,7 @@ use Rattle.dap_profile.specs.declared.profile.Kind.{Kind}
 use Rattle.dap_profile.specs.declared.profile.Kind.TheVariants.{Request, Response, Event}
 use Rattle.dap_message.specs.Rows.{is_of_kind, name_key}
 
--- The number of an id, the value of a boolean, the bytes of a text, where one stands there.
+-- The number of an id, the value of a boolean, the bytes of a string, if there is such a value.
 abbrev pub id_number : Option Doc → Option ℤ
 id_number (Some (id s z)) = Some z
 id_number _ = None
@@ -19,11 +19,11 @@ abbrev pub text_value : Option Doc → Option (List ℕ)
 text_value (Some (text s)) = Some s
 text_value _ = None
 
--- The kind of a message that has one.
+-- The kind of a message. A document without a kind counts as an event.
 abbrev pub kind_of : Doc → Kind
 kind_of d = cond (is_of_kind Request d) Request (cond (is_of_kind Response d) Response Event)
 
--- The command of a request or response, the name of an event.
+-- The command of a request or response, or the name of an event.
 abbrev pub name_of : Doc → Option (List ℕ)
 name_of d = text_value (get (name_key (kind_of d)) d)
 
@@ -32,11 +32,12 @@ abbrev pub seq_of : Doc → Option ℤ
 seq_of d = id_number (get (codes "seq") d)
 
 -- The sequence number of the request that a response answers (DAP specification,
--- Response.request_seq); None but for a response.
+-- Response.request_seq), or `None` if the message is not a response.
 abbrev pub request_seq_of : Doc → Option ℤ
 request_seq_of d = cond (is_of_kind Response d) (id_number (get (codes "request_seq") d)) None
 
--- Whether a response tells success (DAP specification, Response.success); None but for a response.
+-- Whether a response reports success (DAP specification, Response.success), or `None` if the
+-- message is not a response.
 abbrev pub success_of : Doc → Option Bool
 success_of d = cond (is_of_kind Response d) (boolean_value (get (codes "success") d)) None
 
@@ -44,8 +45,8 @@ success_of d = cond (is_of_kind Response d) (boolean_value (get (codes "success"
 abbrev pub is_named : Kind → Doc → Bool
 is_named k d = is_of_kind k d && is_some (text_value (get (name_key k) d))
 
--- A message has a `seq`, a kind and a name, and a response what it answers and whether it succeeded
--- (DAP specification, ProtocolMessage, Request, Event and Response).
+-- A message has a `seq`, a kind and a name. A response also has the number of its request and says
+-- whether it succeeded (DAP specification, ProtocolMessage, Request, Event and Response).
 abbrev pub has_envelope : Doc → Bool
 has_envelope d =
     is_some (seq_of d)

@@ -1,4 +1,4 @@
--- What is wrong with a message, and the messages with which nothing is.
+-- The error of a message, and the messages without errors.
 use Rattle.dap_tree.specs.Doc.{Doc}
 use Rattle.std.specs.Prelude.{◌≡◌, Bool, cond, ◌||◌, List, Option, Some, None}
 use Rattle.dap_profile.specs.Profile.{profile}
@@ -13,32 +13,32 @@ use Rattle.dap_message.specs.declared.fault.MessageFault.TheVariants.{NotObject,
 abbrev pub has_kind : Doc → Bool
 has_kind d = is_of_kind Request d || is_of_kind Response d || is_of_kind Event d
 
--- ---- by some rows
+-- ---- by a list of rows
 
--- The fault of the least broken of these rows.
+-- The error for the first of these rows that is violated.
 unfoldable pub broken_by_rows : List ProfileRow → Doc → Option MessageFault
 broken_by_rows rows d = first_fault rows d
 
--- The first fault (own order): no object, an unknown type, the least broken row.
+-- The first error (own order): not an object, an unknown type, the first violated row.
 abbrev pub fault_by_rows : List ProfileRow → Doc → Option MessageFault
 fault_by_rows rows d =
     cond (is_object d) (cond (has_kind d) (broken_by_rows rows d) (Some UnknownType))
     (Some NotObject)
 
--- The document is that of a message which breaks none of these rows.
+-- The document is a message that violates none of these rows.
 abbrev pub FitsRows : List ProfileRow → Doc → Type 0
 FitsRows rows d = fault_by_rows rows d ≡ None
 
 -- ---- by the profile
 
--- The fault of the least broken row of the profile.
+-- The error for the violated row of the profile with the lowest number.
 abbrev pub row_broken : Doc → Option MessageFault
 row_broken d = broken_by_rows profile d
 
--- The first fault by the profile.
+-- The first error by the profile.
 abbrev pub fault : Doc → Option MessageFault
 fault d = fault_by_rows profile d
 
--- The document is that of a message which breaks no row.
+-- The document is a message that violates no row of the profile.
 abbrev pub Fits : Doc → Type 0
 Fits d = FitsRows profile d

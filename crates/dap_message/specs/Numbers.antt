@@ -1,4 +1,4 @@
--- The numbers that stand at the ids of a message.
+-- The numbers of the ids of a message.
 use Rattle.dap_tree.specs.Doc.{Doc}
 use Rattle.dap_tree.specs.Ids.{ids, sorts_of}
 use Rattle.dap_tree.specs.declared.sort.Sort.{Sort}
@@ -13,25 +13,26 @@ abbrev pub is_proper_number : Sort → ℤ → Bool
 is_proper_number Reference z = not (int_eq z (pos 0))
 is_proper_number s z = true
 
--- None of these ids is a variables reference of 0.
+-- No id of the list is a variables reference of 0.
 abbrev pub are_proper : List (Sort × ℤ) → Bool
 are_proper is = list_all (λ i. is_proper_number i.0 i.1) is
 
--- None of the ids is a variables reference of 0.
+-- No id of the document is a variables reference of 0.
 abbrev pub is_proper : Doc → Bool
 is_proper d = are_proper (ids d)
 
--- The ids of the document with other numbers, the i-th with the i-th number.
+-- The ids of the document with other numbers: the i-th id with the i-th number.
 abbrev pub renumbered : Doc → List ℤ → List (Sort × ℤ)
 renumbered d ns = zip (sorts_of (ids d)) ns
 
--- From 1 to 2,147,483,647 (own): the range that the DAP specification asks of variables references.
+-- From 1 to 2,147,483,647 (own): the range that the DAP specification requires for variables
+-- references.
 abbrev pub is_small : ℤ → Bool
 is_small (pos n) = nat_lt 0 n && nat_lt n (2 ^ 31)
 is_small (negsuc n) = false
 
--- Each id has a number that an id of its sort may have: one of 64 bits with a sign, and for a
--- variables reference not 0.
+-- Each id has a valid number for its kind: a signed 64-bit number, except 0 for a variables
+-- reference.
 abbrev pub has_id_numbers : Doc → Bool
 has_id_numbers d = list_all (λ i. is_id_of i.0 i.1) (ids d)
 

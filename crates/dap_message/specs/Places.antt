@@ -1,4 +1,4 @@
--- Places of the profile: the paths that one speaks of, and what stands there.
+-- Paths of rows of the profile: the paths of a document that match, and the values at them.
 use Rattle.dap_tree.specs.Doc.{Doc, object, list, Items, no_items, item, get}
 use Rattle.dap_tree.specs.Path.{Step, name, place}
 use Rattle.std.specs.Prelude.{Bool, true, false, cond, ◌&&◌, List, [], ◌∷◌, flat_map, Option, Some}
@@ -6,7 +6,7 @@ use Rattle.std.specs.Prelude.{None, bytes_eq}
 use Rattle.std.specs.Option.{option_map_or}
 use Rattle.dap_profile.specs.PlaceSteps.{PlaceStep, named, each}
 
--- The place speaks of the path: step by step one name, or any element.
+-- The row's path matches the path of a document: step by step the same name, or any element.
 abbrev pub fits_place : List PlaceStep → List Step → Bool
 fits_place [] [] = true
 fits_place (named k ∷ ps) (name l ∷ p) = bytes_eq k l && fits_place ps p
@@ -18,18 +18,18 @@ abbrev pub is_object : Doc → Bool
 is_object (object ms) = true
 is_object _ = false
 
--- The elements of a list, in order.
+-- The elements of an array, in order.
 abbrev pub elements : Items → List Doc
 elements no_items = []
 elements (item d ds) = d ∷ elements ds
 
--- The elements, where the document is a list.
+-- The elements, if the document is an array.
 abbrev pub list_of : Doc → Option (List Doc)
 list_of (list ds) = Some (elements ds)
 list_of _ = None
 
--- What stands at a place (own): once for each parent that is there and is an object or a list, as
--- the place asks. An absent member counts as None.
+-- The values at a row's path (own): one for each parent that exists and is an object or array, as
+-- the path requires. An absent member counts as `None`.
 abbrev pub parts_at : List PlaceStep → Doc → List (Option Doc)
 parts_at [] d = Some d ∷ []
 parts_at (named k ∷ []) d = cond (is_object d) (get k d ∷ []) []

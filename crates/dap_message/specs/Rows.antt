@@ -1,5 +1,5 @@
--- The rows of the profile: which messages one is asked of, what stands at its place, and whether
--- that is as it wants.
+-- The rows of the profile: the messages to which a row applies, the values at its path, and whether
+-- they are as it requires.
 use Rattle.dap_tree.specs.Doc.{Doc, null, boolean, whole, text, list, object, get}
 use Rattle.std.specs.Prelude.{ℕ, ◌^◌, ℤ, pos, negsuc, Bool, true, false, cond, not, ◌&&◌, nat_lt}
 use Rattle.std.specs.Prelude.{List, [], ◌∷◌, map, Option, Some, None, option_map, codes, bytes_eq}
@@ -19,14 +19,14 @@ use Rattle.dap_message.specs.declared.fault.MessageFault.{MessageFault}
 use Rattle.dap_message.specs.declared.fault.MessageFault.TheVariants.{Missing as MissingRow}
 use Rattle.dap_message.specs.declared.fault.MessageFault.TheVariants.{WrongType as WrongTypeRow}
 
--- ---- the messages that a row is asked of
+-- ---- the messages to which a row applies
 
--- That very text stands there.
+-- The value is that string.
 abbrev pub is_text : List ℕ → Option Doc → Bool
 is_text k (Some (text s)) = bytes_eq k s
 is_text k _ = false
 
--- `true` stands there.
+-- The value is `true`.
 abbrev pub is_true : Option Doc → Bool
 is_true (Some (boolean b)) = b
 is_true _ = false
@@ -47,28 +47,28 @@ name_key Event = codes "event"
 abbrev pub is_of_kind : Kind → Doc → Bool
 is_of_kind k d = is_text (type_name k) (get (codes "type") d)
 
--- A response that tells no success has the body of an error (DAP specification, ErrorResponse), so
--- no row with a name is asked of it.
+-- A response that does not report success has the body of an error (DAP specification,
+-- ErrorResponse), so no row with a name applies to it.
 abbrev pub may_have_body : Kind → Doc → Bool
 may_have_body Request d = true
 may_have_body Response d = is_true (get (codes "success") d)
 may_have_body Event d = true
 
--- A row of this kind and name is asked of the message (own); None stands for any.
+-- A row of this kind and name applies to the message (own); `None` means any kind or name.
 abbrev pub is_asked : Option Kind → Option (List ℕ) → Doc → Bool
 is_asked None n d = true
 is_asked (Some k) None d = is_of_kind k d
 is_asked (Some k) (Some n) d = is_of_kind k d && is_text n (get (name_key k) d) && may_have_body k d
 
--- ---- how a row is broken
+-- ---- how a row is violated
 
--- An id is a number of 64 bits with a sign (own).
+-- An id is a signed 64-bit number (own).
 abbrev pub is_id_number : ℤ → Bool
 is_id_number (pos n) = nat_lt n (2 ^ 63)
 is_id_number (negsuc n) = nat_lt n (2 ^ 63)
 
--- The document has the wanted type (DAP specification's schema); an id is a whole number that may
--- be one.
+-- The document has the expected type (schema of the DAP specification). For an id this is an
+-- integer that may be an id.
 abbrev pub has_type : Want → Doc → Bool
 has_type WantBool (boolean b) = true
 has_type Whole (whole n) = true
@@ -83,35 +83,34 @@ abbrev pub is_null : Doc → Bool
 is_null null = true
 is_null _ = false
 
--- What is wrong with what stands at a place (own): a place that is not needed may be absent or
+-- How a value at a row's path violates it (own). A value that is not required may be absent or
 -- null.
 abbrev pub cause_against : Want → Bool → Option Doc → Option Cause
 cause_against w needed None = cond needed (Some Missing) None
 cause_against w needed (Some d) =
     cond (has_type w d) None (cond (is_null d && not needed) None (Some WrongType))
 
--- The first cause that there is.
+-- The first cause in the list.
 abbrev pub first_cause : List (Option Cause) → Option Cause
 first_cause [] = None
 first_cause (c ∷ cs) = option_or c (first_cause cs)
 
--- What is wrong at a place, by its first breaking element.
+-- How a row's path is violated: by the first value that violates it.
 abbrev pub broken_at : List PlaceStep → Want → Bool → Doc → Option Cause
 broken_at p w needed d = first_cause (map (cause_against w needed) (parts_at p d))
 
--- The fault that names a row.
+-- The error that names a row.
 abbrev pub of_row : ℕ → Cause → MessageFault
 of_row n Missing = MissingRow n
 of_row n WrongType = WrongTypeRow n
 
--- The fault of a message by one row: there is one where the row is asked of the message and broken
--- in it.
+-- The error of a message for one row: an error if the row applies to the message and is violated.
 abbrev pub row_fault : ProfileRow → Doc → Option MessageFault
 row_fault r d =
     cond (is_asked r.kind r.name d)
     (option_map (of_row r.number) (broken_at r.place r.want r.needed d)) None
 
--- The fault of the first broken row.
+-- The error for the first violated row.
 abbrev pub first_fault : List ProfileRow → Doc → Option MessageFault
 first_fault [] d = None
 first_fault (r ∷ rs) d = option_or (row_fault r d) (first_fault rs d)

@@ -1,4 +1,4 @@
--- What contracts see of the iterators over the views, and of their items.
+-- The model of the iterators over the views, and of their items.
 use Rattle.dap_tree.specs.View.{view}
 use Rattle.std.specs.Prelude.{List, map, filter_map}
 use Rattle.dap_message.specs.Views.{StackFrame, Scope, Variable, frame_of, scope_of, variable_of}
@@ -9,7 +9,7 @@ use Rattle.dap_message.specs.declared.listing.Frames.{Frames}
 use Rattle.dap_message.specs.declared.listing.Scopes.{Scopes}
 use Rattle.dap_message.specs.declared.listing.Variables.{Variables}
 
--- What an item shows.
+-- The view that an item represents.
 abbrev pub frame_shown : FrameView → StackFrame
 frame_shown v = record { id = v.id; name = v.name.now; line = v.line; column = v.column }
 
@@ -19,7 +19,7 @@ scope_shown v = record { name = v.name.now; reference = v.reference }
 abbrev pub variable_shown : VariableView → Variable
 variable_shown v = record { name = v.name.now; value = v.value.now; reference = v.reference }
 
--- What the iterator has not given yet.
+-- The items that the iterator has not returned yet.
 abbrev pub frames_left : Frames → List StackFrame
 frames_left it = filter_map frame_of (map view it.elements.now)
 

@@ -1,4 +1,4 @@
-//! Typed messages, in whatever form their documents are held.
+//! Typed messages, independent of how their documents are represented.
 ghost use Rattle.std.specs.Prelude.{◌≡◌, ◌++◌, length, true, Some, is_some, OnOk, OnErr};
 ghost use Rattle.dap_tree.specs.Ids.{ids, with_ids};
 ghost use Rattle.dap_tree.specs.Json.{text_of};
@@ -12,7 +12,7 @@ use dap_profile::Kind;
 use dap_tree::{Side, Sort, write_tree_to};
 use std::alloc::{AllocError, Global};
 
-/// A typed message, in whatever form its document is held: [`Message`] holds a tree.
+/// A typed message, independent of how its document is represented: [`Message`] stores a tree.
 pub trait AnyMessage {
     /// The side that sent the message, and its document.
     ghost sent: { Self → Sent };
@@ -46,18 +46,24 @@ pub trait AnyMessage {
         ensures same { result ≡ success_of (sent self.now).doc }
         ensures of_responses { is_some result ≡ is_of_kind Kind.Response (sent self.now).doc };
 
-    /// Appends the ids of the message, each with its sort and its number, in the order of the
+    /// Appends the ids of the message, each as its kind and its number, in the order of the
     /// canonical content.
     ///
-    /// On an error `found` holds what it held; its capacity may have grown.
+    /// # Errors
+    ///
+    /// - `AllocError`: an allocation failed. The contents of `found` are unchanged; its capacity
+    ///   may have grown.
     fn add_ids(&self, found: &mut Vec<(Sort, i64)>) -> Result<(), AllocError>
         ensures ok { OnOk result (found.new.items ≡ found.old.items ++ ids (sent self.now).doc) }
         ensures err { OnErr result (found.new.items ≡ found.old.items) };
 
-    /// Appends the canonical content of the message with the i-th number at its i-th id, in the
-    /// order of [`add_ids`](AnyMessage::add_ids).
+    /// Appends the canonical content of the message, in which the i-th id has the i-th number, in
+    /// the order of [`add_ids`](AnyMessage::add_ids).
     ///
-    /// On an error `out` holds what it held; its capacity may have grown.
+    /// # Errors
+    ///
+    /// - `AllocError`: an allocation failed. The contents of `out` are unchanged; its capacity may
+    ///   have grown.
     fn write_with_ids(
         self,
         alloc: Global,

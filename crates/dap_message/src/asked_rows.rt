@@ -1,4 +1,4 @@
-//! Which messages a row is asked of.
+//! The rows that apply to a message.
 ghost use Rattle.std.specs.Prelude.{◌≡◌, Some, option_map, codes};
 ghost use Rattle.dap_tree.specs.Doc.{get};
 ghost use Rattle.dap_tree.specs.View.{view};
@@ -38,7 +38,7 @@ pub(crate) fn is_of_kind(tree: &Tree, kind: Kind) -> bool
     }
 }
 
-/// The rows that are asked of a tree of this kind.
+/// Returns the rows that apply to a tree of this kind.
 pub(crate) fn asked_rows(tree: &Tree, kind: Kind) -> AskedRows
     requires { kind_told (view tree.now) ≡ Some kind }
     ensures { rows_in result ≡ asked_rows (view tree.now) }
@@ -61,7 +61,7 @@ pub(crate) fn kind_of(tree: &Tree) -> Option<Kind>
     }
 }
 
-/// The name of a message that may have a body.
+/// Returns the name of the message, or `None` if it has no name or may not have a body.
 fn name_of(tree: &Tree, kind: Kind) -> Option<&str>
     ensures { option_map (λ s. s.now) result ≡ name_told kind (view tree.now) }
 {

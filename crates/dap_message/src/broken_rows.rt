@@ -1,4 +1,4 @@
-//! Whether a tree breaks one row.
+//! Whether a tree violates one row.
 ghost use Rattle.std.specs.Prelude.{◌≡◌, [], ◌∷◌, map, option_map, option_and_then};
 ghost use Rattle.std.specs.List.{flat_map};
 ghost use Rattle.dap_tree.specs.Doc.{get};
@@ -10,14 +10,15 @@ ghost use Rattle.dap_message.specs.Rows.{has_type, cause_against, first_cause, b
 use dap_profile::{Place, Row, Want};
 use dap_tree::Tree;
 
-/// How a row is broken.
+/// How a row is violated.
 #[derive(Clone, Copy, PartialEq, Eq, Drop)]
 pub(crate) enum Cause {
     Missing,
     WrongType,
 }
 
-/// How the tree breaks the row: by the first element, where it looks at several.
+/// Returns how the tree violates the row, or `None` if it does not. If the row's path leads to
+/// several elements, the first one that violates the row counts.
 pub(crate) fn cause_of(row: &Row, tree: &Tree) -> Option<Cause>
     ensures { result
         ≡ broken_at (steps_of row.now.place) row.now.want row.now.needed (view tree.now) }
@@ -68,7 +69,7 @@ fn judge(found: Option<&Tree>, want: Want, needed: bool) -> Option<Cause>
     }
 }
 
-/// Nothing is asked of a parent that is no object.
+/// Returns `None` if the parent is not an object: the row requires nothing of it.
 fn judge_member(parent: &Tree, name: &str, want: Want, needed: bool) -> Option<Cause>
     ensures { result
         ≡ first_cause (map (cause_against want needed)
@@ -81,7 +82,7 @@ fn judge_member(parent: &Tree, name: &str, want: Want, needed: bool) -> Option<C
     }
 }
 
-/// Nothing is asked where the outer member is not there.
+/// Returns `None` if the outer member is absent: the row requires nothing of it.
 fn judge_inner(tree: &Tree, outer: &str, inner: &str, want: Want, needed: bool) -> Option<Cause>
     ensures { result
         ≡ first_cause (map (cause_against want needed)

@@ -1,4 +1,4 @@
-//! The capabilities that an adapter leaves out, made false in place.
+//! Sets the capabilities that an adapter omitted to false, in place.
 ghost use Rattle.std.specs.Prelude.{◌≡◌, true, IfOk, OnErr, map, codes, option_map};
 ghost use Rattle.dap_tree.specs.Doc.{get_member, object, no_members, change_child};
 ghost use Rattle.dap_tree.specs.View.{view, members_view};

@@ -1,29 +1,41 @@
-//! Why a tree is no message.
+//! The error of typing a message.
 ghost use Rattle.std.specs.Prelude.{◌≡◌};
 
 use std::alloc::AllocError;
 use thiserror::Error;
 
-/// Why a tree is no message.
+/// Why a tree is not a message, or why a message could not be written or copied.
 ///
-/// Of several faults the first is told: `NotObject`, then `UnknownType`, then the broken row with
-/// the least number.
+/// If a tree has several errors, the first in this order is reported: `NotObject`, `UnknownType`,
+/// the violated row with the lowest number.
 #[derive(Clone, Copy, Debug, PartialEq, Eq, Drop, Error)]
 pub enum MessageFault {
-    /// The tree is no object.
+    /// The content is JSON, but not an object.
+    ///
+    /// - Cause: the sender sent a list or a single value.
+    /// - Fix: fix the sender.
     #[error("NotObject")]
     NotObject,
-    /// Its `type` is absent, is no text, or is none of `request`, `response` and `event`.
+    /// `type` is absent, or is none of `request`, `response` and `event`.
+    ///
+    /// - Cause: another protocol with the same frames, such as the Language Server Protocol.
+    /// - Fix: record the debug session.
     #[error("UnknownType")]
     UnknownType,
-    /// The row with this number needs a member that is absent.
+    /// A member that the profile requires is absent.
+    ///
+    /// - Cause: the sender does not follow the protocol there.
+    /// - Fix: `dapnorm rows R` prints the row; fix the sender.
     #[error("Missing row {0}")]
     Missing(u16),
-    /// What stands at the place of the row with this number is not what the row wants. A null at a
-    /// needed member is told so.
+    /// A member has another type than the profile requires. A null at a required member is reported
+    /// so too.
+    ///
+    /// - Cause: a number sent as text; null at a required member; an id that is not an integer.
+    /// - Fix: `dapnorm rows R` prints the row; fix the sender.
     #[error("WrongType row {0}")]
     WrongType(u16),
-    /// A growth of memory was refused.
+    /// An allocation failed.
     #[error("Memory")]
     Memory,
 }

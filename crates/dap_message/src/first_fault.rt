@@ -1,4 +1,4 @@
-//! The first thing that is wrong with a message.
+//! The first error of a message.
 ghost use Rattle.std.specs.Prelude.{◌≡◌, Some, IfOk, IfErr, map};
 ghost use Rattle.dap_tree.specs.View.{view};
 ghost use Rattle.dap_profile.specs.Stretches.{rows_in};
@@ -12,7 +12,7 @@ use crate::fault::MessageFault;
 use dap_profile::{Kind, Row};
 use dap_tree::Tree;
 
-/// The kind of a message, or why the tree is none before any row is looked at.
+/// Returns the kind of a message, or the error that is reported before any row is checked.
 pub(crate) fn message_kind(tree: &Tree) -> Result<Kind, MessageFault>
     ensures kind { IfOk result (λ k. kind_told (view tree.now) ≡ Some k) }
     ensures rows { IfOk result
@@ -28,7 +28,7 @@ pub(crate) fn message_kind(tree: &Tree) -> Result<Kind, MessageFault>
     }
 }
 
-/// The fault of the first of these rows that the tree breaks.
+/// Returns the error for the first of these rows that the tree violates.
 pub(crate) fn first_broken(stretches: &[&[Row]], tree: &Tree) -> Option<MessageFault>
     ensures { result ≡ first_by (rows_in stretches.now) (view tree.now) }
 {

@@ -3,8 +3,8 @@ ghost use Rattle.std.specs.Prelude.{◌≡◌};
 
 use dap_tree::Sort;
 
-/// The ids of a message in the order of its canonical text, which is that of the members' names in
-/// bytes.
+/// The ids of a message in the order of its canonical content, in which members are sorted by the
+/// bytes of their names.
 #[derive(Drop)]
 pub struct IdList {
     ids: Vec<(Sort, i64)>,
@@ -19,7 +19,7 @@ impl IdList {
         IdList { ids }
     }
 
-    /// The sort and the number of each id. Takes no memory.
+    /// Returns the kind and the number of each id. Does not allocate.
     pub fn as_slice(&self) -> &[(Sort, i64)]
         ensures { result.now ≡ list_of_ids self.now }
     {

@@ -1,5 +1,5 @@
-//! Theorems on typed messages, which hold of all documents and contents. Each function does
-//! nothing: a call of it gives its clauses to a proof.
+//! Theorems about typed messages, for all documents and contents. Each function is empty: calling
+//! it makes its `ensures` clauses available to the caller's proof.
 ghost use Rattle.dap_message.specs.Laws.{OneMessage, OneRefusal, TypedNotRefused, SomeMessage};
 ghost use Rattle.dap_message.specs.Laws.{TypedSide, TypedProper, TypedSound, TypedEnveloped};
 ghost use Rattle.dap_message.specs.Laws.{TypedOrdered, TypedUtf8, ContentWellFormed, TypedAgain};
@@ -11,21 +11,22 @@ ghost use Rattle.dap_message.specs.Laws.{FilledOnce, ContentShown, ShownAlike, E
 ghost use Rattle.dap_message.specs.Laws.{FitsFirst, MarkedInTwo, FirstTypedAgain};
 ghost use Rattle.dap_message.specs.Laws.{FirstContentTypedAgain};
 
-/// A content is one message, or is refused for one reason.
+/// States that a content is at most one message, or is rejected for at most one reason, but not
+/// both.
 pub fn one_outcome()
     ensures one_message { OneMessage }
     ensures one_refusal { OneRefusal }
     ensures not_both { TypedNotRefused }
 {}
 
-/// Every content is a message of a side, or no JSON, or JSON with a fraction, or has a fault of the
-/// profile.
+/// States that every content is one of the following: a message of a given side, not JSON, JSON
+/// with a number that is not an integer of 64 bits, or JSON that violates the profile.
 pub fn some_outcome()
     ensures { SomeMessage }
 {}
 
-/// What every message keeps. That of a content keeps all of it, whatever the bytes were
-/// (`content`).
+/// States the properties that every message inherits from its document. The message of a content
+/// has all of them, whatever its bytes are (`content`).
 pub fn typed_keeps()
     ensures side { TypedSide }
     ensures proper { TypedProper }
@@ -36,8 +37,9 @@ pub fn typed_keeps()
     ensures content { ContentWellFormed }
 {}
 
-/// A message is read and typed again from its own content, also with any other numbers at its ids
-/// that ids of their sorts may have: negative ones, and up to those of 64 bits.
+/// States that a message is read and typed again from its own content. This also holds after its
+/// ids are replaced by any other valid numbers of their kinds: every signed 64-bit number, except 0
+/// for a variables reference.
 pub fn typed_again()
     ensures renumbered { RenumberedTyped }
     ensures renumbered_content { RenumberedContentTyped }
@@ -47,8 +49,9 @@ pub fn typed_again()
     ensures own_numbers { OwnContentTypedAgain }
 {}
 
-/// A message that was typed by the first rows alone, also with other numbers at its ids, is typed
-/// again by the whole profile, and gets the ids that the later rows tell.
+/// States that a message that was typed by only the first rows of the profile is typed again by the
+/// entire profile. In addition, it then has the ids that the later rows define. This also holds if
+/// its ids have other numbers.
 pub fn typed_by_later_rows()
     ensures fits { FitsFirst }
     ensures marked { MarkedInTwo }
@@ -56,33 +59,35 @@ pub fn typed_by_later_rows()
     ensures content { FirstContentTypedAgain }
 {}
 
-/// What a message with other numbers at its ids shares with it, and which ids it has.
+/// States what a message and the same message with other numbers have in common, and which ids the
+/// latter has.
 pub fn renumbered_message()
     ensures skeleton_tells { SkeletonTells }
     ensures ids { Renumbers }
 {}
 
-/// Which documents fit and which fault one has, said path by path and by the rows' numbers.
+/// States which documents fit and which error a document has, in terms of paths and of row numbers.
 pub fn broken_by_path()
     ensures numbered { ProfileNumbered }
     ensures fits { FitsByPath }
     ensures fault { FaultByPath }
 {}
 
-/// There is just one document whose ids are those that the rows tell.
+/// States that exactly one document has exactly the ids that the rows define.
 pub fn one_marking()
     ensures marked { MarkedByPath }
     ensures one { OneMarked }
 {}
 
-/// Capabilities that are filled in break no row, and are filled in once.
+/// States that filling in capabilities violates no row, and that filling them in twice is the same
+/// as once.
 pub fn filled_once()
     ensures fits { FilledFits }
     ensures once { FilledOnce }
 {}
 
-/// The views of a message show every element of its list, in the list's order, also with other
-/// numbers at its ids.
+/// States that the views of a message contain every element of its arrays, in order. This also
+/// holds if its ids have other numbers.
 pub fn each_element_shown()
     ensures content { ContentShown }
     ensures renumbered { ShownAlike }

@@ -1,10 +1,11 @@
 //! Typed messages of the Debug Adapter Protocol.
 //!
-//! [`typed`] turns a JSON tree into a [`Message`], or tells the first row of the [`PROFILE`] that
-//! the tree breaks. In a message the numbers that the protocol hands out (sequence numbers, frame
-//! ids, variables references, thread ids, breakpoint ids) are marked as ids, and the capabilities
-//! that an adapter left out are false. `specs/` says what that means, and [`laws`] has the
-//! theorems. [`AnyMessage`] is a message in whatever form its document is held.
+//! [`typed`] turns a JSON tree into a [`Message`], or reports the first row of the [`PROFILE`] that
+//! the tree violates. In a message, the numbers that the protocol assigns are marked as ids:
+//! sequence numbers, frame ids, variables references, thread ids, and breakpoint ids. The
+//! capabilities that an adapter omitted are false. `specs/` defines this precisely, and [`laws`]
+//! contains the theorems. [`AnyMessage`] is a message independent of how its document is
+//! represented.
 #![tactic(auto)]
 
 mod any_message;

@@ -1,4 +1,4 @@
-//! The iterators over the stack frames, scopes and variables that a message lists.
+//! Iterators over the stack frames, scopes and variables that a message lists.
 ghost use Rattle.std.specs.Prelude.{◌≡◌, true, map};
 ghost use Rattle.dap_tree.specs.View.{view};
 ghost use Rattle.dap_message.specs.Views.{are_frames, are_scopes, are_variables, frame_of};
@@ -7,16 +7,16 @@ ghost use Rattle.dap_message.specs.Views.{scope_of, variable_of};
 use crate::views::{FrameView, ScopeView, VariableView, frame_of, scope_of, variable_of};
 use dap_tree::Tree;
 
-/// The frames of [`Message::frames`](crate::Message::frames), in the order of the message. Takes no
-/// memory.
+/// The frames of [`Message::frames`](crate::Message::frames), in the order of the message. Does not
+/// allocate.
 #[derive(Clone, Copy)]
 pub struct Frames<'a> {
     elements: &'a [Tree],
     ghost shown: { are_frames (map view elements.now) ≡ true },
 }
 
-/// The scopes of [`Message::scopes`](crate::Message::scopes), in the order of the message. Takes no
-/// memory.
+/// The scopes of [`Message::scopes`](crate::Message::scopes), in the order of the message. Does not
+/// allocate.
 #[derive(Clone, Copy)]
 pub struct Scopes<'a> {
     elements: &'a [Tree],
@@ -24,7 +24,7 @@ pub struct Scopes<'a> {
 }
 
 /// The variables of [`Message::variables`](crate::Message::variables), in the order of the message.
-/// Takes no memory.
+/// Does not allocate.
 #[derive(Clone, Copy)]
 pub struct Variables<'a> {
     elements: &'a [Tree],

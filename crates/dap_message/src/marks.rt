@@ -1,4 +1,4 @@
-//! The numbers of a message that are ids, marked in place.
+//! Marks the numbers of a message that are ids, in place.
 ghost use Rattle.std.specs.Prelude.{◌≡◌, map};
 ghost use Rattle.dap_tree.specs.Doc.{change_child, change_items, map_items};
 ghost use Rattle.dap_tree.specs.View.{view, items_view};
@@ -12,14 +12,14 @@ ghost use Rattle.dap_message.specs.Steps.{place_of};
 use dap_profile::{Place, Row, Want};
 use dap_tree::{Side, Sort, Tree};
 
-/// One step of a place: to a member, or to each element.
+/// One step of a row's path: to a member, or to each element.
 #[derive(Clone, Copy, Drop)]
 enum Step {
     Name(&'static str),
     Each,
 }
 
-/// Marks the ids of a tree that these rows are asked of.
+/// Marks the ids of a tree. The rows are those that apply to it.
 pub(crate) fn mark(tree: &mut Tree, stretches: &[&[Row]], side: Side)
     requires { rows_in stretches.now ≡ asked_rows (view tree.old) }
     ensures { view tree.new ≡ mark side (view tree.old) }

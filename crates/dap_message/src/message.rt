@@ -1,4 +1,4 @@
-//! Messages: their parts, their views, and their ids replaced.
+//! Messages: their parts, their views, and replacing their ids.
 ghost use Rattle.std.specs.Prelude.{◌≡◌, ◌++◌, length, true, Some, is_some, option_map, IfOk};
 ghost use Rattle.std.specs.Prelude.{IfErr, OnOk, OnErr, string_bytes};
 ghost use Rattle.dap_tree.specs.Doc.{is_sound, is_ordered, get};
@@ -23,14 +23,14 @@ use std::alloc::Global;
 
 /// A message of the protocol: the side that sent it, and its tree with the ids marked.
 ///
-/// Its tree is sound, none of its ids is a variables reference of 0, and it has the members that
-/// every message of its kind has; each frame, scope and variable that it lists has the members that
-/// are shown of it. The laws in [`crate::laws`] say that it is typed again as itself, also with
-/// other numbers at its ids.
+/// Its tree is sound, no id is a variables reference of 0, and it has the members that every
+/// message of its kind has. Each frame, scope and variable that it lists has the members that the
+/// views contain. The laws in [`crate::laws`] state that it is typed again as itself, even if its
+/// ids have other numbers.
 #[derive(Drop)]
 pub struct Message {
     side: Side,
-    /// The tree says it; it is kept so that it is read once.
+    /// The tree determines the kind. It is stored here to read it only once.
     kind: Kind,
     tree: Tree,
     ghost kind_same: { kind ≡ kind_of (view tree) },
@@ -62,14 +62,14 @@ impl Message {
         Message { side, kind, tree }
     }
 
-    /// The side that sent it.
+    /// Returns the side that sent the message.
     pub fn side(&self) -> Side
         ensures { result ≡ side_of self.now }
     {
         self.side
     }
 
-    /// What sort of message it is.
+    /// Returns the kind of the message.
     pub fn kind(&self) -> Kind
         ensures same { result ≡ kind_of (doc_of self.now) }
         ensures told { is_of_kind result (doc_of self.now) ≡ true }
@@ -77,7 +77,7 @@ impl Message {
         self.kind
     }
 
-    /// The command of a request or response, the name of an event.
+    /// Returns the command of a request or response, or the name of an event.
     pub fn name(&self) -> &str
         ensures { name_of (doc_of self.now) ≡ Some result.now }
     {
@@ -91,7 +91,7 @@ impl Message {
         }
     }
 
-    /// The sequence number of the message itself.
+    /// Returns the sequence number of the message itself.
     pub fn seq(&self) -> i64
         ensures { seq_of (doc_of self.now) ≡ Some result }
     {
@@ -101,8 +101,8 @@ impl Message {
         }
     }
 
-    /// The sequence number of the request that a response answers; `None` if the message is no
-    /// response.
+    /// Returns the sequence number of the request that a response answers, or `None` if the message
+    /// is not a response.
     pub fn request_seq(&self) -> Option<i64>
         ensures same { result ≡ request_seq_of (doc_of self.now) }
         ensures of_responses { is_some result ≡ is_of_kind Kind.Response (doc_of self.now) }
@@ -113,7 +113,7 @@ impl Message {
         }
     }
 
-    /// Whether a response tells success; `None` if the message is no response.
+    /// Returns whether a response reports success, or `None` if the message is not a response.
     pub fn success(&self) -> Option<bool>
         ensures same { result ≡ success_of (doc_of self.now) }
         ensures of_responses { is_some result ≡ is_of_kind Kind.Response (doc_of self.now) }
@@ -124,7 +124,7 @@ impl Message {
         }
     }
 
-    /// The whole message, with its ids marked.
+    /// Returns the tree of the complete message, with its ids marked.
     pub fn tree(&self) -> &Tree
         ensures { view result.now ≡ doc_of self.now }
     {
@@ -145,16 +145,18 @@ impl Message {
         tree
     }
 
-    /// The canonical content: JSON without spaces, the members in the byte order of their names, an
-    /// id as its number.
+    /// Returns the canonical content: JSON without spaces, with members in the byte order of their
+    /// names, and with each id as its number.
     ///
-    /// The only fault is `Memory`, here and in `copy` and `ids`.
+    /// # Errors
+    ///
+    /// - `Memory`: an allocation failed.
     pub fn content(&self, alloc: Global) -> Result<String, MessageFault>
         ensures text { IfOk result (λ s. string_bytes s ≡ text_of (doc_of self.now)) }
         ensures reads_back { IfOk result
             (λ s. IsRead (string_bytes s) (without_ids (doc_of self.now))) }
 
-        // The text, read and typed again, is this very message: as it was typed, or with other
+        // Reading and typing the string again yields this message: as it was typed, or with other
         // numbers at its ids.
         ensures typed_again { IfOk result
             (λ s. IsTypedBack (side_of self.now) (doc_of self.now) (string_bytes s)) }
@@ -168,15 +170,18 @@ impl Message {
         }
     }
 
-    /// Appends the content, as [`content`](Message::content) answers it.
+    /// Appends the canonical content, the string that [`content`](Message::content) returns.
     ///
-    /// On an error `out` holds what it held; its capacity may have grown.
+    /// # Errors
+    ///
+    /// - `Memory`: an allocation failed. The contents of `out` are unchanged; its capacity may have
+    ///   grown.
     pub fn write_content_to(&self, alloc: Global, out: &mut Vec<u8>) -> Result<(), MessageFault>
         ensures text { OnOk result (out.new.items ≡ out.old.items ++ text_of (doc_of self.now)) }
         ensures reads_back { OnOk result
             (IsRead (text_of (doc_of self.now)) (without_ids (doc_of self.now))) }
 
-        // What `content` promises of its text.
+        // The guarantees of `content` for its string.
         ensures typed_again { OnOk result
             (IsTypedBack (side_of self.now) (doc_of self.now) (text_of (doc_of self.now))) }
         ensures renumbered_again { OnOk result
@@ -190,7 +195,11 @@ impl Message {
         }
     }
 
-    /// An equal message.
+    /// Returns an equal message with its own memory.
+    ///
+    /// # Errors
+    ///
+    /// - `Memory`: an allocation failed.
     pub fn copy(&self, alloc: Global) -> Result<Message, MessageFault>
         ensures side { IfOk result (λ m. side_of m ≡ side_of self.now) }
         ensures doc { IfOk result (λ m. doc_of m ≡ doc_of self.now) }
@@ -203,47 +212,51 @@ impl Message {
         }
     }
 
-    /// The stack frames that a successful response to `stackTrace` lists; none in any other
-    /// message. Takes no memory.
+    /// Returns the stack frames that a successful response to `stackTrace` lists, and no frames for
+    /// any other message. Does not allocate.
     pub fn frames(&self) -> Frames<'_>
         ensures same { frames_left result ≡ frames_of (doc_of self.now) }
 
-        // Each element of the list is shown, in its order.
+        // Each element of the array is returned, in order.
         ensures every { map Some (frames_left result)
             ≡ map frame_of (listed_frames (doc_of self.now)) }
     {
         Frames::new(listed(&self.tree, "stackTrace", "stackFrames"))
     }
 
-    /// The scopes that a successful response to `scopes` lists; none in any other message. Takes no
-    /// memory.
+    /// Returns the scopes that a successful response to `scopes` lists, and no scopes for any other
+    /// message. Does not allocate.
     pub fn scopes(&self) -> Scopes<'_>
         ensures same { scopes_left result ≡ scopes_of (doc_of self.now) }
 
-        // Each element of the list is shown, in its order.
+        // Each element of the array is returned, in order.
         ensures every { map Some (scopes_left result)
             ≡ map scope_of (listed_scopes (doc_of self.now)) }
     {
         Scopes::new(listed(&self.tree, "scopes", "scopes"))
     }
 
-    /// The variables that a successful response to `variables` lists; none in any other message.
-    /// Takes no memory.
+    /// Returns the variables that a successful response to `variables` lists, and no variables for
+    /// any other message. Does not allocate.
     pub fn variables(&self) -> Variables<'_>
         ensures same { variables_left result ≡ variables_of (doc_of self.now) }
 
-        // Each element of the list is shown, in its order.
+        // Each element of the array is returned, in order.
         ensures every { map Some (variables_left result)
             ≡ map variable_of (listed_variables (doc_of self.now)) }
     {
         Variables::new(listed(&self.tree, "variables", "variables"))
     }
 
-    /// The ids in the order of the canonical content.
+    /// Returns the ids in the order of the canonical content.
+    ///
+    /// # Errors
+    ///
+    /// - `Memory`: an allocation failed.
     pub fn ids(&self, alloc: Global) -> Result<IdList, MessageFault>
         ensures ok { IfOk result (λ l. list_of_ids l ≡ ids (doc_of self.now)) }
 
-        // So their order is that of their paths.
+        // Therefore the ids are also in the order of their paths.
         ensures ordered { OnOk result (is_ordered (doc_of self.now) ≡ true) }
         ensures memory { IfErr result (λ f. f ≡ MessageFault.Memory) }
     {
@@ -254,7 +267,8 @@ impl Message {
         }
     }
 
-    /// The message with the i-th number at the i-th id, in the order of `ids`. Takes no memory.
+    /// Returns the message with the i-th id replaced by the i-th number, in the order of `ids`.
+    /// Does not allocate.
     pub fn replace_ids(self, numbers: &[i64]) -> Message
         requires count { length numbers.now ≡ length (ids (doc_of self)) }
 
@@ -263,7 +277,7 @@ impl Message {
         ensures side { side_of result ≡ side_of self }
         ensures ids { ids (doc_of result) ≡ renumbered (doc_of self) numbers.now }
 
-        // All but the numbers is as it was.
+        // Everything except the numbers is unchanged.
         ensures skeleton { skeleton (doc_of result) ≡ skeleton (doc_of self) }
         ensures doc { doc_of result ≡ with_ids (doc_of self) numbers.now }
     {

@@ -1,4 +1,4 @@
-//! A tree typed as a message: judged by the profile, its ids marked.
+//! Types a tree as a message: checks it against the profile and marks its ids.
 ghost use Rattle.std.specs.Prelude.{◌≡◌, true, IfOk, IfErr, IsErrOf};
 ghost use Rattle.dap_tree.specs.Doc.{is_plain};
 ghost use Rattle.dap_tree.specs.View.{view};
@@ -16,19 +16,27 @@ use crate::message::Message;
 use dap_tree::{Side, Tree};
 use std::alloc::Global;
 
-/// The message that the tree is on this side: its ids marked, and in an adapter's successful
-/// response to `initialize` the absent capabilities false. Members that no row names are kept.
+/// Returns the message that the tree represents if this side sent it: with its ids marked, and, in
+/// an adapter's successful response to `initialize`, with the absent capabilities set to false.
+/// Keeps members that no row names. Allocates only for absent capabilities.
 ///
-/// The tree is dropped on every fault. Only absent capabilities take memory.
+/// # Errors
+///
+/// The tree is dropped. The first error in this order is returned:
+///
+/// - `NotObject`: the tree is not an object.
+/// - `UnknownType`: its `type` is not `request`, `response` or `event`.
+/// - `Missing`, `WrongType`: the tree violates a row of the profile; this is the lowest one.
+/// - `Memory`: an allocation failed. The tree violates no row.
 pub fn typed(alloc: Global, side: Side, tree: Tree) -> Result<Message, MessageFault>
     requires { is_plain (view tree) ≡ true }
     ensures ok { IfOk result (IsTypedAs side (view tree)) }
 
-    // The ids are those that the rows tell, path by path.
+    // The ids are exactly those that the rows define, path by path.
     ensures ids { IfOk result (HasIdsByPath side (view tree)) }
     ensures err { IfErr result (Refuses (view tree)) }
 
-    // Memory is wanted for capabilities alone, once the tree is known to fit.
+    // Memory is allocated only for capabilities, after the tree is known to fit.
     ensures memory_fits { IsErrOf result MessageFault.Memory → Fits (view tree) }
     ensures memory_for_capabilities { IsErrOf result MessageFault.Memory
         → tells_capabilities side (view tree) ≡ true }

@@ -1,4 +1,4 @@
-//! What is shown of a stack frame, of a scope and of a variable, and which of them a message lists.
+//! Views of a stack frame, a scope and a variable, and the elements that a message lists.
 ghost use Rattle.std.specs.Prelude.{◌≡◌, map, option_map};
 ghost use Rattle.dap_tree.specs.Doc.{get};
 ghost use Rattle.dap_tree.specs.View.{view};
@@ -12,37 +12,37 @@ use crate::message::text_at;
 use dap_profile::Kind;
 use dap_tree::Tree;
 
-/// What a view shows of a stack frame.
+/// The view of a stack frame.
 #[derive(Clone, Copy, Debug, PartialEq, Eq)]
 pub struct FrameView<'a> {
     pub id: i64,
-    /// Mostly the name of a function.
+    /// Usually the name of a function.
     pub name: &'a str,
-    /// Counted from 0 or 1, as the client told the adapter.
+    /// Counted from 0 or 1, as the client specified in its `initialize` request.
     pub line: i128,
     pub column: i128,
 }
 
-/// What a view shows of a scope of a frame.
+/// The view of a scope of a frame.
 #[derive(Clone, Copy, Debug, PartialEq, Eq)]
 pub struct ScopeView<'a> {
     pub name: &'a str,
-    /// Of the variables in it; 0 if it refers to none.
+    /// The reference to its variables, or 0 if it refers to no variables.
     pub reference: i64,
 }
 
-/// What a view shows of a variable.
+/// The view of a variable.
 #[derive(Clone, Copy, Debug, PartialEq, Eq)]
 pub struct VariableView<'a> {
     pub name: &'a str,
-    /// As the adapter wrote it for a reader.
+    /// The human-readable value, as the adapter wrote it.
     pub value: &'a str,
-    /// Of the variables in it; 0 if it has none.
+    /// The reference to the variables in it, or 0 if it contains no variables.
     pub reference: i64,
 }
 
-/// The elements of that list in the body of a successful response to the command; none in any other
-/// message.
+/// Returns the elements of the named array in the body of a successful response to the command, and
+/// no elements for any other message.
 pub(crate) fn listed<'a>(tree: &'a Tree, command: &str, name: &str) -> &'a [Tree]
     ensures { map view result.now ≡ listed command.now name.now (view tree.now) }
 {

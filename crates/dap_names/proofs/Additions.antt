@@ -1,4 +1,4 @@
--- Laws of tables: lists to which a number is added where it is new.
+-- Lemmas about tables: lists to which a number is added if it is new.
 use Rattle.std.proofs.Common.{◌≡◌, ℕ, zero, suc, ◌+◌, ◌<◌, ℤ, pos, Bool, true, false, cond, ◌||◌}
 use Rattle.std.proofs.Common.{List, [], ◌∷◌, ◌++◌, length, refl, ◌∙◌, ap, arith, length-append}
 use Rattle.std.specs.List.{list_any, position_or_len}
@@ -60,7 +60,7 @@ pub place_missing : {X : Type 0} (p : X → Bool) (xs : List X) → list_any p x
 place_missing p [] h = refl
 place_missing p (x ∷ xs) h = grind (arith, place_missing p xs)
 
--- the table has exactly the numbers
+-- the table contains exactly the numbers
 pub any-add_all : (y : ℤ) (t xs : List ℤ)
     → list_any (int_eq y) (add_all t xs) ≡ (list_any (int_eq y) t || list_any (int_eq y) xs)
 any-add_all y t [] = grind arith
@@ -80,7 +80,7 @@ pub length-up_to : (k : ℕ) → length (up_to k) ≡ k
 length-up_to zero = refl
 length-up_to (suc k) = omega (arith, length-append (up_to k) (pos (suc k) ∷ []), length-up_to k)
 
--- a number of the list stands at its place
+-- the position of a number in the list is the number itself
 pub place_up_to : (k : ℕ) (x : ℤ) → list_any (int_eq x) (up_to k) ≡ true
     → x ≡ pos (suc (position_or_len (int_eq x) (up_to k)))
 place_up_to zero x h = cc

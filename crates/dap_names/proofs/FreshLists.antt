@@ -1,4 +1,4 @@
--- Laws of fresh lists and of names.
+-- Lemmas about fresh lists and canonical numbers.
 use Rattle.std.proofs.Common.{◌≡◌, ℕ, suc, ℤ, pos, Bool, true, false, List, [], ◌∷◌, ◌++◌, length}
 use Rattle.std.proofs.Common.{refl, sym, ◌∙◌, ap, arith, append_assoc, append-nil, true≢false}
 use Rattle.std.proofs.Common.{length-append}
@@ -21,7 +21,7 @@ none_next k =
     cc in absurd (omega (arith, length-up_to k)))
     (λ h. h)
 
--- a name is new where its number is
+-- a canonical number is new if its number is new
 pub add-name : (t : List ℤ) (x : ℤ)
     → add (up_to (length t)) (pos (suc (position_or_len (int_eq x) t))) ≡ up_to (length (add t x))
 add-name t x =
@@ -31,11 +31,11 @@ add-name t x =
     (λ a. rw (a, length-push t x, place_missing (int_eq x) t a, none_next (length t)) refl)
 
 module _ {K : Type 0} (same : K → K → Bool) (decides : (a b : K) → Decides (same a b) (a ≡ b)) where
-  -- the tables of a list that counts its numbers up
+  -- the tables of the list contain the numbers from 1 up, in order
   unfoldable pub IsCounted : List (K × ℤ) → Type 0
   IsCounted os = (c : K) → table same c os ≡ up_to (length (table same c os))
 
-  -- what a fresh list says of one occurrence
+  -- the condition of a fresh list for one occurrence
   abbrev pub NextIsFresh : List (K × ℤ) → K × ℤ → Type 0
   NextIsFresh e o = list_any (int_eq o.1) (numbers same o.0 e) ≡ false
       → o.1 ≡ pos (suc (length (table same o.0 e)))
@@ -64,7 +64,7 @@ module _ {K : Type 0} (same : K → K → Bool) (decides : (a b : K) → Decides
   unfolding IsFresh
   fresh-next e os o f = f e os o.0 o.1 refl
 
-  -- a counted list gives a number that it has its own name
+  -- in such a list the canonical number of a number is the number itself
   pub name-counted : (e : List (K × ℤ)) (o : K × ℤ) → IsCounted e → NextIsFresh e o
       → name same e o ≡ o.1
   unfolding IsCounted name
@@ -77,7 +77,7 @@ module _ {K : Type 0} (same : K → K → Bool) (decides : (a b : K) → Decides
       (λ a. ap (λ k. pos (suc k)) (place_missing (int_eq o.1) (table same o.0 e) a)
       ∙ sym (n (sym (any-table same o.0 e o.1) ∙ a)))
 
-  -- a fresh list is its own list of names
+  -- canonical numbers do not change a fresh list
   pub named-fresh : (e os : List (K × ℤ)) → IsCounted e → IsFresh same (e ++ os)
       → named same e os ≡ os
   named-fresh e [] h f = refl
@@ -87,7 +87,7 @@ module _ {K : Type 0} (same : K → K → Bool) (decides : (a b : K) → Decides
       let t = named-fresh (e ++ o ∷ []) os (counted-push e o h n) (fresh-step e os o f) in
       rw (k, t) refl
 
-  -- what a list of names says of itself, from one occurrence to the next
+  -- the condition of a fresh list, from one occurrence to the next
   pub FreshFrom : List (K × ℤ) → List (K × ℤ) → Type 0
   FreshFrom e [] = Unit {0}
   FreshFrom e (o ∷ os) = NextIsFresh e o × FreshFrom (e ++ o ∷ []) os
@@ -108,7 +108,7 @@ module _ {K : Type 0} (same : K → K → Bool) (decides : (a b : K) → Decides
   unfolding IsFresh
   fresh_from os f before after c x q = fresh_at [] os before after (c, x) f q
 
-  -- the second list's tables count the first's
+  -- the tables of the second list contain the numbers from 1 to the length of those of the first
   unfoldable pub Counts : List (K × ℤ) → List (K × ℤ) → Type 0
   Counts e d = (c : K) → table same c d ≡ up_to (length (table same c e))
 
@@ -143,7 +143,7 @@ module _ {K : Type 0} (same : K → K → Bool) (decides : (a b : K) → Decides
     named-fresh_from (e ++ o ∷ []) (d ++ (o.0, name same e o) ∷ []) os (counts-push e d o h),
   )
 
-  -- the list of names is fresh
+  -- a list of canonical numbers is fresh
   pub fresh_named : (os : List (K × ℤ)) → IsFresh same (named same [] os)
   unfolding Counts table
   fresh_named os = fresh_from (named same [] os) (named-fresh_from [] [] os (λ c. refl))

@@ -1,5 +1,6 @@
--- Names of some classes are those among the occurrences of these classes alone; so two lists have
--- one list of names if they are equal in some classes and have one for the others.
+-- The canonical numbers of some classes depend only on the occurrences of these classes. Therefore
+-- two lists have the same canonical numbers if they are equal in some classes and have the same
+-- canonical numbers in the others.
 use Rattle.std.proofs.Common.{◌≡◌, ℤ, Bool, true, false, not, List, [], ◌∷◌, ◌++◌, map, refl}
 use Rattle.std.proofs.Common.{sym, ◌∙◌, ap, subst, append-nil}
 use Rattle.std.specs.Bool.{Decides}
@@ -8,7 +9,7 @@ use Rattle.dap_names.specs.Numbering.{numbers, table, name, named}
 use Rattle.dap_names.proofs.Additions.{by_bool}
 
 module _ {K : Type 0} where
-  -- the occurrences of the classes that pass
+  -- the occurrences of the classes that pass the test
   abbrev pub part : (K → Bool) → List (K × ℤ) → List (K × ℤ)
   part p os = filter (λ o. p o.0) os
 
@@ -22,7 +23,7 @@ module _ {K : Type 0} where
       by_bool (p o.0) (λ a. rw a (ap (λ t. o ∷ t) (part-append p os ps)))
       (λ a. rw a (part-append p os ps))
 
-  -- a list is told by its classes, and by its two parts
+  -- a list is determined by its classes and its two parts
   pub parts_tell : (p : K → Bool) (xs ys : List (K × ℤ)) → firsts xs ≡ firsts ys
       → part p xs ≡ part p ys → part (λ c. not (p c)) xs ≡ part (λ c. not (p c)) ys → xs ≡ ys
   parts_tell p [] [] f a b = refl
@@ -80,7 +81,7 @@ module _ {K : Type 0} where
     firsts-named e [] = refl
     firsts-named e (o ∷ os) = ap (λ t. o.0 ∷ t) (firsts-named (e ++ o ∷ []) os)
 
-    -- equal in the classes that pass, and one list of names for the others
+    -- equal in the classes that pass the test, and with the same canonical numbers in the others
     pub names_of_parts : (p : K → Bool) (xs ys : List (K × ℤ)) → firsts xs ≡ firsts ys
         → part p xs ≡ part p ys
         → named same [] (part (λ c. not (p c)) xs) ≡ named same [] (part (λ c. not (p c)) ys)

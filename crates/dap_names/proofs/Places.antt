@@ -1,4 +1,4 @@
--- Places in a list.
+-- Positions in a list.
 use Rattle.std.proofs.Common.{◌≡◌, ℕ, suc, ◌<◌, pos, Bool, true, false, List, length, refl, ◌∙◌}
 use Rattle.std.proofs.Common.{arith, MatchOption, Some, None, Option}
 use Rattle.std.proofs.lemmas.Bool.{le-ltb}

@@ -1,11 +1,11 @@
--- What a plain table is to its callers.
+-- The model of an interning table without an index.
 use Rattle.std.specs.Prelude.{ℕ, ℤ, List}
 use Rattle.dap_names.specs.declared.plain_names.PlainNames.{PlainNames}
 
--- The numbers that have names, in the order of their names.
+-- The numbers of the table, in the order of their canonical numbers.
 abbrev pub plain_numbers : PlainNames → List ℤ
 plain_numbers t = t.items.items
 
--- How many numbers may get names.
+-- The maximum length of the table.
 abbrev pub plain_limit : PlainNames → ℕ
 plain_limit t = t.limit

@@ -1,4 +1,4 @@
-//! A table of names with an index by hash.
+//! An interning table with a hash index.
 ghost use Rattle.std.specs.Prelude.{◌≡◌, suc, ◌<◌, ◌≤◌, ◌^◌, pos, true, false, [], length};
 ghost use Rattle.std.specs.Prelude.{MatchOption};
 ghost use Rattle.dap_names.specs.Table.{has, place, AllDiffer};
@@ -8,12 +8,12 @@ use indexmap::IndexSet;
 use std::alloc::Global;
 use std::hash::BuildHasher;
 
-/// A table that looks for a number by its hash.
+/// An interning table that looks numbers up by their hashes.
 ///
-/// A look-up takes one hash, and a new number one more. Where many numbers have one hash, a look-up
-/// goes over all of them, and with a fixed hasher an adapter could choose such numbers: a program
-/// hands in a random one, as `RandomState`. The hasher has to give equal numbers equal hashes, as
-/// the contract of `BuildHasher` says.
+/// A lookup computes one hash, and inserting a new number computes one more. Numbers with equal
+/// hashes are searched linearly, and with a fixed hasher an adapter could choose such numbers. Pass
+/// a randomly seeded hasher such as `RandomState`. The hasher must return equal hashes for equal
+/// numbers, as the contract of `BuildHasher` requires.
 #[derive(Drop)]
 pub struct IndexNames<S: BuildHasher> {
     items: IndexSet<i64, S>,
@@ -26,7 +26,7 @@ pub struct IndexNames<S: BuildHasher> {
 impl<S: BuildHasher + Drop> IndexNames<S> {
     ghost use Rattle.dap_names.specs.IndexNames.{index_numbers, index_limit};
 
-    /// An empty table for at most `limit` names, which hashes by `hasher`. Takes no memory.
+    /// Returns an empty table for at most `limit` numbers, which uses `hasher`. Does not allocate.
     pub fn new(alloc: Global, limit: usize, hasher: S) -> IndexNames<S>
         requires { limit < 2 ^ 31 }
         ensures empty { index_numbers result ≡ [] }

@@ -1,8 +1,9 @@
-//! Tables of names: each number gets its place among the distinct numbers, by first appearance.
+//! Interning tables: each number is assigned a canonical number, its position among the distinct
+//! numbers by first appearance, counted from 1.
 //!
-//! [`NameTable`] is what every table keeps. [`PlainNames`] looks for a number from its front, and
-//! [`IndexNames`] by its hash. `specs/` says what a table is, and what the names of a list of
-//! occurrences are.
+//! [`NameTable`] is the contract of every table. [`PlainNames`] searches linearly, and
+//! [`IndexNames`] by hash. `specs/` defines what a table is, and the canonical numbers of a list of
+//! occurrences.
 #![tactic(auto)]
 
 mod index_names;

@@ -1,4 +1,4 @@
-//! A table of names as a list.
+//! An interning table without an index.
 ghost use Rattle.std.specs.Prelude.{◌≡◌, suc, ◌<◌, ◌≤◌, ◌^◌, pos, true, false, [], length};
 ghost use Rattle.std.specs.Prelude.{MatchOption};
 ghost use Rattle.std.specs.List.{position};
@@ -8,7 +8,7 @@ ghost use Rattle.dap_names.specs.Table.{has, place, AllDiffer};
 use crate::name_table::{NameFault, NameTable};
 use std::alloc::Global;
 
-/// A table that looks for a number from its front.
+/// An interning table that searches linearly, from the first number.
 #[derive(Drop)]
 pub struct PlainNames {
     items: Vec<i64>,
@@ -21,7 +21,7 @@ pub struct PlainNames {
 impl PlainNames {
     ghost use Rattle.dap_names.specs.PlainNames.{plain_numbers, plain_limit};
 
-    /// An empty table for at most `limit` names. Takes no memory.
+    /// Returns an empty table for at most `limit` numbers. Does not allocate.
     pub fn new(alloc: Global, limit: usize) -> PlainNames
         requires { limit < 2 ^ 31 }
         ensures empty { plain_numbers result ≡ [] }

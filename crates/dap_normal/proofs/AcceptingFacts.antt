@@ -1,4 +1,5 @@
--- Records of messages: what their runs owe, and that they are the accepted recordings.
+-- Records of messages: the obligations of their runs, and that the runs are the accepted
+-- recordings.
 use Rattle.std.proofs.Common.{◌≡◌, ◌⊎◌, inl, inr, ℕ, ◌+◌, ◌≤◌, true, List, [], ◌∷◌, ◌++◌, length}
 use Rattle.std.proofs.Common.{Option, Some, None, refl, sym, ◌∙◌, ap, ap₂, subst, arith}
 use Rattle.std.proofs.Common.{append_assoc, append-nil, length-append}
@@ -23,7 +24,7 @@ use Rattle.dap_normal.proofs.NormalTexts.{few_or_many, few_not_many, fits_or_gre
 use Rattle.dap_normal.proofs.NormalTexts.{normal, normal_fits, normal_fits_front, proper_push}
 use Rattle.dap_input.proofs.Runs.{Run, run_within, ValueLaws, ValueFacts, AcceptedFacts}
 
--- ---- what a record holds
+-- ---- the content of a record
 
 pub message_once : (held : Held) (m n : Sent) → IsMessage held m → IsMessage held n → m ≡ n
 message_once held m n one two =
@@ -45,7 +46,7 @@ messages_proper (held ∷ records) (m ∷ messages) typed =
     (message_proper held m typed.0, messages_proper records messages typed.1)
 
 module _ (limits : Limits) (mode : Mode) where
-  -- ---- one judgement
+  -- ---- at most one outcome
 
   broken_or_kept : (before : List Sent) (held : Held) (rule : Rule)
       → Objects limits mode before held (broken rule) → (n : Sent) → IsMessage held n
@@ -122,7 +123,7 @@ module _ (limits : Limits) (mode : Mode) where
     next_not_objected = next_not_objected;
   }
 
-  -- ---- some judgement
+  -- ---- some outcome
 
   pub run_proper : (before messages : List Sent) (used : ℕ) (bytes : List ℕ)
       → Run (accepting limits mode) before used bytes messages → AreProper messages
@@ -220,7 +221,7 @@ module _ (limits : Limits) (mode : Mode) where
             (omega (arith, ap length split, length-append front more)),
       )
 
-  -- the records of a run, and that they hold its messages
+  -- the records of a run, whose contents are its messages
   records_of : (before messages : List Sent) (used : ℕ) (bytes : List ℕ)
       → Run (accepting limits mode) before used bytes messages
       → (records : List Held) × IsRecording limits.frame bytes records
@@ -235,7 +236,7 @@ module _ (limits : Limits) (mode : Mode) where
         (passes.is_next.is_message, rest.2),
       )
 
-  -- what each message of a run was asked behind those before it
+  -- the conditions on the messages of a run
   pub record Keeps (messages : List Sent) : Type 0 where
     pub rules : KeepsRules messages
     pub few : Few messages

@@ -1,4 +1,4 @@
--- Normal texts are equal exactly where they hold messages that are the same.
+-- Outputs are equal if and only if they represent messages that are the same.
 use Rattle.std.proofs.Common.{◌≡◌, ◌↔◌, ℕ, List, sym, ◌∙◌, ap, subst}
 use Rattle.dap_rename.specs.Messages.{AreSame, IsNormal}
 use Rattle.dap_rename.specs.Modes.{stop_in}
@@ -12,7 +12,7 @@ use Rattle.dap_normal.specs.Normalised.{NormalText, HoldsSome}
 use Rattle.dap_normal.specs.Normalising.{Normalises}
 use Rattle.dap_normal.proofs.NormalFormLaws.{equal_texts, same_texts}
 
--- Both texts are in one mode.
+-- Both outputs have the same mode.
 module _ (one other : NormalText) (modes : one.mode ≡ other.mode) where
   pub equal_hold : HoldsSome one → one.bytes ≡ other.bytes → HoldTheSame one other
   equal_hold some same =

@@ -1,5 +1,5 @@
--- A record that is judged behind others: the judge goes on to stand for its message too, or it is
--- refused.
+-- Checking a record after others: the state then represents its message too, or the record is
+-- rejected.
 use Rattle.std.proofs.Common.{◌≡◌, ◌⊎◌, inl, inr, ℕ, ℤ, ◌+◌, ◌<◌, ◌≤◌, List, [], ◌∷◌, ◌++◌, length}
 use Rattle.std.proofs.Common.{None, Err, sym, ◌∙◌, ap, subst, arith, append-nil, length-append}
 use Rattle.std.specs.List.{AllByRecursion}
@@ -31,7 +31,7 @@ pub text_push : (messages : List Sent) (m : Sent)
 text_push messages m =
     text-append messages (m ∷ []) ∙ ap (λ t. text messages ++ t) (append-nil (record_of m))
 
--- No message has been judged.
+-- No message has been checked.
 pub none_stand : {T : Type 0} {numbers : T → List ℤ} {table_limit : T → ℕ} (judge : Judge T)
     → Stands judge.session [] → StandFor numbers table_limit judge.names []
     → ((s : Sort) → limit_in table_limit judge.names s ≡ judge.limits.ids) → judge.written ≡ 0
@@ -50,7 +50,7 @@ module _ {T : Type 0} {numbers : T → List ℤ} {table_limit : T
     → ℕ} (old : Judge T) (messages names : List Sent)
     (was : StandsFor numbers table_limit old messages names) (held : Held) (m : Sent)
     (is : IsMessage held m) (keeps : first_broken messages m ≡ None) where
-  -- more ids than the tables take
+  -- more ids than the tables accept
   pub objects_to_ids :
       HasTooManyIds (stop_in (judge_mode old)) (limit_in table_limit old.names) (messages ++ m
       ∷ []) → Objects old.limits (judge_mode old) messages held too_many_ids
@@ -81,7 +81,7 @@ module _ {T : Type 0} {numbers : T → List ℤ} {table_limit : T
           length-append (text names) (record_of named),
         )
 
-    -- the content or the text would pass its limit
+    -- the content or the text would exceed its limit
     pub objects_to_length : (old.limits.frame.content < length (text_of named.doc))
         ⊎ (old.limits.input < old.written + length (record_of named))
         → Objects old.limits (judge_mode old) messages held grew
@@ -115,7 +115,7 @@ module _ {T : Type 0} {numbers : T → List ℤ} {table_limit : T
     refused_to_write Memory n before after told = tt
     refused_to_write because n before after told = absurd told
 
-    -- the record is taken
+    -- the record is accepted
     pub taken : (new : Judge T) (before after : List ℕ)
         → length (text_of named.doc) ≤ old.limits.frame.content → after ≡ before ++ record_of named
         → new.written ≡ old.written + length (record_of named) → new.written ≤ old.limits.input

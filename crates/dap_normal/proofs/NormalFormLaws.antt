@@ -1,4 +1,5 @@
--- The text of a normal form is accepted, stands still, and tells the messages up to a renaming.
+-- The text of a normal form is accepted, does not change when normalised, and determines the
+-- messages up to a renaming.
 use Rattle.std.proofs.Common.{◌≡◌, ℕ, zero, suc, ◌+◌, ◌≤◌, ℤ, true, List, [], ◌∷◌, ◌++◌, length}
 use Rattle.std.proofs.Common.{map}
 use Rattle.std.proofs.Common.{refl, sym, ◌∙◌, ap, subst, arith}
@@ -43,13 +44,13 @@ use Rattle.dap_normal.proofs.NormalTexts.{normal, normal_fits, one_normal}
 use Rattle.dap_input.proofs.Outcomes.{one_list}
 use Rattle.dap_recording.proofs.Records.{readable}
 
--- ---- a renaming keeps the rules of a session
+-- ---- a renaming does not affect the session rules
 
--- the numbers of a sort that the entries relate, behind some stops
+-- the numbers of a kind that the entries relate, after some stops
 abbrev pub Puts : List (Class × ℤ × ℤ) → Sort → ℤ → ℤ → Type 0
 Puts r s x y = (stops : ℕ) × IsIn (class_after stops s, x, y) r
 
--- sequence numbers have one class, whatever stops there are
+-- sequence numbers have one class, for any stops
 seq_class : (side : Side) (stops : ℕ) → class_after stops (seq_sort side) ≡ class_after 0 (seq_sort
     side)
 seq_class Client stops = refl
@@ -135,8 +136,8 @@ unfoldable pub contents_of : List Sent → List Held
 contents_of [] = []
 contents_of (m ∷ ms) = (m.side, text_of m.doc) ∷ contents_of ms
 
--- Messages that differ from typed ones in their ids alone, which are small, are those of their own
--- texts.
+-- Messages that differ from typed messages only in their ids, which are small, are the messages of
+-- their own texts.
 typed_again : (records : List Held) (ms n : List Sent) → AreMessages records ms
     → map message_skeleton ms ≡ map message_skeleton n
     → AllByRecursion (λ m. has_small_ids m.doc ≡ true) n → AreMessages (contents_of n) n
@@ -169,7 +170,7 @@ module _ (limits : Limits) (sound : AreSound limits) where
   )
 
 module _ (limits : Limits) (mode : Mode) (sound : AreSound limits) where
-  -- ---- what stands still
+  -- ---- normalising again
 
   pub normal_is_accepted : (bytes : List ℕ) (ms n : List Sent) → IsAccepted limits mode bytes ms
       → IsNormal (stop_in mode) ms n → IsAccepted limits mode (text n) n
@@ -300,7 +301,7 @@ equal_texts_tell limits mode sound bytes others written other a b = (
   same_texts limits mode sound bytes others written other a b,
 )
 
--- ---- all that is promised of a normal text
+-- ---- all guarantees about an output
 
 pub canonical : (limits : Limits) (mode : Mode) → AreSound limits → (bytes written : List ℕ)
     → Normalises limits mode bytes written → IsCanonical limits mode bytes written

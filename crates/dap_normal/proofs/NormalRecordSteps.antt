@@ -1,4 +1,4 @@
--- What the next record of an input may answer.
+-- The possible results of reading the next record of an input.
 use Rattle.std.proofs.Common.{◌≡◌, ℕ, ℤ, ◌+◌, ◌≤◌, List, [], ◌∷◌, ◌++◌, Option, Some, None, Result}
 use Rattle.std.proofs.Common.{Ok, Err, refl, ◌∙◌, ap, subst, inl, inr, length, arith, append_assoc}
 use Rattle.dap_device.specs.declared.device.Source.{Ghosts as Source}
@@ -31,7 +31,7 @@ use Rattle.dap_normal.specs.JudgingSteps.{judge_mode}
 use Rattle.dap_normal.specs.NormalSteps.{HasEnded, HasGone, HasStoppedAt, IsAtHand, StandsBefore}
 use Rattle.dap_normal.proofs.AcceptingFacts.{accepted_facts, value_laws}
 
--- A reader of records gives the records that are judged.
+-- A reader of records returns the records that are checked.
 reads_records : (limits : Limits) (mode : Mode) → ReadsAs (accepting limits mode) (record_items
     limits.frame) held_of
 reads_records limits mode = record {
@@ -43,7 +43,7 @@ reads_records limits mode = record {
   open_of = λ bytes is_open. is_open;
 }
 
--- Where the judging of an input stands before the next record, with what its judge stands for.
+-- The position in the input before the next record, and the messages that the state represents.
 before_of : {T : Type 0} {numbers : T → List ℤ} {table_limit : T
     → ℕ} (limits : Limits) (mode : Mode) (bytes : List ℕ) (records : NormalRecords T)
     (messages normal : List Sent)
@@ -104,7 +104,7 @@ module _ {T R : Type 0} {numbers : T → List ℤ} {table_limit : T → ℕ} (so
   Reads answer = ReadsNext (record_items limits.frame) (StandsForRecord limits.frame) source
       old.records new before after answer
 
-  -- the room for reading is that of `left`
+  -- the buffer for reading is that of `left`
   stopped_for : (judge : Judge T) (left : NormalRecords T) (answer : Result (Option WholeRecord) Refused)
       (read : Reads answer) (because : Refused)
       → Says (accepting limits mode) (bytes ++ read.more) read.stop old.records.number because
@@ -127,7 +127,7 @@ module _ {T R : Type 0} {numbers : T → List ℤ} {table_limit : T → ℕ} (so
     last = last;
   }
 
-  -- where the record is at hand, nothing has come
+  -- if the record is buffered, nothing is read
   pub nothing_more : (answer : Result (Option WholeRecord) Refused) (read : Reads answer)
       → IsAtHand limits old → read.more ≡ []
   nothing_more answer read has = none_of read.needed
@@ -149,7 +149,7 @@ module _ {T R : Type 0} {numbers : T → List ℤ} {table_limit : T → ℕ} (so
       let counted = read.came.counted in
       omega (arith, counted, ap length none)
 
-  -- ---- no record has come
+  -- ---- no record was read
 
   pub refused_read : (because : Refused) → Reads (Err because)
       → HasStoppedAt numbers table_limit source limits mode bytes messages normal old record
@@ -182,7 +182,7 @@ module _ {T R : Type 0} {numbers : T → List ℤ} {table_limit : T → ℕ} (so
         kept = refl;
       }
 
-  -- ---- a record has come
+  -- ---- a record was read
 
   module _ (whole : WholeRecord) (read : Reads (Ok (Some whole))) (judge : Judge T)
       (left : NormalRecords T) (text longer : List ℕ) where

@@ -1,4 +1,5 @@
--- The text of a normal form: where it keeps within the limits, and that ids are few or too many.
+-- The text of a normal form: when it does not exceed the limits, and that there are either few or
+-- too many ids.
 use Rattle.std.proofs.Common.{◌≡◌, ◌⊎◌, inl, inr, ◌<◌, ◌≤◌, ℤ, true, false, List, [], ◌∷◌, ◌++◌}
 use Rattle.std.proofs.Common.{length, refl, sym, ap, subst, arith, length-append}
 use Rattle.std.proofs.lemmas.Bool.{cases_lt}
@@ -25,7 +26,7 @@ use Rattle.dap_rename.proofs.Stops.{mode_is_told}
 use Rattle.dap_input.specs.declared.limits.Limits.{Limits}
 use Rattle.dap_normal.specs.Accepting.{text, Fits, NormalFits, HasGrown, id_limit}
 
--- ---- ids are few, or too many
+-- ---- few ids, or too many
 
 no_numbers : (cs : List Class) (c : Class) (os : List (Class × ℤ))
     → AllByRecursion (λ o. IsIn o.0 cs) os → list_any (same_class c) cs ≡ false
@@ -64,7 +65,7 @@ module _ (limits : Limits) (mode : Mode) (messages : List Sent) where
       both (inr few) (inl rest) = inl (few, rest)
       both (inr few) (inr many) = inr many
 
-  -- the classes that there are
+  -- the classes that exist
   abbrev classes : List Class
   classes = all_classes (stops_after (stop_in mode) 0 messages)
 
@@ -163,7 +164,7 @@ pub proper_front : (messages more : List Sent) → AreProper (messages ++ more) 
 proper_front messages more all = each_left (λ (n : Sent). is_proper n.doc ≡ true) messages more all
 
 module _ (limits : Limits) (mode : Mode) where
-  -- One normal form that fits is all that fit.
+  -- If one normal form fits, every normal form fits.
   pub normal_fits : (messages n : List Sent) → AreProper messages → IsNormal (stop_in mode) messages
       n
       → Fits limits n → NormalFits limits mode messages

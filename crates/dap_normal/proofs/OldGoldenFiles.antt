@@ -36,7 +36,7 @@ use Rattle.dap_normal.proofs.NormalTexts.{normal_fits}
 
 -- ---- the messages of an old text
 
--- the messages with the ids that the later rows tell
+-- the messages with the ids that the later rows define
 later : List Sent → List Sent
 later [] = []
 later (n ∷ ns) = record { side = n.side; doc = with_later_ids n.side n.doc } ∷ later ns
@@ -52,7 +52,8 @@ first_ids_of side bytes first m (d, reads, h) (e, reads_too, g) =
 sent_alike : (m n : Sent) → m.side ≡ n.side → m.doc ≡ n.doc → m ≡ n
 sent_alike m n side doc = ap₂ (λ s d. record { side = s; doc = d }) side doc
 
--- Each is typed from its own text, and beside the messages of the recording their ids are mixed.
+-- Each message is typed from its own text, and its ids are mixed with those of the recording's
+-- messages (`IsMixed`).
 typed_later : (records : List Held) (first ns ms : List Sent)
     → AreMessagesByRows first_rows records first → AreMessages records ms
     → map message_skeleton first ≡ map message_skeleton ns
@@ -87,7 +88,7 @@ typed_later (held ∷ records) [] ns ms h g same small = absurd h
 typed_later (held ∷ records) (f ∷ first) [] ms h g same small = absurd cc
 typed_later (held ∷ records) (f ∷ first) (n ∷ ns) [] h g same small = absurd g
 
--- ---- what an old text is normalised to
+-- ---- normalising an old output
 
 module _ (limits : Limits) (sound : AreSound limits) (old new : List ℕ)
     (golden : IsOldGolden limits old new) where

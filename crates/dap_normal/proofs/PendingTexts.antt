@@ -1,4 +1,4 @@
--- The texts of records that await a write, and where a write stops that fails inside them.
+-- Output that is buffered before it is written, and the record in which a failing write stops.
 use Rattle.std.proofs.Common.{◌≡◌, ◌⊎◌, ⊎_elim, inl, inr, ℕ, ℤ, ◌+◌, ◌-◌, ◌<◌, ◌≤◌, List, [], ◌∷◌}
 use Rattle.std.proofs.Common.{◌++◌, length, take, Option, None, refl, sym, ◌∙◌}
 use Rattle.std.proofs.Common.{ap, subst, arith, append_assoc, append-nil, length-append}
@@ -28,7 +28,7 @@ use Rattle.dap_normal.proofs.JudgedRecords.{text_push}
 use Rattle.dap_normal.proofs.StreamLoop.{Going, normal_before}
 
 module _ (limits : Limits) (mode : Mode) where
-  -- The records before this one are accepted, and give this text.
+  -- The records before this one are accepted, and have this text.
   pub record AreBefore (bytes : List ℕ) (number : ℕ) (given : List ℕ) : Type 0 where
     pub values : List Sent
     pub front : List ℕ
@@ -38,7 +38,7 @@ module _ (limits : Limits) (mode : Mode) where
     pub is_number : number ≡ length values + 1
     pub gives : Normalises limits mode front given
 
-  -- So many of the bytes that await a write, behind those that went out, end in this record's text.
+  -- The first `taken` buffered bytes, after the bytes written, end in the text of this record.
   pub record StopsIn (bytes sent waiting : List ℕ) (taken : ℕ) : Type 0 where
     pub number : ℕ
     pub given : List ℕ
@@ -50,15 +50,16 @@ module _ (limits : Limits) (mode : Mode) where
     pub within : count ≤ length next
     pub same : sent ++ take taken waiting ≡ given ++ take count next
 
-  -- What went out and what awaits a write are the text of the records. Where some awaits one, the
-  -- next record is at hand.
+  -- The bytes written and the buffered bytes are the text of the records. If bytes are buffered, so
+  -- is the next record.
   pub record Waiting {T : Type 0} (records : NormalRecords T) (bytes given sent waiting : List ℕ)
       : Type 0 where
     pub text_is : given ≡ sent ++ waiting
     pub stops : (taken : ℕ) → taken ≤ length waiting → StopsIn bytes sent waiting taken
     pub at_hand : (waiting ≡ []) ⊎ IsAtHand limits records
 
-  -- a record behind is not asked for earlier
+  -- bytes read no further than an earlier record requires are read no further than a later one
+  -- requires
   later : (bytes : List ℕ) (earlier number : ℕ) → IsReadTo (accepting limits mode) bytes earlier
       → earlier ≤ number → IsReadTo (accepting limits mode) bytes number
   later bytes earlier number read le = record {
@@ -108,7 +109,7 @@ module _ {T R : Type 0} {numbers : T → List ℤ} {table_limit : T → ℕ} (so
     gives = given_by;
   }
 
-  -- where all went out
+  -- if all bytes were written
   pub none_waiting : Waiting limits mode records was.bytes (text was.normal) (text was.normal) []
   none_waiting = record {
     text_is = sym (append-nil (text was.normal));
@@ -129,7 +130,7 @@ module _ {T R : Type 0} {numbers : T → List ℤ} {table_limit : T → ℕ} (so
 
   module _ (sent waiting : List ℕ)
       (waits : Waiting limits mode records was.bytes (text was.normal) sent waiting) where
-    -- a record that is at hand asks for no more
+    -- a buffered record requires no more bytes
     module _ (after : R) (more : List ℕ) (stop : Option Stop)
         (came : HasComeSoFar source reader after more stop)
         (same_given : IsAtHand limits records → source.given after ≡ source.given reader) where
@@ -139,7 +140,7 @@ module _ {T R : Type 0} {numbers : T → List ℤ} {table_limit : T → ℕ} (so
           let same = same_given has in
           nil_from_length more (omega (arith, counted, same))
 
-      -- the bytes that came behind are none
+      -- no more bytes were read
       stops_still : IsAtHand limits records → (taken : ℕ) → taken ≤ length waiting
           → StopsIn limits mode (was.bytes ++ more) sent waiting taken
       stops_still has taken few =
@@ -147,7 +148,7 @@ module _ {T R : Type 0} {numbers : T → List ℤ} {table_limit : T → ℕ} (so
           (sym (ap (λ t. was.bytes ++ t) (no_more has) ∙ append-nil was.bytes))
           (waits.stops taken few)
 
-      -- where the next record gives no text
+      -- if the next record has no text
       pub stops_before : IsReadTo (accepting limits mode) (was.bytes ++ more) records.records.number
           → (taken : ℕ) → taken ≤ length waiting
           → StopsIn limits mode (was.bytes ++ more) sent waiting taken
@@ -168,7 +169,7 @@ module _ {T R : Type 0} {numbers : T → List ℤ} {table_limit : T → ℕ} (so
                 ∙ sym waits.text_is ∙ sym (append-nil (text was.normal));
           }
 
-    -- where it does
+    -- if it has one
     module _ (new : NormalRecords T) (after : R) (longer : List ℕ)
         (gone : HasGone numbers table_limit source limits mode was.bytes was.messages was.normal
         records new reader after waiting longer)

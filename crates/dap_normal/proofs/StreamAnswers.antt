@@ -1,4 +1,4 @@
--- What the engines answer that judge a recording record by record.
+-- The results of the command functions that check a recording record by record.
 use Rattle.std.proofs.Common.{◌≡◌, ℕ, ℤ, ◌+◌, ◌<◌, Bool, true, false, List, ◌++◌, Result}
 use Rattle.std.proofs.Common.{Ok, Err, refl, sym, ◌∙◌, subst, arith}
 use Rattle.std.proofs.lemmas.Bool.{true≢false}
@@ -29,7 +29,7 @@ module _ {T R : Type 0} {numbers : T → List ℤ} {table_limit : T → ℕ} (so
       HasNext numbers table_limit source limits mode was.bytes was.messages was.normal
       records new reader after before longer answer
 
-  -- whether a record has come
+  -- whether a record was read
   pub gone : (some : Bool) (before longer : List ℕ) → Next before longer (Ok some) → some ≡ true
       → HasGone numbers table_limit source limits mode was.bytes was.messages was.normal
       records new reader after before longer
@@ -109,7 +109,7 @@ module _ {T R : Type 0} {numbers : T → List ℤ} {table_limit : T → ℕ} (so
               answered asked in (client_is ∙ none.0, adapter_is ∙ none.1);
         }
 
--- Whether a complete session is asked for does not matter to a refusal.
+-- An error does not depend on whether each request must have a response.
 pub refuses_all_the_same : {R : Type 0} (source : Source R) (limits : Limits) (mode : Mode)
     (complete : Bool)
     (start after : R) (because : Refused)

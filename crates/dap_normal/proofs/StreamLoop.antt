@@ -1,4 +1,4 @@
--- What an engine keeps that judges a recording record by record, as its bytes come.
+-- The loop invariant of a command function that checks a recording record by record.
 use Rattle.std.proofs.Common.{◌≡◌, ℕ, ℤ, ◌+◌, ◌≤◌, true, false, Ok, Bool, List, []}
 use Rattle.std.proofs.Common.{◌∷◌, ◌++◌, length, Option, Some, None, refl, ◌∙◌, ap, subst, arith}
 use Rattle.std.proofs.Common.{append_assoc, length-append}
@@ -24,7 +24,7 @@ use Rattle.dap_input.specs.Refusals.{RefusesAt}
 use Rattle.dap_input.proofs.Coming.{came_on, nothing_came}
 
 module _ {R : Type 0} (source : Source R) where
-  -- A reader that came to its end gave a whole input.
+  -- A reader that reached its end delivered a complete input.
   pub whole_came : (start end : R) (limit : ℕ) (bytes : List ℕ)
       → HasComeSoFar source start end bytes (Some End) → length bytes ≤ limit
       → HasCome source start end limit bytes End
@@ -36,7 +36,7 @@ module _ {R : Type 0} (source : Source R) where
         stopped = came.paused;
       }
 
--- What the judge stands for is the normal form in the mode of the input.
+-- The state represents the normal form in the mode of the input.
 pub normal_before : {T : Type 0} {numbers : T → List ℤ} {table_limit : T
     → ℕ} (limits : Limits) (mode : Mode) (bytes : List ℕ) (records : NormalRecords T)
     (messages normal : List Sent)
@@ -47,7 +47,7 @@ normal_before limits mode bytes records messages normal stands =
 
 module _ {T R : Type 0} (numbers : T → List ℤ) (table_limit : T → ℕ) (source : Source R)
     (limits : Limits) (mode : Mode) where
-  -- So much has come, and the records before the next one are accepted.
+  -- These bytes were read, and the records before the next one are accepted.
   pub record Going (start reader : R) (records : NormalRecords T) : Type 0 where
     pub bytes : List ℕ
     pub came : HasComeSoFar source start reader bytes None
@@ -98,7 +98,7 @@ module _ {T R : Type 0} {numbers : T → List ℤ} {table_limit : T → ℕ} (so
         let within = gone.stands.between.within in
         omega (arith, so_many, behind, taken, limit, within, length-append was.bytes gone.more)
 
-    -- ---- an input of which so much has come
+    -- ---- an input of which this part was read
 
     abbrev pub before_in : (input : Input) (tail : List ℕ) → input.bytes ≡ was.bytes ++ tail
         → AcceptedBefore (accepting limits mode) input records.records.number

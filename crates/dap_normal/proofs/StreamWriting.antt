@@ -1,4 +1,4 @@
--- What `normalise` answers, and what it has then written.
+-- The results of `normalise`, and what it has then written.
 use Rattle.std.proofs.Common.{◌≡◌, inl, inr, ℕ, ℤ, List, [], ◌++◌, Option, Some, Result, Ok}
 use Rattle.std.proofs.Common.{Err, refl, sym, ◌∙◌, subst}
 use Rattle.dap_device.specs.declared.device.Source.{Ghosts as Source}
@@ -164,7 +164,7 @@ module _ {R W : Type 0} (source : Source R) (sink : Sink W) (limits : Limits) (m
     all_given_up because stopped end answer (inr (front, is)) memory =
         absurd (let e = sym is ∙ memory in cc)
 
--- Where all records have come, memory was not refused.
+-- If all records were read, no allocation failed.
 pub not_given_up : {W : Type 0} (sink : Sink W) (waiting : List ℕ) (writer end : W)
     (answer : Result (Unit {0}) Refused) → Ends sink waiting writer end (Ok tt) answer
     → answer ≡ Err Memory → ⊥

@@ -1,5 +1,5 @@
--- A normal text with the names of the whole is accepted in each mode in which its recording is, and
--- has the same normal form there.
+-- An output in the mode `Whole` is accepted in each mode in which its recording is, and has the
+-- same normal form in that mode.
 use Rattle.std.proofs.Common.{◌≡◌, ℕ, List, [], ◌∷◌, sym, subst, arith, refl}
 use Rattle.dap_items.proofs.Ends.{not_empty}
 use Rattle.dap_items.proofs.Streams as items
@@ -32,7 +32,7 @@ one_messages (held ∷ records) (m ∷ ms) (n ∷ ns) typed also =
 
 module _ (limits : Limits) (mode : Mode) (sound : AreSound limits) (bytes whole written : List ℕ)
     (a : Normalises limits Whole bytes whole) (b : Normalises limits mode bytes written) where
-  -- both modes accept one list of messages
+  -- both modes accept the same list of messages
   one : a.messages ≡ b.messages
   one =
       one_messages b.accepts.records a.messages b.messages

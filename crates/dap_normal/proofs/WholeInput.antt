@@ -1,4 +1,4 @@
--- What `normalise_bytes` answers of bytes that are given as a whole.
+-- The results of `normalise_bytes` for bytes in memory.
 use Rattle.std.proofs.Common.{◌≡◌, ℕ, ℤ, false, List, [], ◌∷◌, ◌++◌, Option, Some, None, refl, sym}
 use Rattle.std.proofs.Common.{◌∙◌, ap, subst, arith, append-nil}
 use Rattle.std.proofs.lemmas.Bool.{true≢false}
@@ -38,7 +38,7 @@ are_typed (held ∷ records) (m ∷ messages) (is, typed) = (
   are_typed records messages typed,
 )
 
--- A normal text holds the messages of its recording.
+-- An output represents the messages of its recording.
 pub holds_of : (limits : Limits) (mode : Mode) (bytes written : List ℕ)
     → Normalises limits mode bytes written → HoldsSome record { mode = mode; bytes = written }
 holds_of limits mode bytes written is = (
@@ -67,7 +67,7 @@ module _ (limits : Limits) (mode : Mode) (sound : AreSound limits) (bytes : List
       → ℕ} (reader : GivenBytes) (records : NormalRecords T)
       (was : Going numbers table_limit memory limits mode start reader records)
       (after : GivenBytes) where
-    -- What has come is a front of the bytes.
+    -- The bytes read are a prefix of the input.
     split : (more : List ℕ) (stop : Option Stop)
         → HasComeSoFar memory reader after more stop
         → bytes ≡ (was.bytes ++ more) ++ after.left
@@ -107,7 +107,8 @@ module _ (limits : Limits) (mode : Mode) (sound : AreSound limits) (bytes : List
       abbrev given_input : Input
       given_input = record { bytes = bytes; failed = false }
 
-      -- The bytes are an input of which all has come that did; bytes in memory do not fail.
+      -- The bytes read are a prefix of the input, or all of it at its end; bytes in memory do not
+      -- fail.
       is_of : (stop : Option Stop) → bytes ≡ all ++ after.left
           → HasPaused memory reader after stop → IsOf all stop given_input
       is_of None split paused = (after.left, split)

@@ -1,6 +1,5 @@
--- What an accepted recording is, the text of its normal form, and what a recording is first refused
--- for. Source: own, over the messages of the DAP specification, the rules of its sessions, and
--- recordings.
+-- When a recording is accepted, the text of its normal form, and the first error of a recording.
+-- Source: own, over the messages of the DAP specification, the session rules, and recordings.
 use Rattle.std.specs.Prelude.{◌≡◌, ℕ, ◌≤◌, List, [], ◌∷◌, ◌++◌, length, Some, None}
 use Rattle.std.specs.List.{flat_map, AllByRecursion}
 use Rattle.dap_tree.specs.Json.{text_of}
@@ -20,25 +19,25 @@ use Rattle.dap_input.specs.Judging.{Judging, Objection, no_message, broken, too_
 use Rattle.dap_input.specs.ReadTo.{IsBounded, IsReadTo}
 use Rattle.dap_input.specs.Refusals.{HasOneOutcome, RefusalStays}
 
--- what a record holds: who sent it, and its content
+-- the payload of a record: the side that sent it, and its content
 abbrev pub Held : Type 0
 Held = Side × List ℕ
 
--- By these rows the content that the record holds is that of this message of its side.
+-- By these rows, the content of the record is that of this message from its side.
 abbrev pub IsMessageByRows : List ProfileRow → Held → Sent → Type 0
 IsMessageByRows rows held message = (message.side ≡ held.0)
     × IsTypedContentByRows rows held.0 held.1 message.doc
 
--- So it is by the profile.
+-- The same by the profile.
 abbrev pub IsMessage : Held → Sent → Type 0
 IsMessage = IsMessageByRows profile
 
--- What the record holds is no message, for this reason.
+-- The content of the record is not a message, for this reason.
 abbrev pub HoldsNoMessage : Held → Objection → Type 0
 HoldsNoMessage held (no_message why) = HasRefusal held.1 why
 HoldsNoMessage held why = ⊥
 
--- The records hold these messages, in order.
+-- The contents of the records are these messages, in order.
 abbrev pub AreMessagesByRows : List ProfileRow → List Held → List Sent → Type 0
 AreMessagesByRows rows [] [] = Unit {0}
 AreMessagesByRows rows [] (message ∷ messages) = ⊥
@@ -49,34 +48,35 @@ AreMessagesByRows rows (held ∷ records) (message ∷ messages) = IsMessageByRo
 abbrev pub AreMessages : List Held → List Sent → Type 0
 AreMessages = AreMessagesByRows profile
 
--- The text of the messages (own): for each the record of its canonical content.
+-- The text of the messages (own): the records of their canonical contents.
 abbrev pub text : List Sent → List ℕ
 text messages = flat_map (λ message. record_text message.side (text_of message.doc)) messages
 
--- The text of the messages keeps within the limits, and so does each content.
+-- The text of the messages does not exceed the input limit, and no content exceeds the content
+-- limit.
 pub record Fits (limits : Limits) (messages : List Sent) : Type 0 where
   pub each : AllByRecursion (λ message. length (text_of message.doc)
       ≤ limits.frame.content) messages
   pub whole : length (text messages) ≤ limits.input
 
--- how many distinct ids there may be in a class of a sort
+-- the maximum number of distinct ids in a class of a kind
 abbrev pub id_limit : Limits → Sort → ℕ
 id_limit limits sort = limits.ids
 
--- The normal form of the messages keeps within the limits.
+-- The normal form of the messages does not exceed the limits.
 abbrev pub NormalFits : Limits → Mode → List Sent → Type 0
 NormalFits limits mode messages = (normal : List Sent) → IsNormal (stop_in mode) messages normal
     → Fits limits normal
 
--- The normal form of the messages passes a limit.
+-- The normal form of the messages exceeds a limit.
 pub record HasGrown (limits : Limits) (mode : Mode) (messages : List Sent) : Type 0 where
   pub normal : List Sent
   pub is_normal : IsNormal (stop_in mode) messages normal
   pub too_long : Fits limits normal → ⊥
 
--- The bytes are a recording of these messages, which are typed by these rows, within the limits.
--- The messages keep the rules of a session and have few ids in each class of the mode, and their
--- normal form keeps within the limits.
+-- The bytes are a recording of these messages, typed by these rows, within the limits. The messages
+-- obey the session rules and have few ids in each class of the mode, and their normal form does not
+-- exceed the limits.
 pub record IsAcceptedByRows (rows : List ProfileRow) (limits : Limits) (mode : Mode) (bytes : List
     ℕ)
     (messages : List Sent) : Type 0 where
@@ -88,11 +88,11 @@ pub record IsAcceptedByRows (rows : List ProfileRow) (limits : Limits) (mode : M
   pub few : HasFewIds (stop_in mode) (id_limit limits) messages
   pub fits : NormalFits limits mode messages
 
--- So it is by the profile.
+-- The same by the profile.
 abbrev pub IsAccepted : Limits → Mode → List ℕ → List Sent → Type 0
 IsAccepted = IsAcceptedByRows profile
 
--- The message that a record holds is accepted behind these.
+-- The message of the record is accepted after these messages.
 pub record IsNext (limits : Limits) (mode : Mode) (before : List Sent) (held : Held) (message :
     Sent) : Type 0
   where
@@ -101,7 +101,8 @@ pub record IsNext (limits : Limits) (mode : Mode) (before : List Sent) (held : H
     pub few : HasFewIds (stop_in mode) (id_limit limits) (before ++ message ∷ [])
     pub fits : NormalFits limits mode (before ++ message ∷ [])
 
--- Behind these messages, what a record holds is refused for this, in this order.
+-- After these messages, the record is rejected for this reason. The reasons are checked in this
+-- order.
 abbrev pub Objects : Limits → Mode → List Sent → Held → Objection → Type 0
 Objects limits mode before held (no_message why) = HasRefusal held.1 why
 Objects limits mode before held (broken rule) = (message : Sent) × IsMessage held message
@@ -114,7 +115,7 @@ Objects limits mode before held grew =
     × HasFewIds (stop_in mode) (id_limit limits) (before ++ message ∷ [])
     × HasGrown limits mode (before ++ message ∷ [])
 
--- recordings as they are judged
+-- the rules by which recordings are checked
 abbrev pub accepting : Limits → Mode → Judging
 accepting limits mode = record {
   Held = Held;
@@ -126,17 +127,17 @@ accepting limits mode = record {
   IsAccepted = IsAccepted limits mode;
 }
 
--- An input is accepted as one list of messages, or has one refusal, and not both.
+-- An input is either accepted as exactly one list of messages, or rejected for exactly one error.
 abbrev pub RecordingHasOneOutcome : Type 0
 RecordingHasOneOutcome = (limits : Limits) (mode : Mode) → AreSound limits → HasOneOutcome
     (accepting limits mode)
 
--- A refusal stays when more bytes come, unless the record was only cut.
+-- An error remains when more bytes follow, unless the record was only truncated.
 abbrev pub RecordingRefusalStays : Type 0
 RecordingRefusalStays = (limits : Limits) (mode : Mode) → AreSound limits → RefusalStays (accepting
     limits mode)
 
--- What was read no further than a record asks for is bounded there.
+-- If no more was read than a record requires, the number of bytes read is bounded.
 abbrev pub ReadingIsBounded : Type 0
 ReadingIsBounded = (limits : Limits) (mode : Mode) → (bytes : List ℕ) (number : ℕ)
     → IsReadTo (accepting limits mode) bytes number → IsBounded (accepting limits mode) bytes number

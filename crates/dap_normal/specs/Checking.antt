@@ -1,4 +1,4 @@
--- What `check` answers. Source: own.
+-- The results of `check`. Source: own.
 use Rattle.std.specs.Prelude.{◌≡◌, ℕ, Bool, true, List, length, Result, Ok, Err}
 use Rattle.dap_device.specs.declared.device.Source.{Ghosts as Source}
 use Rattle.dap_tree.specs.declared.side.Side.TheVariants.{Client, Adapter}
@@ -13,26 +13,25 @@ use Rattle.dap_normal.specs.Accepting.{IsAccepted}
 use Rattle.dap_input.specs.Engine.{Accepts}
 use Rattle.dap_normal.specs.Streaming.{RefusesNext}
 
--- The numbers of accepted messages: how many they are, and how many requests of each side have no
--- response.
+-- The counts of accepted messages: their number, and the number of requests of each side that have
+-- no response.
 pub record AreCounted (checked : Checked) (messages : List Sent) : Type 0 where
   pub records : checked.records ≡ length messages
   pub client : checked.client_open ≡ open_requests Client messages
   pub adapter : checked.adapter_open ≡ open_requests Adapter messages
 
--- `check` over a reader, by what this tells of its bytes and its failures, with limits, with the
--- mode of names, and with whether each request must have a response.
+-- `check` on a reader, in terms of the bytes and the failures that the reader reports. The other
+-- parameters are the limits, the mode, and whether each request must have a response.
 module _ {R : Type 0} (source : Source R) (limits : Limits) (mode : Mode) (complete : Bool) where
-  -- The input is accepted, with these numbers; where that is asked for, each request has a
-  -- response.
+  -- The input is accepted, with these counts. If `complete` is true, each request has a response.
   pub record HasChecked (old new : R) (checked : Checked) : Type 0 where
     pub messages : List Sent
     pub accepts : Accepts source limits.input (IsAccepted limits mode) old new messages
     pub counted : AreCounted checked messages
     pub answered : complete ≡ true → (checked.client_open ≡ 0) × (checked.adapter_open ≡ 0)
 
-  -- The input is accepted, but so many requests of the client and of the adapter have no response,
-  -- and that is asked for.
+  -- The input is accepted and `complete` is true, but this many requests of the client and of the
+  -- adapter have no response.
   pub record IsIncomplete (old new : R) (client adapter : ℕ) : Type 0 where
     pub asked : complete ≡ true
     pub messages : List Sent

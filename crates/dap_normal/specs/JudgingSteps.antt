@@ -1,4 +1,4 @@
--- What the judging of a record does.
+-- The effect of checking a record.
 use Rattle.std.specs.Prelude.{◌≡◌, ◌⊎◌, ℕ, ◌+◌, ◌<◌, ◌≤◌, ℤ, List, [], ◌∷◌, ◌++◌, length, Result}
 use Rattle.std.specs.Prelude.{Ok, Err}
 use Rattle.dap_tree.specs.Json.{text_of}
@@ -18,20 +18,20 @@ use Rattle.dap_input.specs.declared.refused.Refused.TheVariants.{Grew, Memory}
 use Rattle.dap_input.specs.Refusals.{RefusesHeld}
 use Rattle.dap_normal.specs.Accepting.{Held, Fits, IsNext, Objects, text}
 
--- what a record holds
+-- the payload of a record
 abbrev pub held_of : WholeRecord → Held
 held_of whole = (whole.side, whole.content)
 
 abbrev pub judge_limits : {T : Type 0} → Judge T → Limits
 judge_limits judge = judge.limits
 
--- in which mode its names are
+-- the mode of its canonical numbers
 abbrev pub judge_mode : {T : Type 0} → Judge T → Mode
 judge_mode judge = mode_of judge.names
 
 module _ {T : Type 0} (numbers : T → List ℤ) (table_limit : T → ℕ) where
-  -- The judge stands for these messages, with this normal form: its session and its names do, and
-  -- it knows how long the text is.
+  -- Abstraction relation: the state represents these messages, with this normal form. Its session
+  -- and its canonical numbers represent them, and it knows the length of the text.
   pub record StandsFor (judge : Judge T) (messages normal : List Sent) : Type 0 where
     pub session : Stands judge.session messages
     pub names : StandFor numbers table_limit judge.names messages
@@ -45,8 +45,8 @@ module _ {T : Type 0} (numbers : T → List ℤ) (table_limit : T → ℕ) where
 abbrev pub record_of : Sent → List ℕ
 record_of message = record_text message.side (text_of message.doc)
 
--- Behind a text of so many bytes the message's record is appended to what was there before, and the
--- whole text is so long; or it passes a limit.
+-- The record of the message is appended to the old bytes. The result is the length of the complete
+-- text, of which `written` bytes precede the record. Or a limit is exceeded.
 abbrev pub Writes : Limits → Sent → ℕ → ℕ → List ℕ → List ℕ → Result ℕ Refused → Type 0
 Writes limits message n written old new (Ok after) =
     (length (text_of message.doc) ≤ limits.frame.content) × (new ≡ old ++ record_of message)
@@ -58,8 +58,8 @@ Writes limits message n written old new (Err Memory) = Unit {0}
 Writes limits message n written old new (Err _) = ⊥
 
 module _ {T : Type 0} (numbers : T → List ℤ) (table_limit : T → ℕ) where
-  -- The message of the record is accepted behind these, the judge stands for it too, and the record
-  -- of its normal form was appended.
+  -- The message of the record is accepted after these messages, the new state represents it too,
+  -- and the record of its normal form was appended.
   pub record IsTaken (messages normal : List Sent) (held : Held) (judge : Judge T)
       (old new : List ℕ) : Type 0 where
     pub message : Sent
@@ -69,7 +69,7 @@ module _ {T : Type 0} (numbers : T → List ℤ) (table_limit : T → ℕ) where
         ∷ [])
     pub appended : new ≡ old ++ record_of named
 
-  -- Record n, which holds this, is taken or refused.
+  -- Record n with this payload is accepted or rejected.
   abbrev pub JudgesRecord : List Sent → List Sent → Held → ℕ → Judge T → Judge T → List ℕ → List ℕ
       → Result (Unit {0}) Refused → Type 0
   JudgesRecord messages normal held n before after old new (Ok done) =

@@ -1,4 +1,4 @@
--- What the next record of an input makes of the records before it.
+-- The effect of reading and checking the next record of an input.
 use Rattle.std.specs.Prelude.{◌≡◌, ℕ, ◌+◌, ◌-◌, ◌<◌, ◌≤◌, ℤ, Bool, true, false, List, [], ◌∷◌, ◌++◌}
 use Rattle.std.specs.Prelude.{length, Option, Some, None, Result, Ok, Err}
 use Rattle.dap_device.specs.declared.device.Source.{Ghosts as Source}
@@ -20,8 +20,8 @@ use Rattle.dap_input.specs.ItemReading.{StandsForRecord, record_items}
 use Rattle.dap_input.specs.ReadTo.{IsReadTo}
 use Rattle.dap_input.specs.RecordSteps.{StandsBetween}
 
--- Of these bytes, which have come, what is unread begins behind records that are accepted as these
--- messages, for which the judge stands, with this normal form.
+-- Abstraction relation: these bytes were read. They are accepted records with these messages,
+-- followed by the unread bytes, and the state represents the messages with this normal form.
 pub record StandsBefore {T : Type 0} (numbers : T → List ℤ) (table_limit : T
     → ℕ) (limits : Limits) (mode : Mode) (bytes : List ℕ) (records : NormalRecords T)
     (messages normal : List Sent) : Type 0 where
@@ -32,18 +32,19 @@ pub record StandsBefore {T : Type 0} (numbers : T → List ℤ) (table_limit : T
   pub limit_is : records.records.pieces.limit ≡ limits.input
   pub between : StandsBetween (StandsForRecord limits.frame) records.records
   pub number_is : records.records.number ≡ length messages + 1
-  -- no more records than bytes, so that a number that counts bytes can count records
+  -- there are at most as many records as bytes, so an integer that can count the bytes can count
+  -- the records
   pub few : records.records.number ≤ length front + 1
   pub read_to : IsReadTo (accepting limits mode) bytes (length messages)
   pub stands : StandsFor numbers table_limit records.judge messages normal
   pub judge_limits_are : judge_limits records.judge ≡ limits
   pub judge_mode_is : judge_mode records.judge ≡ mode
 
--- The whole next record is among the bytes that have come.
+-- The complete next record is buffered.
 abbrev pub IsAtHand : {T : Type 0} → Limits → NormalRecords T → Type 0
 IsAtHand limits records = HasItem (record_items limits.frame) records.records.pieces.unread
 
--- how many bytes are left at most behind what is accepted
+-- the maximum number of bytes after the accepted records
 abbrev pub remaining : {T : Type 0} → NormalRecords T → ℕ
 remaining records =
     (records.records.pieces.limit - records.records.pieces.taken) + length
@@ -65,7 +66,7 @@ module _ {T R : Type 0} (numbers : T → List ℤ) (table_limit : T → ℕ) (so
     pub shorter : remaining new < remaining old
     pub appended : longer ≡ text ++ record_of named
 
-  -- The input has ended, and is accepted as a whole.
+  -- The input has ended, and is accepted.
   pub record HasEnded (text longer : List ℕ) : Type 0 where
     pub more : List ℕ
     pub came : HasComeSoFar source before after more (Some End)
@@ -75,7 +76,7 @@ module _ {T R : Type 0} (numbers : T → List ℤ) (table_limit : T → ℕ) (so
     pub number_is : new.records.number ≡ old.records.number
     pub kept : longer ≡ text
 
-  -- This record is refused, or cannot be read.
+  -- This record is rejected, or cannot be read.
   pub record HasStoppedAt (refused : Refused) : Type 0 where
     pub more : List ℕ
     pub stop : Option Stop

@@ -1,4 +1,4 @@
--- What a normal text holds. Source: own.
+-- The messages that an output represents. Source: own.
 use Rattle.std.specs.Prelude.{◌≡◌, ℕ, List}
 use Rattle.std.specs.List.{AllByRecursion}
 use Rattle.dap_message.specs.Message.{Sent, IsTypedContent}
@@ -13,19 +13,19 @@ AreTyped messages =
     AllByRecursion (λ message. (content : List ℕ)
     × IsTypedContent message.side content message.doc) messages
 
--- A normal text, and the mode of the names in it.
+-- An output, and the mode of its canonical numbers.
 pub record NormalText : Type 0 where
   pub mode : Mode
   pub bytes : List ℕ
 
--- The text holds these messages: they are typed, and it is the text of their normal form in its
--- mode.
+-- The output represents these messages: they are typed, and it is the text of their normal form in
+-- its mode.
 pub record Holds (one : NormalText) (messages : List Sent) : Type 0 where
   pub typed : AreTyped messages
   pub normal : List Sent
   pub is_normal : IsNormal (stop_in one.mode) messages normal
   pub text_is : one.bytes ≡ text normal
 
--- It holds some.
+-- The output represents some messages.
 abbrev pub HoldsSome : NormalText → Type 0
 HoldsSome one = (messages : List Sent) × Holds one messages

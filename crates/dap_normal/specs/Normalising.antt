@@ -1,4 +1,4 @@
--- The text that a recording is normalised to, and its laws. Source: own.
+-- The output of normalising a recording, and its laws. Source: own.
 use Rattle.std.specs.Prelude.{◌≡◌, ◌↔◌, ℕ, List}
 use Rattle.dap_message.specs.Message.{Sent}
 use Rattle.dap_rename.specs.Messages.{AreSame, IsNormal}
@@ -12,8 +12,8 @@ use Rattle.dap_input.specs.Limits.{AreSound}
 use Rattle.dap_input.specs.Refusals.{IsRefused}
 use Rattle.dap_normal.specs.Accepting.{IsAccepted, accepting, text}
 
--- The recording is accepted, and this is the text of the normal form of its messages, with names in
--- this mode.
+-- The recording is accepted, and the output is the text of the normal form of its messages in this
+-- mode.
 pub record Normalises (limits : Limits) (mode : Mode) (bytes written : List ℕ) : Type 0 where
   pub messages : List Sent
   pub accepts : IsAccepted limits mode bytes messages
@@ -21,26 +21,27 @@ pub record Normalises (limits : Limits) (mode : Mode) (bytes written : List ℕ)
   pub is_normal : IsNormal (stop_in mode) messages normal
   pub text_is : written ≡ text normal
 
--- What a recording is normalised to, and all that is promised of it.
+-- The output of normalising a recording, and all guarantees about it.
 pub record IsCanonical (limits : Limits) (mode : Mode) (bytes written : List ℕ) : Type 0 where
   pub normalises : Normalises limits mode bytes written
-  -- It is accepted itself, and its messages are a renaming of those of the recording.
+  -- The output is accepted, and its messages are a renaming of those of the recording.
   pub accepted : IsAccepted limits mode written normalises.normal
   pub renamed : AreSame (stop_in mode) normalises.messages normalises.normal
-  -- Normalised again, it is what it was.
+  -- Normalising the output does not change it.
   pub again : Normalises limits mode written written
   pub only : (other : List ℕ) → Normalises limits mode written other → other ≡ written
-  -- Another recording is normalised to equal bytes exactly where some renaming carries the messages
-  -- of the one to those of the other.
+  -- Another recording has the same output if and only if some renaming maps the messages of this
+  -- recording to those of the other.
   pub tells : (others other : List ℕ) (b : Normalises limits mode others other) → (written ≡ other)
       ↔ AreSame (stop_in mode) normalises.messages b.messages
 
--- The bytes are refused for this, or memory was. Readers and writers do not come into it.
+-- The bytes are rejected for this reason, or an allocation failed. Readers and writers are not
+-- involved.
 abbrev pub RefusesBytes : Limits → Mode → List ℕ → Refused → Type 0
 RefusesBytes limits mode bytes Memory = Unit {0}
 RefusesBytes limits mode bytes refused = IsRefused (accepting limits mode) bytes refused
 
--- An accepted recording has one normal form.
+-- An accepted recording has exactly one normal form.
 abbrev pub HasOneNormalForm : Type 0
 HasOneNormalForm = (limits : Limits) (mode : Mode) → AreSound limits → (bytes : List ℕ) (messages :
     List Sent)
@@ -48,15 +49,15 @@ HasOneNormalForm = (limits : Limits) (mode : Mode) → AreSound limits → (byte
     (normal : List Sent) × IsNormal (stop_in mode) messages normal
     × ((other : List Sent) → IsNormal (stop_in mode) messages other → other ≡ normal)
 
--- The text of the normal form is accepted under the same limits, as the messages of the normal
--- form, and these are a renaming of those of the recording.
+-- The text of the normal form is accepted under the same limits, and its messages are those of the
+-- normal form. These are a renaming of the messages of the recording.
 abbrev pub NormalIsAccepted : Type 0
 NormalIsAccepted = (limits : Limits) (mode : Mode) → AreSound limits
     → (bytes : List ℕ) (messages normal : List Sent) → IsAccepted limits mode bytes messages
     → IsNormal (stop_in mode) messages normal →
     IsAccepted limits mode (text normal) normal × AreSame (stop_in mode) messages normal
 
--- A recording is normalised to one text, if it is accepted, and to none else.
+-- A recording has an output if and only if it is accepted, and it has at most one.
 abbrev pub AcceptedIsNormalised : Type 0
 AcceptedIsNormalised = (limits : Limits) (mode : Mode) → AreSound limits → (bytes : List ℕ)
     → ((messages : List Sent) × IsAccepted limits mode bytes messages)
@@ -66,20 +67,20 @@ abbrev pub OneNormalText : Type 0
 OneNormalText = (limits : Limits) (mode : Mode) → AreSound limits → (bytes written other : List ℕ)
     → Normalises limits mode bytes written → Normalises limits mode bytes other → written ≡ other
 
--- Normalised again, the text is what it was.
+-- Normalising the output does not change it.
 abbrev pub NormalStandsStill : Type 0
 NormalStandsStill = (limits : Limits) (mode : Mode) → AreSound limits → (bytes written : List ℕ)
     → Normalises limits mode bytes written → Normalises limits mode written written
 
--- The normal text with the names of the whole is normalised, in each mode, to what its recording
--- is, if both modes accept that.
+-- An output in the mode `Whole` normalises, in any mode, to the output of its recording in that
+-- mode, if both modes accept the recording.
 abbrev pub WholeTextIsNormalised : Type 0
 WholeTextIsNormalised = (limits : Limits) (mode : Mode) → AreSound limits
     → (bytes whole written : List ℕ) → Normalises limits Whole bytes whole
     → Normalises limits mode bytes written → Normalises limits mode whole written
 
--- Two accepted recordings are normalised to equal texts exactly where some renaming carries the
--- messages of the one to those of the other.
+-- Two accepted recordings have equal output if and only if some renaming maps the messages of the
+-- first to those of the second.
 abbrev pub EqualTextsTell : Type 0
 EqualTextsTell = (limits : Limits) (mode : Mode) → AreSound limits
     → (bytes others written other : List ℕ) (a : Normalises limits mode bytes written)

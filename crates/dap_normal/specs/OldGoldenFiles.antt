@@ -1,5 +1,5 @@
--- Normal texts that were written by the first rows of the profile, before ids of threads and of
--- breakpoints were renamed: what they are normalised to, with the names of the whole. Source: own.
+-- How old outputs normalise in the mode `Whole`: those that were written by the first rows of the
+-- profile, before thread ids and breakpoint ids were renamed. Source: own.
 use Rattle.std.specs.Prelude.{◌≡◌, ℕ, List}
 use Rattle.dap_profile.specs.Profile.{first_rows}
 use Rattle.dap_message.specs.Message.{Sent}
@@ -10,8 +10,8 @@ use Rattle.dap_input.specs.Limits.{AreSound}
 use Rattle.dap_normal.specs.Accepting.{IsAcceptedByRows, text}
 use Rattle.dap_normal.specs.Normalising.{Normalises}
 
--- The old text is the normal text by the first rows of a recording that they accept, and the whole
--- profile too; by the profile the recording is normalised to the new text.
+-- The old output is that of a recording by the first rows. Both the first rows and the entire
+-- profile accept the recording, and by the profile it normalises to the new output.
 pub record IsOldGolden (limits : Limits) (old new : List ℕ) : Type 0 where
   pub recording : List ℕ
   pub first : List Sent
@@ -21,7 +21,7 @@ pub record IsOldGolden (limits : Limits) (old new : List ℕ) : Type 0 where
   pub old_is : old ≡ text normal
   pub normalises : Normalises limits Whole recording new
 
--- An old golden file is normalised to the new text of its recording.
+-- An old golden file normalises to the new output of its recording.
 abbrev pub OldGoldenFiles : Type 0
 OldGoldenFiles = (limits : Limits) → AreSound limits → (old new : List ℕ)
     → IsOldGolden limits old new → Normalises limits Whole old new

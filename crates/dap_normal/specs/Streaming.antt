@@ -1,5 +1,5 @@
--- What `normalise` and `check` answer, and how far they have then read and written: what every
--- engine does that goes record by record. The text is that of the normal form. Source: own.
+-- The results of `normalise` and `check`, and how much they have then read and written: those of
+-- every command function that works record by record. The output is the normal form. Source: own.
 use Rattle.std.specs.Prelude.{◌≡◌, ◌⊎◌, ℕ, List, Option, Result, Err}
 use Rattle.dap_device.specs.declared.device.Source.{Ghosts as Source}
 use Rattle.dap_device.specs.declared.device.Sink.{Ghosts as Sink}
@@ -17,7 +17,7 @@ module _ {R : Type 0} (source : Source R) (limits : Limits) (mode : Mode) where
   abbrev pub HasComeTo : R → R → Option Stop → ℕ → List ℕ → Type 0
   HasComeTo = engine.HasComeTo (accepting limits mode) (Normalises limits mode) source
 
-  -- This record is refused, or the reader fails at it. The records before it have this normal text.
+  -- This record is rejected, or the reader fails at it. The records before it have this output.
   abbrev pub RefusesNext : R → R → Refused → List ℕ → Type 0
   RefusesNext = engine.RefusesNext (accepting limits mode) (Normalises limits mode) source
 
@@ -27,7 +27,7 @@ module _ {R W : Type 0} (source : Source R) (sink : Sink W) (limits : Limits) (m
       engine.HasGivenUp (accepting limits mode) (Normalises limits mode) (IsCanonical limits mode)
       source sink
 
-  -- before it read the record of this number
+  -- an allocation failed before it read the record with this number
   abbrev pub HasGivenUpAt : ℕ → R → R → W → W → Type 0
   HasGivenUpAt =
       engine.HasGivenUpAt (accepting limits mode) (Normalises limits mode) (IsCanonical limits mode)
@@ -39,19 +39,19 @@ module _ {R W : Type 0} (source : Source R) (sink : Sink W) (limits : Limits) (m
       mode) source
       sink
 
-  -- The normal text of the records goes out as they are judged.
+  -- The normal form of the records is written while they are checked.
   abbrev pub Streams : {U : Type 0} → R → R → W → W → Result U Refused → Type 0
   Streams = engine.Streams (accepting limits mode) (Normalises limits mode) (IsCanonical limits
       mode) source sink
 
--- The answer is given: where memory was refused, at once, and else once the writer is flushed.
+-- The result is returned: at once if it is `Memory`, and otherwise after the writer is flushed.
 abbrev pub Answers : {W : Type 0} → Sink W → W → W → Result (Unit {0}) Refused
     → Result (Unit {0}) Refused → Type 0
 Answers sink before after (Err Memory) given = (given ≡ Err Memory) × (after ≡ before)
 Answers sink before after answer given = engine.Flushes sink before after answer given
 
--- What is left of a text goes out before the answer is given; or the writer fails, and that is
--- answered.
+-- The remaining output is written before the result is returned; or the writer fails, and
+-- `WriteFault` is returned.
 abbrev pub Ends : {W : Type 0} → Sink W → List ℕ → W → W → Result (Unit {0}) Refused
     → Result (Unit {0}) Refused → Type 0
 Ends {W} sink text before after answer given =

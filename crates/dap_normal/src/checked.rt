@@ -1,12 +1,12 @@
-//! What `check` tells of an accepted recording.
+//! The result of `check` for an accepted recording.
 
-/// The numbers of an accepted recording.
+/// The counts of an accepted recording.
 #[derive(Clone, Copy, Debug, PartialEq, Eq)]
 pub struct Checked {
-    /// How many records it has.
+    /// The number of records.
     pub records: u64,
-    /// How many requests of the client have no response.
+    /// The number of requests of the client that have no response.
     pub client_open: usize,
-    /// How many requests of the adapter have no response.
+    /// The number of requests of the adapter that have no response.
     pub adapter_open: usize,
 }

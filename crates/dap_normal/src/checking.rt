@@ -1,4 +1,4 @@
-//! Judges recordings.
+//! Checks recordings.
 ghost use Rattle.std.specs.Prelude.{◌+◌, ◌<◌, ◌≤◌, ◌^◌, [], false};
 ghost use Rattle.dap_normal.specs.Checking.{Checks};
 ghost use Rattle.dap_input.specs.Limits.{AreSound};
@@ -14,18 +14,21 @@ use dap_message::Side;
 use dap_rename::{Mode, NameTable, Tables};
 use std::alloc::Global;
 
-/// Reads a recording and judges it: its records, their messages, the rules of the session, how many
-/// ids there are, and how long its normal text is. It accepts and refuses what
-/// [`normalise`](crate::normalise) does.
+/// Reads a recording and checks it: its records, their messages, the session rules, the number of
+/// ids, and the length of its normal form. Accepts and rejects the same recordings as
+/// [`normalise`](crate::normalise).
 ///
-/// One record is read and judged before the next one: at most 65,536 bytes are read past it, and at
-/// most one byte past `limits.input`. Records are counted from 1 in the order of the input. With
-/// `complete` each request must have a response.
+/// Each record is read and checked before the next one: at most 65,536 bytes beyond it are read,
+/// and at most one byte beyond `limits.input`. Records are counted from 1 in the order of the
+/// input. If `complete` is true, each request must have a response.
 ///
 /// # Errors
 ///
-/// The first refusal of the input; `Incomplete` where a request has no response and `complete` asks
-/// for one; `ReadFault` where the reader failed and what came before is not refused; `Memory`.
+/// - The first error of the input.
+/// - `Incomplete`: the input has no error, `complete` is true, and a request has no response.
+/// - `ReadFault`: the reader failed, and the bytes read so far contain no error other than being
+///   incomplete.
+/// - `Memory`: an allocation failed.
 pub fn check<R: Source>(
     alloc: Global,
     reader: &mut R,
@@ -37,24 +40,24 @@ pub fn check<R: Source>(
     requires given { R.given reader.old < 2 ^ 62 }
     requires failures { R.failures reader.old < 2 ^ 62 }
 
-    // The numbers of an accepted recording are answered, or its first refusal. That it is
-    // incomplete is answered exactly where that is asked for, and that the reader failed exactly
-    // where it did.
+    // The result is the counts of an accepted recording, or its first error. `Incomplete` is
+    // returned if and only if `complete` is true and a request has no response. `ReadFault` is
+    // returned if and only if the reader failed.
     ensures answer { Checks R.Source limits mode complete reader.old reader.new result }
 
-    // It takes at most one byte past the limit.
+    // It reads at most one byte beyond the limit.
     ensures taken { R.given reader.new ≤ R.given reader.old + limits.input + 1 }
 {
     let tables = index_tables(alloc, limits);
     check_with(alloc, reader, limits, complete, tables, mode)
 }
 
-/// Does what [`check`] does, with these tables for the names of ids. They have to be empty, each
-/// with the limit `limits.ids`.
+/// Does the same as [`check`] with these interning tables. They must be empty, each with the limit
+/// `limits.ids`.
 ///
 /// # Errors
 ///
-/// Those of [`check`].
+/// The same as those of [`check`].
 pub fn check_with<R: Source, T: NameTable + Drop>(
     alloc: Global,
     reader: &mut R,
@@ -68,7 +71,7 @@ pub fn check_with<R: Source, T: NameTable + Drop>(
     requires given { R.given reader.old < 2 ^ 62 }
     requires failures { R.failures reader.old < 2 ^ 62 }
 
-    // What `check` promises, whatever the tables are.
+    // The guarantees of `check`, for any tables.
     ensures answer { Checks R.Source limits mode complete reader.old reader.new result }
     ensures taken { R.given reader.new ≤ R.given reader.old + limits.input + 1 }
 {
@@ -79,7 +82,7 @@ pub fn check_with<R: Source, T: NameTable + Drop>(
     Ok(checked)
 }
 
-/// Judges all records, and answers how many they are and what they leave open.
+/// Checks all records and returns their counts.
 fn count_records<R: Source, T: NameTable + Drop>(
     alloc: Global,
     reader: &mut R,
@@ -100,7 +103,7 @@ fn count_records<R: Source, T: NameTable + Drop>(
     judge_records(alloc, &mut records, reader, limits, mode)
 }
 
-/// Judges the records of an input, of which nothing has been read.
+/// Checks the records of an input of which nothing has been read.
 fn judge_records<R: Source, T: NameTable + Drop>(
     alloc: Global,
     records: &mut NormalRecords<T>,

@@ -1,4 +1,4 @@
-//! The tables of names that an engine takes where it is handed none.
+//! The interning tables that a command function uses if it is not passed any.
 ghost use Rattle.dap_names.specs.IndexNames.{index_limit, index_numbers};
 ghost use Rattle.dap_input.specs.Limits.{AreSound};
 ghost use Rattle.dap_normal.specs.NameTables.{AreReady};
@@ -8,10 +8,10 @@ use dap_rename::{IndexNames, Tables};
 use std::alloc::Global;
 use std::hash::{BuildHasherDefault, FoldHasher};
 
-/// The default hasher of an index set. It is fixed.
+/// The default hasher of an index set. It is not seeded.
 type DefaultHasher = BuildHasherDefault<FoldHasher>;
 
-/// Empty tables, each with the limit of ids. They take no memory yet.
+/// Returns empty tables with the limit of ids. Does not allocate.
 pub fn index_tables(alloc: Global, limits: Limits) -> Tables<IndexNames<DefaultHasher>>
     requires { AreSound limits }
     ensures { AreReady index_numbers index_limit limits result }

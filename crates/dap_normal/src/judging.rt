@@ -1,5 +1,4 @@
-//! Judges the records of a recording, each behind those before it. `check` and `normalise` both
-//! judge so.
+//! Checks the records of a recording one after another, for both `check` and `normalise`.
 ghost use Rattle.std.specs.Prelude.{◌≡◌, ◌≤◌, List, [], OnErr};
 ghost use Rattle.dap_message.specs.Message.{Sent};
 ghost use Rattle.dap_session.specs.Rules.{open_requests};
@@ -15,15 +14,15 @@ use dap_session::{Session, SessionFault};
 use dap_tree::Scratch;
 use std::alloc::Global;
 
-/// What the records so far leave behind for the judging of the next one.
+/// The state after the records so far, which is needed to check the next record.
 #[derive(Drop)]
 pub struct Judge<T> {
     session: Session,
     names: Names<T>,
-    /// How many bytes the text of the normal form has so far.
+    /// The length in bytes of the normal form so far.
     written: u64,
     limits: Limits,
-    /// Room for the content that is written.
+    /// A buffer for the content that is written.
     content: Vec<u8>,
     ghost sound: { AreSound limits },
     ghost short: { written ≤ limits.input },
@@ -34,7 +33,7 @@ impl<T: NameTable + Drop> Judge<T> {
     ghost use Rattle.dap_normal.specs.JudgingSteps.{JudgesRecord, StandsFor, held_of, judge_limits};
     ghost use Rattle.dap_normal.specs.JudgingSteps.{judge_mode};
 
-    /// A judge before the first record.
+    /// Returns the state before the first record.
     pub fn new(alloc: Global, limits: Limits, tables: Tables<T>, mode: Mode) -> Judge<T>
         requires limits { AreSound limits }
         requires tables { AreReady T.numbers T.limit limits tables }
@@ -51,10 +50,17 @@ impl<T: NameTable + Drop> Judge<T> {
         }
     }
 
-    /// Judges the record of that number, and appends the record of its normal form to `out`.
+    /// Checks the record with this number, and appends the record of its normal form to `out`.
     ///
-    /// Its content is read as a flat document, and as a tree if that cannot be. `scratch` is room
-    /// for reading, kept from record to record.
+    /// Reads its content as a flat document, or as a tree if that is not possible. Reuses the
+    /// buffer `scratch`.
+    ///
+    /// # Errors
+    ///
+    /// - The first error of the record.
+    /// - `Memory`: an allocation failed.
+    ///
+    /// The contents of `out` are unchanged.
     pub fn judge(
         &mut self,
         alloc: Global,
@@ -79,8 +85,15 @@ impl<T: NameTable + Drop> Judge<T> {
         self.judge_message(alloc, number, message, out)
     }
 
-    /// Judges the message that the record of that number holds, whatever form its document is held
-    /// in, and appends the record of its normal form to `out`.
+    /// Checks the message of the record with this number, and appends the record of its normal form
+    /// to `out`. The message may represent its document in any way.
+    ///
+    /// # Errors
+    ///
+    /// - The first error of the message: a session rule, `TooManyIds` or `Grew`.
+    /// - `Memory`: an allocation failed.
+    ///
+    /// The contents of `out` are unchanged.
     pub fn judge_message<M: AnyMessage + Drop>(
         &mut self,
         alloc: Global,
@@ -116,14 +129,14 @@ impl<T: NameTable + Drop> Judge<T> {
         Ok(())
     }
 
-    /// The names of the messages so far.
+    /// Returns the canonical numbers of the messages so far.
     pub fn names(&self) -> &Names<T>
         ensures { result.now ≡ self.now.names }
     {
         &self.names
     }
 
-    /// How many requests of that side have no response.
+    /// Returns the number of requests of that side that have no response.
     pub fn open(&self, side: Side) -> usize
         ensures { (messages normal : List Sent)
             → StandsFor T.numbers T.limit self.now messages normal

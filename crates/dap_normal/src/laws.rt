@@ -1,5 +1,5 @@
-//! Theorems on recordings and their normal forms, which hold of all bytes. Each function does
-//! nothing: a call of it gives its clauses to a proof.
+//! Theorems about recordings and their normal forms, for all inputs. Each function is empty:
+//! calling it makes its `ensures` clauses available to the caller's proof.
 ghost use Rattle.dap_normal.specs.Accepting.{ReadingIsBounded, RecordingHasOneOutcome};
 ghost use Rattle.dap_normal.specs.Accepting.{RecordingRefusalStays};
 ghost use Rattle.dap_normal.specs.Normalising.{HasOneNormalForm, NormalIsAccepted};
@@ -8,17 +8,17 @@ ghost use Rattle.dap_normal.specs.Normalising.{NormalStandsStill, EqualTextsTell
 ghost use Rattle.dap_normal.specs.Normalising.{WholeTextIsNormalised};
 ghost use Rattle.dap_normal.specs.OldGoldenFiles.{OldGoldenFiles};
 
-/// A recording is accepted as one list of messages, or has one refusal, and not both. A
-/// refusal stays when more bytes come, unless the input only ended too early. `check` and
-/// `normalise` both accept and refuse so.
+/// States that a recording is either accepted as exactly one list of messages, or rejected for
+/// exactly one error. The error remains when more bytes follow, unless the input only ended too
+/// early. This holds for both `check` and `normalise`.
 pub fn recording_has_one_outcome()
     ensures outcome { RecordingHasOneOutcome }
     ensures refusal_stays { RecordingRefusalStays }
 {}
 
-/// An accepted recording has one normal form, and with it one text that it is normalised to. The
-/// text is accepted under the same limits, holds a renaming of the recording's messages, and is
-/// normalised to itself.
+/// States that an accepted recording has exactly one normal form, and therefore exactly one output.
+/// The output is accepted under the same limits, its messages are a renaming of those of the
+/// recording, and normalising it again does not change it.
 pub fn normal_form_stands()
     ensures form { HasOneNormalForm }
     ensures accepted { NormalIsAccepted }
@@ -27,27 +27,30 @@ pub fn normal_form_stands()
     ensures still { NormalStandsStill }
 {}
 
-/// Two accepted recordings are normalised to equal texts exactly where one-to-one renamings of each
-/// side's sequence numbers, of frame ids, of variables references other than 0, of thread ids and
-/// of breakpoint ids turn the messages of the one, in order, into those of the other.
+/// States that two accepted recordings have equal output if and only if one-to-one renamings map
+/// the messages of the first, in order, to those of the second. Each kind of id has its own
+/// renaming: the sequence numbers of each side, frame ids, variables references other than 0,
+/// thread ids, and breakpoint ids. With `Mode::PerStop`, frame ids and variables references have a
+/// renaming of their own for each stop.
 pub fn equal_texts_tell()
     ensures { EqualTextsTell }
 {}
 
-/// A golden file that was written before thread ids and breakpoint ids were renamed is normalised
-/// to the normal text of its recording, if the recording is accepted then and now.
+/// States how an old golden file normalises in the mode `Whole`: one that was written by the first
+/// rows of the profile, before thread ids and breakpoint ids were renamed. The result is the output
+/// for its recording, if the recording is accepted by these rows and by the entire profile.
 pub fn old_golden_files()
     ensures { OldGoldenFiles }
 {}
 
-/// A golden file with the names of the whole recording is normalised to the text of its recording
-/// with names that begin again at each stop, if both modes accept the recording.
+/// States that a golden file written with `Mode::Whole` normalises, in any mode, to the output for
+/// its recording in that mode. Both modes must accept the recording.
 pub fn golden_files_of_the_whole()
     ensures { WholeTextIsNormalised }
 {}
 
-/// What `normalise`, `check` and `compare` have read at a record: at most 65,536 bytes past it, or
-/// past the byte that shows a fault of it.
+/// States how far `normalise`, `check` and `compare` have read at a record: at most 65,536 bytes
+/// beyond it, or beyond the byte at which its error is detected.
 pub fn reading_is_bounded()
     ensures { ReadingIsBounded }
 {}

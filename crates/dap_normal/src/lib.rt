@@ -1,4 +1,4 @@
-//! Recordings judged and normalised record by record.
+//! Checks and normalises recordings record by record.
 #![tactic(auto)]
 
 mod checked;

@@ -17,12 +17,17 @@ use dap_rename::Mode;
 use dap_tree::{Scratch, TreeFault, read_tree_with};
 use std::alloc::Global;
 
-/// The bytes of a content for each of its nodes, at least, in most contents. It is a guess of how
-/// many nodes there will be, and nothing depends on it but how often their vector grows.
+/// The number of bytes per node of a document that most contents have at least. It is an estimate,
+/// which only affects how often the vector of nodes is reallocated.
 const BYTES_A_NODE: usize = 8;
 
-/// The message that the record of that number holds, read with room that is kept from record to
-/// record.
+/// Returns the message of the record with this number. Reuses the buffer `scratch`.
+///
+/// # Errors
+///
+/// - `Json`, `Fraction`: the content is not JSON, or a number is not an integer of 64 bits.
+/// - `Message`: the content violates the profile.
+/// - `Memory`: an allocation failed.
 pub fn read_message(
     alloc: Global,
     number: u64,
@@ -49,8 +54,13 @@ pub fn read_message(
     }
 }
 
-/// Reads the message that the record of that number holds as a flat document. Returns `None` if its
-/// content has to be read as a tree.
+/// Reads the message of the record with this number as a flat document. Returns `None` if its
+/// content must be read as a tree.
+///
+/// # Errors
+///
+/// - `Message`: the content violates the profile.
+/// - `Memory`: an allocation failed.
 pub fn read_flat<'a>(
     alloc: Global,
     number: u64,
@@ -74,8 +84,15 @@ pub fn read_flat<'a>(
     }
 }
 
-/// Appends the record of a side and a content to a text that has `written` bytes, and returns how
-/// many bytes the text then has.
+/// Appends the record of a side and a content to an output of `written` bytes, and returns the new
+/// length of the output.
+///
+/// # Errors
+///
+/// - `Grew`: the content or the output would exceed its limit.
+/// - `Memory`: an allocation failed.
+///
+/// The contents of `out` are unchanged.
 pub fn append_record(
     number: u64,
     side: Side,

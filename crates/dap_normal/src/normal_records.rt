@@ -1,4 +1,4 @@
-//! The records of an input one by one, each as the record of its normal form.
+//! The records of an input one by one, each with the record of its normal form.
 ghost use Rattle.std.specs.Prelude.{◌≡◌, ◌+◌, ◌-◌, ◌<◌, ◌^◌, ℕ, List, [], IfErr, IfOk, IsTrue};
 ghost use Rattle.std.specs.Prelude.{OnErr};
 ghost use Rattle.dap_message.specs.Message.{Sent};
@@ -20,13 +20,12 @@ use dap_rename::{Mode, NameFault, NameTable, Renaming, Tables};
 use dap_tree::Scratch;
 use std::alloc::{AllocError, Global};
 
-/// The records of an input, of which those before the next one are accepted. One record is held at
-/// a time.
+/// The records of an input. Those before the next one are accepted. Buffers one record at a time.
 #[derive(Drop)]
 pub struct NormalRecords<T> {
     records: Records<RecordReader>,
     judge: Judge<T>,
-    /// Room for reading a content.
+    /// A buffer for reading a content.
     scratch: Scratch,
 }
 
@@ -34,7 +33,11 @@ impl<T: NameTable + Drop> NormalRecords<T> {
     ghost use Rattle.dap_normal.specs.JudgingSteps.{StandsFor as JudgeStandsFor};
     ghost use Rattle.dap_normal.specs.NormalSteps.{HasNext, IsAtHand, StandsBefore};
 
-    /// The records of an input, before the first.
+    /// Returns the records of an input before the first one is read.
+    ///
+    /// # Errors
+    ///
+    /// - `AllocError`: an allocation failed.
     pub fn new(
         alloc: Global,
         limits: Limits,
@@ -54,14 +57,14 @@ impl<T: NameTable + Drop> NormalRecords<T> {
         })
     }
 
-    /// The number of the next record, counted from 1.
+    /// Returns the number of the next record, counted from 1.
     pub fn number(&self) -> u64
         ensures { result ≡ self.now.records.number }
     {
         self.records.number()
     }
 
-    /// How many requests of that side have no response.
+    /// Returns the number of requests of that side that have no response.
     pub fn open(&self, side: Side) -> usize
         ensures { (messages normal : List Sent)
             → JudgeStandsFor T.numbers T.limit self.now.judge messages normal
@@ -70,8 +73,8 @@ impl<T: NameTable + Drop> NormalRecords<T> {
         self.judge.open(side)
     }
 
-    /// Whether the whole next record is among the bytes that have come, so that
-    /// [`next`](NormalRecords::next) reads nothing. Takes no memory.
+    /// Returns whether the complete next record is buffered, so that [`next`](NormalRecords::next)
+    /// does not need to read. Does not allocate.
     pub fn has_next(&self) -> bool
         ensures { (limits : Limits) (mode : Mode) (bytes : List ℕ)
             (messages normal : List Sent)
@@ -81,8 +84,17 @@ impl<T: NameTable + Drop> NormalRecords<T> {
         self.records.has_next()
     }
 
-    /// Reads and judges the next record, and appends the record of its normal form to `text`. None
-    /// is left where the input has ended and all of it is accepted.
+    /// Reads and checks the next record, and appends the record of its normal form to `text`.
+    /// Returns `false` if the input has ended and is accepted.
+    ///
+    /// # Errors
+    ///
+    /// - The first error of the input, if the next record has one.
+    /// - `ReadFault`: the reader failed, and the bytes read so far contain no error other than
+    ///   being incomplete.
+    /// - `Memory`: an allocation failed.
+    ///
+    /// The contents of `text` are unchanged.
     pub fn next<R: Source>(
         &mut self,
         alloc: Global,
@@ -100,7 +112,7 @@ impl<T: NameTable + Drop> NormalRecords<T> {
             self.old self.new reader.old reader.new text.old.items text.new.items result }
         ensures kept { OnErr result (text.new.items ≡ text.old.items) }
 
-        // Where the record is at hand, nothing is read.
+        // If the record is buffered, nothing is read.
         ensures at_hand { (limits : Limits) (mode : Mode) (bytes : List ℕ)
             (messages normal : List Sent)
             → StandsBefore T.numbers T.limit limits mode bytes self.old messages normal
@@ -116,10 +128,12 @@ impl<T: NameTable + Drop> NormalRecords<T> {
         Ok(true)
     }
 
-    /// The renaming that puts the numbers of `other` in the place of those with the same names
-    /// here.
+    /// Returns the renaming that maps the numbers of these records to those of `other` with the
+    /// same canonical numbers.
     ///
-    /// The only fault is `Memory`.
+    /// # Errors
+    ///
+    /// - `Memory`: an allocation failed.
     pub fn renaming_to(
         &self,
         alloc: Global,

@@ -1,11 +1,11 @@
-//! The text of a normal form.
+//! The output of normalising a recording.
 ghost use Rattle.std.specs.Prelude.{◌≡◌};
 
 use dap_rename::Mode;
 use std::marker::Model;
 
-/// The text of the normal form of some messages, each of which some content is typed as, and the
-/// mode of the names in it.
+/// The text of the normal form of some messages, each of which is typed from some content, and the
+/// mode of its canonical numbers.
 #[derive(Drop)]
 pub struct Normalised {
     mode: Mode,
@@ -32,14 +32,14 @@ impl Normalised {
         Normalised { mode, bytes }
     }
 
-    /// In which mode its ids have names. It takes no memory.
+    /// Returns the mode, which decides when canonical numbers restart. Does not allocate.
     pub fn mode(&self) -> Mode
         ensures { result ≡ self.now.mode }
     {
         self.mode
     }
 
-    /// The text. It takes no memory.
+    /// Returns the text. Does not allocate.
     pub fn bytes(&self) -> &[u8]
         ensures same { result.now ≡ self.now.bytes }
         ensures holds { HoldsSome self.now }

@@ -14,20 +14,22 @@ use dap_input::{Limits, Refused};
 use dap_rename::{Mode, NameTable, Tables};
 use std::alloc::Global;
 
-/// How long a text grows before it is written, though the next record is at hand.
+/// The length of buffered output at which it is written, even if the next record is buffered.
 const PIECE: usize = 65_536;
 
-/// The normal text of a recording: its messages in order, each as its canonical content, in which
-/// ids count from 1.
+/// Returns the normal form of a recording: its messages in order, each as its canonical content, in
+/// which ids are numbered from 1.
 ///
-/// Each sort of ids counts by first appearance over the whole recording: the sequence numbers of
-/// each side, frame ids, variables references, of which a 0 stays, thread ids and breakpoint ids.
-/// With [`Mode::PerStop`] frame ids and references count anew behind each `stopped` event.
-/// Capabilities that an `initialize` response leaves out are false in it.
+/// Each kind of id is numbered by first appearance over the entire recording: the sequence numbers
+/// of each side, frame ids, variables references, thread ids and breakpoint ids. A variables
+/// reference of 0 is unchanged. With [`Mode::PerStop`], the numbering of frame ids and variables
+/// references restarts after each `stopped` event. Capabilities that an `initialize` response omits
+/// are set to false.
 ///
 /// # Errors
 ///
-/// The first refusal of the recording, or `Memory`.
+/// - The first error of the recording.
+/// - `Memory`: an allocation failed.
 pub fn normalise_bytes(
     alloc: Global,
     bytes: &[u8],
@@ -36,8 +38,8 @@ pub fn normalise_bytes(
 ) -> Result<Normalised, Refused>
     requires limits { AreSound limits }
 
-    // The text is answered exactly where the recording is accepted, and its first refusal exactly
-    // where it is not.
+    // `Ok` is returned only if the recording is accepted, and an error other than `Memory` only if
+    // it is the first error of the recording.
     ensures ok { IfOk result (λ text. IsCanonical limits mode bytes.now text.bytes) }
     ensures err { IfErr result (λ refused. RefusesBytes limits mode bytes.now refused) }
     ensures mode { IfOk result (λ text. text.mode ≡ mode) }
@@ -46,7 +48,7 @@ pub fn normalise_bytes(
     normalise_bytes_with(alloc, bytes, limits, tables, mode)
 }
 
-/// Does what [`normalise_bytes`] does, with these tables for the names of ids.
+/// Does the same as [`normalise_bytes`] with these interning tables.
 fn normalise_bytes_with<T: NameTable + Drop>(
     alloc: Global,
     bytes: &[u8],
@@ -66,7 +68,7 @@ fn normalise_bytes_with<T: NameTable + Drop>(
     normal_text(alloc, &mut records, bytes, limits, mode)
 }
 
-/// The normal text of a recording, of which nothing has been read.
+/// Returns the normal form of a recording of which nothing has been read.
 fn normal_text<T: NameTable + Drop>(
     alloc: Global,
     records: &mut NormalRecords<T>,
@@ -86,7 +88,7 @@ fn normal_text<T: NameTable + Drop>(
     Ok(Normalised::new(mode, text))
 }
 
-/// Gives the answer once all that was written is flushed.
+/// Flushes the writer, then returns the given result, or `WriteFault` if the flush failed.
 fn flushed<W: Sink>(writer: &mut W, answer: Result<(), Refused>) -> Result<(), Refused>
     requires { W.failures writer.old < 2 ^ 63 }
     ensures { Flushes W.Sink writer.old writer.new answer result }
@@ -97,8 +99,8 @@ fn flushed<W: Sink>(writer: &mut W, answer: Result<(), Refused>) -> Result<(), R
     }
 }
 
-/// Writes the text that is left, and gives the answer: where memory was refused, at once, and else
-/// once all that was written is flushed.
+/// Writes the remaining output and flushes the writer, then returns the given result. Returns
+/// `WriteFault` if the writer failed. If the given result is `Memory`, does not flush.
 fn ended<W: Sink>(writer: &mut W, text: &[u8], answer: Result<(), Refused>) -> Result<(), Refused>
     requires { W.failures writer.old < 2 ^ 62 }
     ensures { Ends W.Sink text.now writer.old writer.new answer result }
@@ -112,19 +114,21 @@ fn ended<W: Sink>(writer: &mut W, text: &[u8], answer: Result<(), Refused>) -> R
     }
 }
 
-/// Reads a recording and writes its normal text, as [`normalise_bytes`] answers it, record by
-/// record.
+/// Reads a recording and writes its normal form record by record. The output is that of
+/// [`normalise_bytes`].
 ///
-/// At most 65,536 bytes are read past a record before it is written, and at most one byte past
-/// `limits.input`: the texts of records that came together go out together. Where a record is
-/// refused, the normal text of those before it has been written. What was written is flushed at the
-/// end, also before a refusal is answered. Records are counted from 1 in the order of the input.
+/// At most 65,536 bytes beyond a record are read before its output is written, and at most one byte
+/// beyond `limits.input`. The output of records that were buffered together may be written
+/// together. Records are counted from 1 in the order of the input.
 ///
 /// # Errors
 ///
-/// The first refusal of the input; `ReadFault` where the reader failed and what came before is not
-/// refused; `WriteFault` where the writer failed, also in place of a refusal where the flush before
-/// it failed; `Memory`, which nothing is flushed before.
+/// - The first error of the input. The normal form of the records before it was written and
+///   flushed.
+/// - `ReadFault`: the reader failed, and the bytes read so far contain no error other than being
+///   incomplete. The normal form of the complete records was written and flushed.
+/// - `WriteFault`: the writer failed. It replaces another error if the flush before it fails.
+/// - `Memory`: an allocation failed. The writer is not flushed.
 pub fn normalise<R: Source, W: Sink>(
     alloc: Global,
     reader: &mut R,
@@ -137,26 +141,26 @@ pub fn normalise<R: Source, W: Sink>(
     requires read_failures { R.failures reader.old < 2 ^ 62 }
     requires write_failures { W.failures writer.old < 2 ^ 62 }
 
-    // The normal text of the input goes out and is flushed. Where a record is refused, the text of
-    // those before it does and is; where memory is refused, no flush comes behind it; where the
-    // writer fails, a front of the text goes out. A fault of a device is answered exactly where
-    // that device failed.
+    // On success, the normal form of the input was written and flushed. If a record is rejected,
+    // that of the records before it was. If an allocation fails, no flush follows. If the writer
+    // fails, a prefix of the output was written. `ReadFault` and `WriteFault` are returned if and
+    // only if the reader or the writer failed.
     ensures answer { Streams R.Source W.Sink limits mode reader.old reader.new
         writer.old writer.new result }
 
-    // It takes at most one byte past the limit.
+    // It reads at most one byte beyond the limit.
     ensures taken { R.given reader.new ≤ R.given reader.old + limits.input + 1 }
 {
     let tables = index_tables(alloc, limits);
     normalise_with(alloc, reader, writer, limits, tables, mode)
 }
 
-/// Does what [`normalise`] does, with these tables for the names of ids. They have to be empty,
-/// each with the limit `limits.ids`.
+/// Does the same as [`normalise`] with these interning tables. They must be empty, each with the
+/// limit `limits.ids`.
 ///
 /// # Errors
 ///
-/// Those of [`normalise`].
+/// The same as those of [`normalise`].
 pub fn normalise_with<R: Source, W: Sink, T: NameTable + Drop>(
     alloc: Global,
     reader: &mut R,
@@ -171,7 +175,7 @@ pub fn normalise_with<R: Source, W: Sink, T: NameTable + Drop>(
     requires read_failures { R.failures reader.old < 2 ^ 62 }
     requires write_failures { W.failures writer.old < 2 ^ 62 }
 
-    // What `normalise` promises, whatever the tables are.
+    // The guarantees of `normalise`, for any tables.
     ensures answer { Streams R.Source W.Sink limits mode reader.old reader.new
         writer.old writer.new result }
     ensures taken { R.given reader.new ≤ R.given reader.old + limits.input + 1 }
@@ -182,8 +186,8 @@ pub fn normalise_with<R: Source, W: Sink, T: NameTable + Drop>(
     write_records(alloc, &mut records, reader, writer, limits, mode)
 }
 
-/// Writes the normal text of each record of an input, of which nothing has been read. The texts of
-/// records that came together go out together, before more is read.
+/// Writes the normal form of each record of an input of which nothing has been read. The output of
+/// records that were buffered together may be written together, before more is read.
 fn write_records<R: Source, W: Sink, T: NameTable + Drop>(
     alloc: Global,
     records: &mut NormalRecords<T>,
@@ -200,8 +204,8 @@ fn write_records<R: Source, W: Sink, T: NameTable + Drop>(
     ensures answer { Streams R.Source W.Sink limits mode reader.old reader.new
         writer.old writer.new result }
 
-    // If memory was refused, the text of each record that was taken has gone out, but perhaps of
-    // the last.
+    // If an allocation failed, the output of every accepted record was written, except possibly
+    // that of the last one.
     ensures given_up { IsErrOf result Refused.Memory
         → HasGivenUpAt R.Source W.Sink limits mode records.new.records.number
         reader.old reader.new writer.old writer.new }

@@ -1,4 +1,4 @@
-//! Whether two normal texts are of recordings that are the same.
+//! Whether two outputs are the normal forms of recordings that are the same.
 ghost use Rattle.std.specs.Prelude.{◌≡◌, ◌↔◌, List, ℕ, true};
 ghost use Rattle.dap_rename.specs.Messages.{AreSame};
 ghost use Rattle.dap_rename.specs.Modes.{stop_in};
@@ -11,16 +11,17 @@ use dap_input::Limits;
 use dap_rename::Mode;
 
 impl Normalised {
-    /// Whether some renaming carries the messages of the one to those of the other. The texts tell
-    /// it, and it takes no memory. Both have to be in one mode.
+    /// Returns whether some renaming maps the messages of the first output to those of the second.
+    /// Compares the bytes of the outputs. Both must have the same mode. Does not allocate.
     pub fn same(&self, other: &Normalised) -> bool
         requires mode { self.now.mode ≡ other.now.mode }
 
-        // It is so exactly where they hold messages that are the same,
+        // The result is true if and only if the outputs represent messages that are the same up to
+        // a renaming.
         ensures holds { (result ≡ true) ↔ HoldTheSame self.now other.now }
 
-        // and so it is of the normal texts of any two recordings that are accepted under the same
-        // limits and in the same mode.
+        // The same for the outputs of any two recordings that are accepted under the same limits
+        // and in the same mode.
         ensures recordings { (limits : Limits) (mode : Mode) → AreSound limits
             → (bytes others : List ℕ) (a : Normalises limits mode bytes self.now.bytes)
             (b : Normalises limits mode others other.now.bytes)

@@ -1,4 +1,4 @@
--- If two lists are alike place by place, their orders are.
+-- If two lists are alike element by element, so are their orders.
 use Rattle.std.proofs.Common.{◌≡◌, inl, inr, List, [], ◌∷◌, map, refl}
 use Rattle.std.proofs.Common.{◌++◌, sym, ◌∙◌, subst}
 use Rattle.std.specs.Prelude.{⊤}
@@ -81,7 +81,8 @@ module _ {X Y : Type 0} (f : X → Y) where
   map_zip (x ∷ xs) (y ∷ ys) all = let head = all.0 in let rest = map_zip xs ys all.1 in cc
 
 module _ {X Y : Type 0} (s : Swaps X) (t : Swaps Y) (f : X → Y) where
-  -- A map that keeps freeness and the order of keys may be applied before or after the ordering.
+  -- A map that preserves freeness and the order of keys can be applied before or after the
+  -- ordering.
   pub order-map : ((x y : X) → s.free x y ≡ t.free (f x) (f y))
       → ((x y : X) → s.less x y ≡ t.less (f x) (f y)) → (xs : List X)
       → order t (map f xs) ≡ map f (order s xs)

@@ -1,4 +1,4 @@
--- Answers that are alike have labels that are alike, so their orders are alike.
+-- Answers that are alike have labels that are alike, and therefore orders that are alike.
 use Rattle.std.proofs.Common.{◌≡◌, ℕ, Bool, true, ◌⊎◌, inl, inr, List, [], ◌∷◌, ◌++◌, length, map}
 use Rattle.std.proofs.Common.{refl, sym, ap, ◌∙◌, subst, suc}
 use Rattle.std.specs.Prelude.{⊤}
@@ -41,7 +41,7 @@ length_alike R (a ∷ as') [] all = absurd all
 length_alike R (a ∷ as') (b ∷ bs) all = ap suc (length_alike R as' bs all.1)
 
 module _ {X C : Type 0} (s : Classes X C) where
-  -- the first item that passes a test, with its number
+  -- The first item that passes a test, with its number.
   record IsFirst (p : Labelled X (C × ℕ) → Bool) (z : Labelled X (C × ℕ)) : Type 0 where
     passes : p z ≡ true
     class : s.class z.item ≡ z.label.0

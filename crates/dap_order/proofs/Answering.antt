@@ -1,4 +1,4 @@
--- Swaps keep the labels that are made from the labels of answered items.
+-- Swaps preserve the labels that are computed from the labels of answered items.
 use Rattle.std.proofs.Common.{◌≡◌, true, List, [], ◌∷◌, ◌++◌, map, ap, ◌∙◌}
 use Rattle.std.specs.Prelude.{◌||◌}
 use Rattle.std.specs.List.{filter}

@@ -1,4 +1,4 @@
--- Parts of lists in order; putting an item in its place keeps a list in order.
+-- Parts of lists in order. Inserting an item into a list in order produces a list in order.
 use Rattle.std.proofs.Common.{◌≡◌, true, false, inl, inr, List, [], ◌∷◌, ◌++◌, refl}
 use Rattle.std.proofs.Common.{sym, ap, ◌∙◌, subst}
 use Rattle.std.proofs.lemmas.Bool.{and_parts, and_from, cases_Bool, both_ways}
@@ -61,7 +61,7 @@ module _ {X : Type 0} (s : Swaps X) where
         ∙ ap (λ zs. front ++ x ∷ zs) (append_assoc between (y ∷ back) ys)) f l;
   }
 
-  -- If an item is put after y and does not go before y, y remains first.
+  -- If an item is inserted after y and does not go before y, y remains first.
   first_kept : (x y : X) (a b : List X) → IsFirst y (a ++ b) → all_free s x b ≡ true
       → goes_before s x y (a ++ b) ≡ false → IsFirst y (a ++ x ∷ b)
   first_kept x y a b first free not_before = record {
@@ -145,11 +145,11 @@ module _ {X : Type 0} (s : Swaps X) where
     put_all_ordered done (x ∷ xs) is =
         put_all_ordered (put s done x) xs (put_ordered done x is)
 
-    -- The list in order is in order.
+    -- The order of a list is in order.
     pub order_ordered : (xs : List X) → IsOrdered s (order s xs)
     order_ordered xs = put_all_ordered [] xs none_ordered
 
-  -- An item is put last if the list with it at the end is in order.
+  -- An item is inserted at the end if the list with it at the end is in order.
   put_last : (ys : List X) (x : X) → IsOrdered s (ys ++ x ∷ []) → put s ys x ≡ ys ++ x ∷ []
   put_last [] x is = refl
   put_last (y ∷ ys) x is = elim (cases_Bool (goes_before s x y ys)) [

@@ -1,4 +1,5 @@
--- Swaps keep the items, and the sequence of those of which no two are free with each other.
+-- Swaps preserve the items, and the sequence of chosen items if no two of them are free with each
+-- other.
 use Rattle.std.proofs.Common.{◌≡◌, Bool, true, false, cond, List, [], ◌∷◌, ◌++◌}
 use Rattle.std.proofs.Common.{refl, sym, ap, ◌∙◌, subst}
 use Rattle.std.specs.List.{filter}

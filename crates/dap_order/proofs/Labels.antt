@@ -1,4 +1,4 @@
--- Swaps keep the labels, so all lists that swaps lead to have the same order by labels.
+-- Swaps preserve the labels, so all lists that swaps lead to have the same order by labels.
 use Rattle.std.proofs.Common.{◌≡◌, true, inl, inr, List, [], ◌∷◌, ◌++◌, refl}
 use Rattle.std.proofs.Common.{suc, length, take, drop, sym, ap, ◌∙◌, subst}
 use Rattle.std.specs.Prelude.{◌||◌}
@@ -57,7 +57,7 @@ module _ {X L : Type 0} (s : Labels X L) where
     pub are_swaps : AreSwaps (by_label s)
     are_swaps = labelled_are_swaps s.free s.less are.both_ways are.less_itself are.less_on
 
-    -- an item with its label after others
+    -- An item with its label after others.
     abbrev labelled_at : List X → X → Labelled X L
     labelled_at before x = record { item = x; label = s.label_of before x }
 
@@ -189,7 +189,7 @@ same_parts a b c d e n = (
 )
 
 module _ {X L : Type 0} (s : Labels X L) (are : AreLabels s) where
-  -- If the items of a list have their own labels, they have them after swaps.
+  -- If the items of a list have their own labels, they still have them after swaps.
   abbrev HasLabels : List (Labelled X L) → Type 0
   HasLabels xs = xs ≡ label s (items_of s xs)
 

@@ -1,4 +1,4 @@
--- The order begins with the least ready item, and continues with the order of the other items.
+-- The order starts with the least ready item, and continues with the order of the other items.
 use Rattle.std.proofs.Common.{◌≡◌, true, List, [], ◌∷◌, ◌++◌, refl, sym, ap, ◌∙◌, subst}
 use Rattle.std.proofs.lemmas.Bool.{and_parts, and_from}
 use Rattle.std.proofs.lemmas.List.{append_assoc}

@@ -1,4 +1,4 @@
--- Swaps in sequence; an item is put in its place by swaps.
+-- Sequences of swaps. Swaps insert an item at its place.
 use Rattle.std.proofs.Common.{◌≡◌, Bool, true, inl, inr, List, [], ◌∷◌, ◌++◌, refl}
 use Rattle.std.proofs.Common.{sym, ap, ◌∙◌, subst}
 use Rattle.std.proofs.lemmas.Bool.{and_parts, cases_Bool}
@@ -61,7 +61,7 @@ module _ {X : Type 0} (free : X → X → Bool) where
         reordered_on ys us xs (swapped unmoved (swapped_back us ys one)) (reordered_back xs us p)
 
 module _ {X : Type 0} (s : Swaps X) (are : AreSwaps s) where
-  -- An item moves to the front of a list if it is free with all of it.
+  -- An item moves to the front of a list if it is free with all items of the list.
   pub moved_to_front : (x : X) (ys : List X) → all_free s x ys ≡ true
       → Reordered s.free (ys ++ x ∷ []) (x ∷ ys)
   moved_to_front x [] f = unmoved

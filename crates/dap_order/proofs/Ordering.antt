@@ -1,4 +1,4 @@
--- The strict order of a comparison; items with labels meet the premises of swaps.
+-- The strict order of a comparison. Items with labels satisfy the preconditions of swaps.
 use Rattle.std.proofs.Common.{◌≡◌, Bool, true, inl, inr, refl, ap}
 use Rattle.std.specs.Prelude.{◌||◌}
 use Rattle.std.specs.Cmp.{IsTotalOrder}
@@ -9,7 +9,7 @@ use Rattle.std.proofs.lemmas.Bool.{and_parts, and_from, or_cases, or_left, or_ri
 use Rattle.dap_order.specs.Swaps.{AreSwaps, BothWays}
 use Rattle.dap_order.specs.Labels.{labelled_swaps}
 
--- a is less than b by this comparison
+-- a is less than b by this comparison.
 abbrev pub less_by : {L : Type 0} → (L → L → Ordering) → L → L → Bool
 less_by cmp a b = is_lt (cmp a b)
 

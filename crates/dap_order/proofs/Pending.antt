@@ -1,4 +1,4 @@
--- The places that are not written, in ascending order.
+-- The places that have not been written, in ascending order.
 use Rattle.std.proofs.Common.{◌≡◌, ℕ, zero, suc, ◌+◌, ◌<◌, Bool, true, false, List, [], ◌∷◌, ◌++◌}
 use Rattle.std.proofs.Common.{length, set, replicate, refl, arith, sym, ap, subst}
 use Rattle.std.specs.List.{range_with_len}
@@ -8,7 +8,7 @@ use Rattle.dap_order.specs.Swaps.{Swaps}
 use Rattle.dap_order.specs.Order.{all_free}
 use Rattle.dap_order.specs.Progress.{is_written}
 
--- the places that are not written, if the list begins with the place `at`
+-- The places that have not been written, if the list starts with the place `at`.
 abbrev pub pending_from : ℕ → List Bool → List ℕ
 pending_from at [] = []
 pending_from at (true ∷ w) = pending_from (at + 1) w
@@ -22,8 +22,8 @@ pending-none at zero = refl
 pending-none at (suc n) = ap (λ xs. at ∷ xs) (pending-none (at + 1) n)
 
 module _ (s : Swaps ℕ) where
-  -- A place that is not written is pending between two parts. It is free with the first one, and
-  -- without it the two parts are pending.
+  -- A place that has not been written is pending between two parts. It is free with the first part,
+  -- and without it both parts are pending.
   pub record Between (at : ℕ) (w : List Bool) (i place : ℕ) : Type 0 where
     pub front : List ℕ
     pub back : List ℕ
@@ -76,7 +76,7 @@ module _ (s : Swaps ℕ) where
       (between w (at + 1) i place (omega arith) (omega arith) unwritten
       (λ k other f h u. free (suc k) other (omega arith) (omega arith) u))
 
-  -- A place is not written, and is free with all places before it that are not written.
+  -- A place has not been written, and is free with all earlier places that have not been written.
   pub record IsNext (at : ℕ) (w : List Bool) (place : ℕ) : Type 0 where
     pub index : ℕ
     pub is : place ≡ at + index
@@ -134,7 +134,7 @@ module _ (s : Swaps ℕ) where
           subst (λ y. s.free place y ≡ true) same here
       later rest here (suc k) other f h u = rest.free k other (omega arith) (omega arith) u
 
--- Fewer places are pending after one is written.
+-- After a place is written, fewer places are pending.
 pub pending_fewer : (w : List Bool) (place : ℕ) → place < length w → is_written w place ≡ false
     → length (pending (set w place true)) < length (pending w)
 pending_fewer w place low unwritten =

@@ -1,4 +1,4 @@
--- The labels of answers have the order of the places of the items that they answer.
+-- The labels of answers are ordered in the same way as the places of the items that they answer.
 use Rattle.std.proofs.Common.{◌≡◌, ℕ, suc, zero, ◌<◌, Bool, true, false, ◌&&◌, inl, inr, List, []}
 use Rattle.std.proofs.Common.{◌∷◌, ◌++◌, length, map, take, Option, Some, None, refl, sym, ap, ◌∙◌}
 use Rattle.std.proofs.Common.{subst, arith, ◌⊎◌}
@@ -66,7 +66,7 @@ module _ {X : Type 0} (p : X → Bool) where
             )
       ]
 
-  -- Of two items that pass, the one with fewer such items before it is earlier.
+  -- If two items pass, the one with fewer passing items before it is earlier.
   count_order : (xs : List X) (i j : ℕ) (x y : X) → slice_get xs i ≡ Some x
       → slice_get xs j ≡ Some y → p x ≡ true → p y ≡ true
       → nat_lt (length (filter p (take i xs))) (length (filter p (take j xs))) ≡ nat_lt i j

@@ -1,4 +1,4 @@
--- Places that are written by a plan, the ready one with the least key first, are in order.
+-- Places written by a plan, always the ready one with the smallest key next, are in order.
 use Rattle.std.proofs.Common.{◌≡◌, ◌≢◌, ℕ, ◌<◌, ◌≤◌, Bool, true, false, List, [], ◌∷◌, ◌++◌}
 use Rattle.std.proofs.Common.{length, get_or, set, replicate, refl, inl, inr, arith, eqb}
 use Rattle.std.proofs.Common.{sym, ap, ◌∙◌, subst}
@@ -41,7 +41,7 @@ module _ (plan : Plan) where
     ]
   ]
 
-  -- Each place stays listed after one is written and its followers were considered.
+  -- Each place remains listed after one is written and its followers are considered.
   pub listed_after : (links : Links) → AreLinks plan links → (old mid new : Progress) (place : ℕ)
       → Wrote plan old mid place → ConsideredFollowers plan links mid new place
       → (other : ℕ) → other < place_count plan → IsListed plan links old other
@@ -93,12 +93,12 @@ module _ (plan : Plan) where
       ]
 
   module _ (s : Swaps ℕ) where
-    -- If a place is written, all earlier places are that are not free with it.
+    -- If a place has been written, so have all earlier places that are not free with it.
     abbrev pub IsClosed : List Bool → Type 0
     IsClosed w = (i j : ℕ) → i < j → j < place_count plan → is_written w j ≡ true
         → s.free i j ≡ false → is_written w i ≡ true
 
-    -- The order is the places that were output, and then the order of those that are pending.
+    -- The order consists of the places already returned, followed by the order of the pending ones.
     pub record Goes (places : List ℕ) (w : List Bool) : Type 0 where
       pub closed : IsClosed w
       pub sum : places ++ order s (pending w) ≡ order s (range_with_len 0 (place_count plan))
@@ -108,7 +108,7 @@ module _ (plan : Plan) where
     not_free i j bound =
         false_from_ne_true (s.free j i) (λ f. both_ways (s.free i j) bound (are.both_ways j i f))
 
-    -- A place that is free with all places before it that are not written is ready.
+    -- A place that is free with all earlier places that have not been written is ready.
     ready_from_free : (w : List Bool) (place : ℕ) → place < place_count plan
         → is_written w place ≡ false
         → ((k : ℕ) → k < place → is_written w k ≡ false → s.free place k ≡ true)
@@ -128,7 +128,7 @@ module _ (plan : Plan) where
             true_from_ne_false (is_written w i)
             (λ u. both_ways (s.free place i) (not_free i place bound) (free i h u))
 
-    -- A ready place is free with all places before it that are not written.
+    -- A ready place is free with all earlier places that have not been written.
     free_from_ready : (w : List Bool) (place : ℕ) → IsClosed s w → IsReadyPlace plan w place
         → (k : ℕ) → k < place → is_written w k ≡ false → s.free place k ≡ true
     free_from_ready w place closed ready k h unwritten =
@@ -240,7 +240,7 @@ module _ (plan : Plan) where
             (are_links.ranks.at_rank y has.0)
             (wrote.least (get_or links.ranks.items y 0) has.1) less
 
-    -- If no place is ready, all places were output.
+    -- If no place is ready, all places have been returned.
     pub goes_all : (links : Links) (old : Progress) (places : List ℕ)
         → Goes s places old.written.items → length old.written.items ≡ place_count plan
         → ((group : ℕ) → group < length plan.blocks.items → IsReleased plan old group)

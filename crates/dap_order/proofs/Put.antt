@@ -1,4 +1,4 @@
--- Tests of an item against a list, and the place where it is put.
+-- Tests of an item against a list, and the place at which it is inserted.
 use Rattle.std.proofs.Common.{◌≡◌, true, false, inl, inr, List, [], ◌∷◌, ◌++◌, refl}
 use Rattle.std.proofs.Common.{sym, ap, ◌∙◌, subst}
 use Rattle.std.specs.Prelude.{◌&&◌}
@@ -49,7 +49,7 @@ module _ {X : Type 0} (s : Swaps X) where
   goes_from x y ys f g l =
       and_from (all_free s x (y ∷ ys)) (s.less x y) (and_from (s.free x y) (all_free s x ys) f g) l
 
-  -- An item is put between two parts, and is free with the second one.
+  -- An item is inserted between two parts, and is free with the second one.
   pub record PutBetween (ys : List X) (x : X) : Type 0 where
     pub front : List X
     pub back : List X
@@ -76,7 +76,7 @@ module _ {X : Type 0} (s : Swaps X) where
     })
   ]
 
-  -- An item is free with a list after a free item is put in if and only if it was before.
+  -- An item is free with a list after a free item is inserted if and only if it was before.
   pub free-put : (x y : X) (ys : List X) → s.free x y ≡ true
       → all_free s x (put s ys y) ≡ all_free s x ys
   free-put x y [] f = ap (λ b. b && true) f
@@ -87,7 +87,7 @@ module _ {X : Type 0} (s : Swaps X) where
         ∙ ap (λ b. s.free x z && b) (free-put x y zs f)
   ]
 
--- Two items of a list: the second is earlier, or the same, or later.
+-- Two occurrences in a list: the second one is earlier than the first, the same, or later.
 pub data TwoCuts {X : Type 0} (a : List X) (x : X) (b c : List X) (y : X)
     (d : List X) : Type 0 where
   item_earlier : (m : List X) → a ≡ c ++ y ∷ m → d ≡ m ++ x ∷ b → TwoCuts a x b c y d

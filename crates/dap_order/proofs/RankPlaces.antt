@@ -92,7 +92,7 @@ module _ (plan : Plan) (well : IsWellFormed plan) where
         is = get_or_default plan.by_key.items found.0 0 place found.1 ∙ found.2;
       }
 
-  -- One more place is given its rank.
+  -- One more place receives its rank.
   pub rank_found : (ranks : List ℕ) (rank place : ℕ) → rank < place_count plan
       → place_at_rank plan rank ≡ place → length ranks ≡ place_count plan
       → ((r : ℕ) → r < rank → get_or ranks (place_at_rank plan r) 0 ≡ r)

@@ -1,4 +1,4 @@
--- The set of ranks after one is removed, and what is written after a place is.
+-- The set of ranks after one is removed, and the written places after one more is written.
 use Rattle.std.proofs.Common.{◌≡◌, ◌≢◌, ℕ, Bool, true, false, List, length, get_or}
 use Rattle.std.proofs.Common.{set, refl, inl, inr, sym, ap, ◌∙◌, subst}
 use Rattle.std.specs.BTreeSet.{BTreeSet, contains, Updates}
@@ -44,7 +44,7 @@ module _ (old new : BTreeSet ℕ) (k : ℕ) where
       u.0 q ∙ cond-false (is_at (nat_cmp k) q) false (contains nat_cmp old q)
       (at_another k q apart) ∙ h
 
--- What is written stays so after a place is written.
+-- A written place remains written after another one is written.
 pub stays_written : (w : List Bool) (p i : ℕ) → is_written w i ≡ true
     → is_written (set w p true) i ≡ true
 stays_written w p i h = elim (cases_eq i p) [

@@ -1,4 +1,4 @@
--- What holds of places after another one is written, and what holds of a group that is released.
+-- Properties of places after another one is written, and of a group that is released.
 use Rattle.std.proofs.Common.{◌≡◌, ◌≢◌, ℕ, ◌-◌, ◌<◌, Bool, true, false, List}
 use Rattle.std.proofs.Common.{get_or, set, inl, inr, arith, sym, ◌∙◌, subst}
 use Rattle.std.specs.Prelude.{nat_lt, not, ◌&&◌}
@@ -29,7 +29,7 @@ module _ (plan : Plan) where
         stays_written w p (get_or (followed_by plan place) k d) (was.followed k d h);
   }
 
-  -- A place stays listed if nothing is removed from the set, and nothing is written or released.
+  -- A place remains listed if nothing is removed from the set, and nothing is written or released.
   pub listed_stays : (links : Links) (old new : Progress) (place : ℕ)
       → new.written.items ≡ old.written.items → new.released.items ≡ old.released.items
       → ((rank : ℕ) → HasRank old.ready rank → HasRank new.ready rank)
@@ -40,7 +40,7 @@ module _ (plan : Plan) where
       (subst (λ v. place < get_or v (group_of plan place) 0) r low)
       (subst (λ v. All (λ a. get_or v a false ≡ true) (followed_by plan place)) w followed))
 
-  -- A group is released if the place that is held is the next one.
+  -- A group is released if its next place is held.
   pub released_held : (p : Progress) (group place : ℕ) → get_or p.released.items group 0 ≡ place
       → is_held plan p.written.items group place ≡ true → IsReleased plan p group
   released_held p group place next held =

@@ -1,4 +1,4 @@
--- The steps of a loop that puts the items of a list in their places, one after the other.
+-- The steps of a loop that inserts the items of a list, one after the other.
 use Rattle.std.proofs.Common.{◌≡◌, ℕ, ◌+◌, ◌-◌, ◌<◌, ◌≤◌, List, [], ◌∷◌, ◌++◌, length, take, drop}
 use Rattle.std.proofs.Common.{get_or, refl, sym, ap, ◌∙◌, arith}
 use Rattle.std.specs.List.{insert, between}
@@ -17,7 +17,7 @@ use Rattle.dap_order.proofs.Unique.{put_all-append}
 use Rattle.dap_order.proofs.Kept.{reordered_permutation}
 
 module _ {X : Type 0} where
-  -- The item x moves from `at` to `place`, and the items between move by one.
+  -- The item x moves from `at` to `place`, and the items in between move by one.
   turned : (xs : List X) (x : X) (at place : ℕ) → place ≤ at → at < length xs
       → x ≡ get_or xs at x → (ys : List X)
       → ys ≡ drop (length (between place (at + 1) xs) - 1) (between place (at + 1) xs)

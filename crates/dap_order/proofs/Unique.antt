@@ -15,15 +15,14 @@ module _ {X : Type 0} (s : Swaps X) (are : AreSwaps s) where
       → goes_before s x y (put s ys z) ≡ goes_before s x y ys
   goes-put x y z ys f = ap (λ b. (s.free x y && b) && s.less x y) (free-put s x z ys f)
 
-  -- Two free items a and b, of which a has the smaller key, can be put in their places in either
-  -- sequence.
+  -- Two free items a and b, of which a has the smaller key, can be inserted in either order.
   module _ (a b : X) (free : s.free a b ≡ true) (below : s.less a b ≡ true) where
     not_before : (ys : List X) → goes_before s b a ys ≡ false
     not_before ys = and_right (all_free s b (a ∷ ys)) (s.less b a)
         (false_from_ne_true (s.less b a)
         (λ above. are.less_itself a (are.less_on a b a below above)))
 
-    -- if a goes before y
+    -- If a goes before y.
     first_here : (y : X) (ys : List X) → goes_before s a y ys ≡ true
         → put s (put s (y ∷ ys) b) a ≡ a ∷ put s (y ∷ ys) b
     first_here y ys here = elim (cases_Bool (goes_before s b y ys)) [
@@ -44,7 +43,7 @@ module _ {X : Type 0} (s : Swaps X) (are : AreSwaps s) where
           )
     ]
 
-    -- if a goes after y, and b before y
+    -- If a goes after y, and b before y.
     second_here : (y : X) (ys : List X) → goes_before s a y ys ≡ false
         → goes_before s b y ys ≡ true
         → put s (put s (y ∷ ys) a) b ≡ put s (put s (y ∷ ys) b) a
@@ -84,7 +83,7 @@ module _ {X : Type 0} (s : Swaps X) (are : AreSwaps s) where
       ]
     ]
 
-  -- Two free items can be put in their places in either sequence.
+  -- Two free items can be inserted in either order.
   pub put_either_way : (a b : X) (ys : List X) → s.free a b ≡ true
       → put s (put s ys a) b ≡ put s (put s ys b) a
   put_either_way a b ys free = elim (are.apart a b free) [

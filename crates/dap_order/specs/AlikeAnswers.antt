@@ -1,13 +1,13 @@
--- Two kinds of items with the same freeness, whose classes correspond, and which answer
+-- Two kinds of items with the same freeness, whose classes correspond, and whose items answer
 -- corresponding items.
 use Rattle.std.specs.Prelude.{◌≡◌, true, ◌⊎◌, List, ◌≢◌, []}
 use Rattle.dap_order.specs.Classes.{numbers}
 use Rattle.dap_order.specs.Answers.{Answers, answering}
 use Rattle.dap_order.specs.Answering.{answered}
 
--- `AlikeClass` relates classes such that equal ones correspond to equal ones. `InOrder` relates
--- classes that have the same order. The class of an item that is answered, or that is plain, is
--- related by both.
+-- `AlikeClass` relates classes so that equal ones correspond to equal ones. `InOrder` relates
+-- classes that have the same order. Both relate the class of an item that is answered, or that is
+-- plain.
 pub record HaveAlikeClasses {X Y C D : Type 0} (s : Answers X C) (t : Answers Y D)
     (Alike : X → Y → Type 0) (AlikeClass InOrder : C → D → Type 0) (IsPlain : X → Type 0)
     : Type 0 where

@@ -1,10 +1,11 @@
--- Labels of items that answer earlier items: they are made from the labels of the answered items.
+-- Labels of items that answer earlier items. They are computed from the labels of the answered
+-- items.
 use Rattle.std.specs.Prelude.{◌≡◌, Bool, true, false, ◌⊎◌, List, map}
 use Rattle.std.specs.List.{filter}
 use Rattle.dap_order.specs.Swaps.{NoneFree}
 use Rattle.dap_order.specs.Labels.{Labels, label}
 
--- `answered_by x y`: y answers x. `key` makes the label of an item from the labels of the items
+-- `answered_by x y`: y answers x. `key` computes the label of an item from the labels of the items
 -- that it answers and from its own label; `less` is the order of these labels.
 pub record Answering (X L K : Type 0) : Type 0 where
   pub answered_by : X → X → Bool
@@ -12,7 +13,7 @@ pub record Answering (X L K : Type 0) : Type 0 where
   pub less : K → K → Bool
 
 module _ {X L K : Type 0} (s : Labels X L) (a : Answering X L K) where
-  -- the labels of the earlier items that x answers, in order
+  -- The labels of the earlier items that x answers, in order.
   abbrev pub answered : List X → X → List L
   answered before x = map (λ y. y.label) (filter (λ y. a.answered_by y.item x) (label s before))
 

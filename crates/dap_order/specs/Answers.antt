@@ -1,5 +1,5 @@
 -- Labels that count the items of each class, except that an answer has the number of the first item
--- that it answers. Answers come before all other items.
+-- that it answers. Answers precede all other items.
 use Rattle.std.specs.Prelude.{◌≡◌, ℕ, Bool, true, false, ◌⊎◌, List, [], ◌∷◌}
 use Rattle.std.proofs.Common.{inl, inr}
 use Rattle.dap_order.specs.Swaps.{NoneFree}
@@ -12,8 +12,8 @@ pub record Answers (X C : Type 0) : Type 0 where
   pub classes : Classes X C
   pub answered_by : X → X → Bool
 
--- No answer is free with an item that it answers, no two items that it answers are free with each
--- other, and no two answers to one item are.
+-- No answer is free with an item that it answers. No two items that it answers are free with each
+-- other, and neither are two answers to the same item.
 pub record AreAnswers {X C : Type 0} (s : Answers X C) : Type 0 where
   pub are_classes : AreClasses s.classes
   pub not_free : (x y : X) → s.answered_by x y ≡ true → s.classes.free x y ≡ false
@@ -22,12 +22,13 @@ pub record AreAnswers {X C : Type 0} (s : Answers X C) : Type 0 where
       → s.answered_by z y ≡ true → ⊥
 
 module _ {X C : Type 0} (s : Answers X C) where
-  -- the number of the first answered item; of an item that answers no other, its own number
+  -- The number of the first answered item, or for an item that answers no other item, its own
+  -- number.
   abbrev pub answer_key : X → List (C × ℕ) → C × ℕ → (C × ℕ) ⊎ (C × ℕ)
   answer_key x [] own = inr own
   answer_key x (answered ∷ more) own = inl answered
 
-  -- answers first
+  -- Answers come first.
   abbrev pub less_key : (C × ℕ) ⊎ (C × ℕ) → (C × ℕ) ⊎ (C × ℕ) → Bool
   less_key (inl a) (inl b) = less_number s.classes a b
   less_key (inl a) (inr b) = true

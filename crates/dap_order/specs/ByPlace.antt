@@ -1,33 +1,33 @@
--- The places of a list, ordered as its items are.
+-- The places of a list, ordered in the same way as its items.
 use Rattle.std.specs.Prelude.{ℕ, suc, Bool, true, false, cond, ◌&&◌, ◌||◌, List, [], ◌∷◌}
 use Rattle.std.specs.Prelude.{◌++◌, Option, Some, None, nat_lt, option_map, slice_get}
 use Rattle.dap_order.specs.Swaps.{Swaps}
 use Rattle.dap_order.specs.Answers.{Answers}
 
--- There are two items, and they pass the test.
+-- Both items exist and pass the test.
 abbrev pub passes_both : {X : Type 0} → (X → X → Bool) → Option X → Option X → Bool
 passes_both p None y = false
 passes_both p (Some x) None = false
 passes_both p (Some x) (Some y) = p x y
 
--- Two places of a list are free, or less, if the items there are.
+-- Two places of a list are free, or ordered, if the items at these places are.
 abbrev pub by_place : {X : Type 0} → Swaps X → List X → Swaps ℕ
 by_place s xs = record {
   free = λ i j. passes_both s.free (slice_get xs i) (slice_get xs j);
   less = λ i j. passes_both s.less (slice_get xs i) (slice_get xs j);
 }
 
--- the place of the first item that passes the test
+-- The place of the first item that passes the test.
 abbrev pub first_place : {X : Type 0} → (X → Bool) → List X → Option ℕ
 first_place p [] = None
 first_place p (x ∷ xs) = cond (p x) (Some 0) (option_map suc (first_place p xs))
 
 module _ {X C : Type 0} (s : Answers X C) where
-  -- the place of the first item before that x answers
+  -- The place of the first item in `before` that x answers.
   abbrev pub place_answered : List X → X → Option ℕ
   place_answered before x = first_place (λ y. s.answered_by y x) before
 
-  -- these places for each item of the second list, where the first list is before it
+  -- These places for each item of the second list, which follows the first list.
   abbrev pub places_answered_after : List X → List X → List (Option ℕ)
   places_answered_after before [] = []
   places_answered_after before (x ∷ xs) =
@@ -36,8 +36,8 @@ module _ {X C : Type 0} (s : Answers X C) where
   abbrev pub places_answered : List X → List (Option ℕ)
   places_answered xs = places_answered_after [] xs
 
-  -- The order of the labels of answers, for items x at i and y at j of one list, by places: the
-  -- other two numbers are the places of the items that they answer.
+  -- The order of the labels of answers, for items x at i and y at j of one list, by places. The two
+  -- optional numbers are the places of the items that x and y answer.
   abbrev pub less_by_place : X → ℕ → Option ℕ → X → ℕ → Option ℕ → Bool
   less_by_place x i None y j None =
       s.classes.less (s.classes.class x) (s.classes.class y)

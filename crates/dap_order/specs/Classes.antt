@@ -1,4 +1,4 @@
--- Labels that count: the class of an item, and the number of items of that class before it.
+-- Labels that count: the class of an item, and the number of earlier items of that class.
 use Rattle.std.specs.Prelude.{◌≡◌, ℕ, Bool, true, false, ◌&&◌, ◌||◌, ◌⊎◌, List, length, nat_lt}
 use Rattle.std.specs.List.{filter}
 use Rattle.dap_order.specs.Swaps.{BothWays}
@@ -12,8 +12,8 @@ pub record Classes (X C : Type 0) : Type 0 where
   pub same : C → C → Bool
   pub less : C → C → Bool
 
--- Items of one class are not free with each other; `same` is symmetric and transitive; `less` is a
--- strict order of the classes that agrees with `same`.
+-- Items of the same class are not free with each other; `same` is symmetric and transitive; `less`
+-- is a strict order of the classes that agrees with `same`.
 pub record AreClasses {X C : Type 0} (s : Classes X C) : Type 0 where
   pub both_ways : BothWays s.free
   pub two_classes : (x y : X) → s.free x y ≡ true → s.same (s.class x) (s.class y) ≡ false
@@ -26,15 +26,15 @@ pub record AreClasses {X C : Type 0} (s : Classes X C) : Type 0 where
   pub some_less : (a b : C) → s.same a b ≡ false → (s.less a b ≡ true) ⊎ (s.less b a ≡ true)
 
 module _ {X C : Type 0} (s : Classes X C) where
-  -- The item is of this class.
+  -- The item belongs to this class.
   abbrev pub is_of : C → X → Bool
   is_of c x = s.same (s.class x) c
 
-  -- the class, and the number of items of this class before
+  -- The class, and the number of items of this class in `before`.
   abbrev pub number : List X → X → C × ℕ
   number before x = (s.class x, length (filter (is_of (s.class x)) before))
 
-  -- by class, and within a class by number
+  -- First by class, then by number.
   abbrev pub less_number : C × ℕ → C × ℕ → Bool
   less_number a b = s.less a.0 b.0 || (s.same a.0 b.0 && nat_lt a.1 b.1)
 

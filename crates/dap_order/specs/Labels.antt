@@ -1,5 +1,5 @@
--- Items whose keys depend on the items before them: the labels. No swap changes a label, so the
--- order by labels is well defined for lists up to swaps.
+-- Labels: keys of items that depend on the items before them. No swap changes a label, so the order
+-- by labels is well defined for lists up to swaps.
 use Rattle.std.specs.Prelude.{◌≡◌, Bool, true, ◌&&◌, ◌||◌, ◌⊎◌, List, [], ◌∷◌, ◌++◌, map}
 use Rattle.dap_order.specs.Swaps.{BothWays, Swaps}
 use Rattle.dap_order.specs.Order.{order}
@@ -39,7 +39,7 @@ pub record AreLabels {X L : Type 0} (s : Labels X L) : Type 0 where
       → s.label_of (before ++ x ∷ y ∷ between) z ≡ s.label_of (before ++ y ∷ x ∷ between) z
 
 module _ {X L : Type 0} (s : Labels X L) where
-  -- the second list with the labels that its items have after the first
+  -- The second list with the labels that its items have after the first.
   abbrev pub label_after : List X → List X → List (Labelled X L)
   label_after before [] = []
   label_after before (x ∷ xs) =
@@ -48,14 +48,14 @@ module _ {X L : Type 0} (s : Labels X L) where
   abbrev pub label : List X → List (Labelled X L)
   label xs = label_after [] xs
 
-  -- the swaps of the items with their labels
+  -- The swaps of the items with their labels.
   abbrev pub by_label : Swaps (Labelled X L)
   by_label = labelled_swaps s.free s.less
 
-  -- the items without their labels
+  -- The items without their labels.
   abbrev pub items_of : List (Labelled X L) → List X
   items_of = map (λ x. x.item)
 
-  -- the items in the order of their labels
+  -- The items in the order of their labels.
   abbrev pub order_by_label : List X → List X
   order_by_label xs = items_of (order by_label (label xs))

@@ -1,4 +1,4 @@
--- The laws that the functions of `laws` state.
+-- The statements of the functions in `laws`.
 use Rattle.std.specs.Prelude.{◌≡◌, ◌↔◌, Bool, true, List, ◌∷◌, ◌++◌, map}
 use Rattle.std.specs.List.{filter}
 use Rattle.std.specs.List.Sorted.{IsPermutation}
@@ -31,16 +31,16 @@ module _ {X : Type 0} (s : Swaps X) where
   abbrev pub OneOrdered : Type 0
   OneOrdered = (xs ys : List X) → Reordered s.free xs ys → IsOrdered s xs → IsOrdered s ys → xs ≡ ys
 
-  -- Swaps keep the items.
+  -- Swaps preserve the items.
   abbrev pub ItemsStay : Type 0
   ItemsStay = (xs ys : List X) → Reordered s.free xs ys → IsPermutation xs ys
 
-  -- Swaps keep the sequence of chosen items if no two of these are free with each other.
+  -- Swaps preserve the sequence of chosen items if no two of them are free with each other.
   abbrev pub PlacesStay : Type 0
   PlacesStay = (chosen : X → Bool) → NoneFree s.free chosen → (xs ys : List X)
       → Reordered s.free xs ys → filter chosen xs ≡ filter chosen ys
 
-  -- The order begins with the least ready item, and continues with the order of the other items.
+  -- The order starts with the least ready item, and continues with the order of the other items.
   abbrev pub OrderBegins : Type 0
   OrderBegins = (x : X) (front back : List X) → all_free s x front ≡ true
       → IsLeast s x (front ++ x ∷ back)
@@ -51,7 +51,7 @@ module _ {X : Type 0} (s : Swaps X) where
   OrderParts = (b : X) → IsBarrier s.free b → (xs ys : List X)
       → order s (xs ++ b ∷ ys) ≡ order s xs ++ b ∷ order s ys
 
--- A map that keeps freeness and the order of keys may be applied before or after the ordering.
+-- A map that preserves freeness and the order of keys can be applied before or after the ordering.
 abbrev pub OrderOfMap : {X Y : Type 0} → Swaps X → Swaps Y → Type 0
 OrderOfMap {X = X} {Y = Y} s t = (f : X → Y) → ((x y : X) → s.free x y ≡ t.free (f x) (f y))
     → ((x y : X) → s.less x y ≡ t.less (f x) (f y)) → (xs : List X)

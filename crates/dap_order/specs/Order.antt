@@ -1,5 +1,5 @@
 -- The list in order among all lists that swaps of free neighbours lead to: the lexicographic normal
--- form of a trace.
+-- form of a trace (Mazurkiewicz).
 use Rattle.std.specs.Prelude.{◌≡◌, ℕ, ◌+◌, Bool, true, cond, ◌&&◌, List, [], ◌∷◌, ◌++◌, take, drop}
 use Rattle.dap_order.specs.Swaps.{Swaps}
 
@@ -16,25 +16,26 @@ module _ {X : Type 0} (s : Swaps X) where
         → xs ≡ front ++ x ∷ (between ++ y ∷ back) → all_free y (x ∷ between) ≡ true
         → s.less y x ≡ true → ⊥
 
-  -- The new item x goes before y, where y and ys end the list.
+  -- The new item x goes before y, where y followed by ys is the end of the list.
   abbrev pub goes_before : X → X → List X → Bool
   goes_before x y ys = all_free x (y ∷ ys) && s.less x y
 
-  -- The list with a new item put in its place: it passes the items at the end that it is free with,
-  -- up to the first of them that has a greater key; if none of them has a greater key, it is last.
+  -- The list with a new item inserted. The item moves from the end past the items that it is free
+  -- with. It is inserted before the first of them that has a greater key, or at the end if none of
+  -- them has a greater key.
   abbrev pub put : List X → X → List X
   put [] x = x ∷ []
   put (y ∷ ys) x = cond (goes_before x y ys) (x ∷ y ∷ ys) (y ∷ put ys x)
 
-  -- The list `done` with each of these items put in its place, one after the other.
+  -- The list `done` with these items inserted, one after the other.
   abbrev pub put_all : List X → List X → List X
   put_all done [] = done
   put_all done (x ∷ xs) = put_all (put done x) xs
 
-  -- the items in order
+  -- The items in order.
   abbrev pub order : List X → List X
   order xs = put_all [] xs
 
-  -- The list after its item at this place is put in its place among the items before it.
+  -- The list after the item at this place is moved to its place among the items before it.
   abbrev pub put_at : List X → ℕ → List X
   put_at xs at = put_all (take at xs) (take 1 (drop at xs)) ++ drop (at + 1) xs

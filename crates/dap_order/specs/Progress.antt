@@ -1,4 +1,4 @@
--- What is known while the places of a plan are written one after the other, for private clauses.
+-- The state while the places of a plan are written one after the other, for private clauses.
 use Rattle.std.specs.Prelude.{◌≡◌, ◌≢◌, ℕ, ◌+◌, ◌<◌, ◌≤◌, Bool, true, false, ◌⊎◌, List, [], length}
 use Rattle.std.specs.Prelude.{slice_index, nat_lt, ◌-◌, ◌&&◌, not, replicate}
 use Rattle.std.specs.List.{All, AllWithin, slice_index_or, slice_set}
@@ -11,15 +11,15 @@ use Rattle.dap_order.specs.declared.plan.Plan.{Plan}
 use Rattle.dap_order.specs.declared.links.Links.{Links}
 use Rattle.dap_order.specs.declared.progress.Progress.{Progress}
 
--- The place is written.
+-- The place has been written.
 abbrev pub is_written : List Bool → ℕ → Bool
 is_written written place = slice_index_or written place false
 
--- The set has the rank.
+-- The set contains the rank.
 abbrev pub HasRank : BTreeSet ℕ → ℕ → Type 0
 HasRank ready rank = contains nat_cmp ready rank ≡ true
 
--- The set has no rank.
+-- The set is empty.
 abbrev pub HasNoRank : BTreeSet ℕ → Type 0
 HasNoRank ready = (rank : ℕ) → HasRank ready rank → ⊥
 
@@ -29,25 +29,26 @@ module _ (plan : Plan) where
   blocks_group place group =
       slice_index_or (slice_index_or (block_rows plan) (group_of plan place) []) group false
 
-  -- All places before this one whose group blocks this group are written.
+  -- All places before this one whose group blocks this group have been written.
   abbrev pub IsUnblocked : List Bool → ℕ → ℕ → Type 0
   IsUnblocked written group place = (i : ℕ) → i < place → blocks_group i group ≡ true
       → is_written written i ≡ true
 
-  -- The group of the place right before this one blocks this group, and that place is not written.
+  -- The group of the place immediately before this one blocks this group, and that place has not
+  -- been written.
   abbrev pub is_held : List Bool → ℕ → ℕ → Bool
   is_held written group place = nat_lt 0 place
       && (blocks_group (place - 1) group && not (is_written written (place - 1)))
 
-  -- The place is not written, but all places are that it has to follow by the plan.
+  -- The place has not been written, but all places that it must follow by the plan have been.
   pub record IsReadyPlace (written : List Bool) (place : ℕ) : Type 0 where
     pub in_range : place < place_count plan
     pub not_written : is_written written place ≡ false
     pub unblocked : IsUnblocked written (group_of plan place) place
     pub followed : All (λ a. is_written written a ≡ true) (followed_by plan place)
 
-  -- `released` and `seen` count what is released and known to be written, though not all of it.
-  -- The ranks in `ready` are those of ready places.
+  -- `released` and `seen` are lower bounds: the counted places are released or written, but others
+  -- may be too. `ready` contains only ranks of ready places.
   pub record Stands (p : Progress) : Type 0 where
     pub written_len : length p.written.items ≡ place_count plan
     pub released_len : length p.released.items ≡ length plan.blocks.items
@@ -62,14 +63,14 @@ module _ (plan : Plan) where
     pub ready : (rank : ℕ) → HasRank p.ready rank
         → IsReadyPlace p.written.items (place_at_rank plan rank)
 
-  -- The places of the group from `released` on are blocked by a place that is not written.
+  -- The places of the group from `released` on are blocked by a place that has not been written.
   abbrev pub IsReleased : Progress → ℕ → Type 0
   IsReleased p group = (slice_index p.released.items group ≡ place_count plan)
       ⊎ ((i : ℕ) × (i + 1 ≡ slice_index p.released.items group) × (blocks_group i group ≡ true)
       × (is_written p.written.items i ≡ false))
 
-  -- If the place is not written but released, and its list in `after` is written, the set has its
-  -- rank.
+  -- If the place is released but not written, and its list in `after` has been written, the set
+  -- contains its rank.
   abbrev pub IsListed : Links → Progress → ℕ → Type 0
   IsListed links p place = is_written p.written.items place ≡ false
       → place < slice_index p.released.items (group_of plan place)
@@ -118,7 +119,7 @@ module _ (plan : Plan) where
     pub kept : (rank : ℕ) → HasRank old.ready rank → HasRank new.ready rank
     pub listed : All (IsListed links new) (entries_at (lists_of links.followers) place)
 
-  -- The ready place with the least rank was written, and this rank was removed.
+  -- The ready place with the smallest rank was written, and its rank was removed.
   pub record Wrote (old new : Progress) (place : ℕ) : Type 0 where
     pub stands : Stands new
     pub rank : ℕ
@@ -130,7 +131,7 @@ module _ (plan : Plan) where
     pub released : new.released.items ≡ old.released.items
     pub kept : (other : ℕ) → other ≢ rank → HasRank old.ready other → HasRank new.ready other
 
-  -- No place is written or released.
+  -- No place has been written or released.
   pub record StartsAt (p : Progress) : Type 0 where
     pub stands : Stands p
     pub written : p.written.items ≡ replicate (place_count plan) false

@@ -2,13 +2,13 @@
 -- called independent.
 use Rattle.std.specs.Prelude.{◌≡◌, Bool, true, false, ◌⊎◌, List, ◌∷◌, ◌++◌}
 
--- `free x y`: x and y may change places if they are neighbours.
+-- `free x y`: x and y may be swapped if they are neighbours.
 module _ {X : Type 0} (free : X → X → Bool) where
   -- Freeness is symmetric.
   abbrev pub BothWays : Type 0
   BothWays = (x y : X) → free x y ≡ true → free y x ≡ true
 
-  -- Two free neighbours have changed places.
+  -- Two free neighbours were swapped.
   pub record Swapped (xs ys : List X) : Type 0 where
     pub front : List X
     pub back : List X

@@ -10,9 +10,9 @@ use crate::plan::Plan;
 use crate::progress::Progress;
 use std::alloc::{AllocError, Global};
 
-/// Returns the places in order, as [`put_in_order`](crate::put_in_order) would put them.
+/// Returns the places in the order that [`put_in_order`](crate::put_in_order) produces.
 ///
-/// The time grows as n log n + n g + m for n places of g groups and m entries of `after`.
+/// The time is O(n log n + n g + m) for n places in g groups and m entries of `after`.
 ///
 /// # Errors
 ///

@@ -1,5 +1,5 @@
-//! Theorems on lists up to swaps and on their order. Each function does nothing: a call of it gives
-//! its clauses to a proof.
+//! Theorems about lists up to swaps and about their order. Each function is empty: calling it makes
+//! its clauses available to the caller's proof.
 ghost use Rattle.dap_order.specs.Swaps.{AreSwaps};
 ghost use Rattle.dap_order.specs.Laws.{OrderIsReordered, OrderIsOrdered, OneOrder, OrderedStays};
 ghost use Rattle.dap_order.specs.Laws.{OrderIsItsOwn, OneOrdered, ItemsStay, PlacesStay};
@@ -7,7 +7,8 @@ ghost use Rattle.dap_order.specs.Laws.{OrderOfMap, OrderBegins, OrderParts};
 
 use crate::order::SwapOrder;
 
-/// The order of a list is in order, and it is the only list in order that swaps lead to.
+/// States that the order of a list is in order, and that it is the only list in order that swaps
+/// lead to.
 pub fn one_order<T, S: SwapOrder<T>>()
     ensures reordered { (by : S) → AreSwaps (S.swaps by) → OrderIsReordered (S.swaps by) }
     ensures in_order { (by : S) → AreSwaps (S.swaps by) → OrderIsOrdered (S.swaps by) }
@@ -19,13 +20,15 @@ pub fn one_order<T, S: SwapOrder<T>>()
     ensures parts { (by : S) → AreSwaps (S.swaps by) → OrderParts (S.swaps by) }
 {}
 
-/// Swaps keep the items, and the sequence of those of which no two are free with each other.
+/// States that swaps preserve the items, and preserve the sequence of chosen items if no two of
+/// them are free with each other.
 pub fn swaps_keep<T, S: SwapOrder<T>>()
     ensures items { (by : S) → ItemsStay (S.swaps by) }
     ensures places { (by : S) → PlacesStay (S.swaps by) }
 {}
 
-/// A map that keeps freeness and the order of keys may be applied before or after the ordering.
+/// States that a map that preserves freeness and the order of keys can be applied before or after
+/// the ordering.
 pub fn order_of_map<T, U, S: SwapOrder<T>, R: SwapOrder<U>>()
     ensures { (by : S) (other : R) → OrderOfMap (S.swaps by) (R.swaps other) }
 {}

@@ -1,10 +1,11 @@
-//! Lists up to swaps of free neighbours, and the one list in order that such swaps lead to.
+//! Orders lists by swaps of free neighbours: such swaps lead to exactly one list that is in order.
 //!
-//! Which items are free with each other, and which item goes first, is a [`SwapOrder`]; this crate
-//! knows nothing else of the items. `specs/` defines the terms, and [`laws`] has the theorems.
+//! A [`SwapOrder`] decides which items are free with each other, and which item goes first. This
+//! crate knows nothing else about the items. `specs/` defines the terms, and [`laws`] contains the
+//! theorems.
 //!
-//! [`put_in_order`] compares the items in turn, which takes quadratic time. [`order_of_places`] is
-//! given a [`Plan`] of how the places of a list depend on each other, and is fast on any input.
+//! [`put_in_order`] compares pairs of items, which takes quadratic time. [`order_of_places`] uses a
+//! [`Plan`] of the dependences between the places of a list, and is fast on every input.
 #![tactic(auto)]
 
 mod by_plan;

@@ -1,4 +1,4 @@
-//! Two inverse lists of a plan.
+//! Computes two inverse lists of a plan.
 ghost use Rattle.std.specs.Prelude.{◌≡◌, ◌<◌, length, [], replicate, IfOk, OnOk};
 ghost use Rattle.std.specs.List.{All};
 ghost use Rattle.dap_order.specs.Plan.{IsWellFormed, place_count};
@@ -11,9 +11,9 @@ use std::alloc::{AllocError, Global};
 /// The rank of each place, and the places that follow each place.
 #[derive(Drop)]
 pub(crate) struct Links {
-    /// For each place its index in `by_key`.
+    /// The index of each place in `by_key`.
     pub(crate) ranks: Vec<usize>,
-    /// For each place the places whose list in `after` has it.
+    /// For each place, the places whose list in `after` contains it.
     pub(crate) followers: Vec<Vec<usize>>,
 }
 
@@ -29,7 +29,7 @@ fn ranks_of(alloc: Global, plan: &Plan) -> Result<Vec<usize>, AllocError>
     Ok(ranks)
 }
 
-/// Adds a place to the followers of each place of a list.
+/// Adds a place to the followers of each place in a list.
 fn add_follower(
     followers: &mut Vec<Vec<usize>>,
     after: &[usize],

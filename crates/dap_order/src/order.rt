@@ -4,11 +4,11 @@ ghost use Rattle.std.specs.List.{insert};
 ghost use Rattle.dap_order.specs.Swaps.{Swaps, AreSwaps, Reordered};
 ghost use Rattle.dap_order.specs.Order.{IsOrdered, put, put_at, order};
 
-/// Which items may change places with a neighbour, and which of two items goes first.
+/// Decides which items may be swapped with a neighbour, and which of two items goes first.
 pub trait SwapOrder<T> {
     ghost swaps: { Self → Swaps T };
 
-    /// Returns whether the two items may change places if they are neighbours.
+    /// Returns whether the two items may be swapped if they are neighbours.
     fn is_free(&self, x: &T, y: &T) -> bool
         ensures { result ≡ (swaps self.now).free x.now y.now };
 
@@ -17,7 +17,7 @@ pub trait SwapOrder<T> {
         ensures { result ≡ (swaps self.now).less x.now y.now };
 }
 
-/// Returns the place of `item` among `done`.
+/// Returns the index at which `item` is inserted into `done`.
 fn place_of<T, S: SwapOrder<T>>(by: &S, done: &[T], item: &T) -> usize
     ensures within { result ≤ length done.now }
     ensures place { put (S.swaps by.now) done.now item.now ≡ insert done.now result item.now }
@@ -37,7 +37,7 @@ fn place_of<T, S: SwapOrder<T>>(by: &S, done: &[T], item: &T) -> usize
     place
 }
 
-/// Puts the item at `at` in its place among the items before it.
+/// Moves the item at `at` to its place among the items before it.
 fn put_next<T, S: SwapOrder<T>>(by: &S, items: &mut [T], at: usize)
     requires { at < length items.old }
     ensures len { length items.new ≡ length items.old }
@@ -50,9 +50,9 @@ fn put_next<T, S: SwapOrder<T>>(by: &S, items: &mut [T], at: usize)
 
 /// Puts the items in order by swaps of free neighbours.
 ///
-/// Each item is compared with the items before it, from the nearest on, up to the first that is not
-/// free with it. So the time grows with the square of the length if all items are free with each
-/// other. Does not allocate.
+/// Compares each item with the items before it, starting from the nearest, up to the first one that
+/// is not free with it. The time is therefore quadratic if all items are free with each other. Does
+/// not allocate.
 pub fn put_in_order<T, S: SwapOrder<T>>(by: &S, items: &mut [T])
     // Freeness is symmetric, and the keys are strictly ordered and compare free items.
     requires { AreSwaps (S.swaps by.now) }

@@ -1,4 +1,4 @@
-//! Which places are written, and which may be written next.
+//! Tracks which places have been written, and which can be written next.
 ghost use Rattle.std.specs.Prelude.{◌≡◌, ◌≤◌, ◌<◌, true, false, length};
 ghost use Rattle.std.specs.Prelude.{IfOk, OnOk, MatchOption, slice_index};
 ghost use Rattle.std.specs.List.{All, AllWithin, HoldsAt};
@@ -14,22 +14,24 @@ use crate::plan::{Plan, blocks, followed_by};
 use std::alloc::{AllocError, Global};
 use std::collections::BTreeSet;
 
-/// What is known while the places of a plan are written one after the other.
+/// The state while the places of a plan are written one after the other.
 #[derive(Drop)]
 pub(crate) struct Progress {
-    /// Whether each place is written.
+    /// Whether each place has been written.
     written: Vec<bool>,
-    /// For each group the number of leading places of which those of the group are released: no
-    /// group blocks them any more.
+    /// For each group, the number of leading places whose members of the group are released: no
+    /// group blocks them any longer.
     released: Vec<usize>,
-    /// For each place the number of leading entries of its list in `after` known to be written.
-    seen: Vec<usize>,
-    /// The ranks of the places that are not written, but released, and whose list in `after` is
+    /// For each place, the number of leading entries of its list in `after` that are known to be
     /// written.
+    seen: Vec<usize>,
+    /// The ranks of the places that are released but not written, and whose list in `after` has
+    /// been written.
     ready: BTreeSet<usize>,
 }
 
-/// Returns the number of leading entries that are written, of which `from` are known.
+/// Returns the number of leading entries that have been written. The first `from` entries are known
+/// to be written.
 fn count_written(written: &[bool], after: &[usize], from: usize) -> usize
     requires in_range { All (λ a. a < length written.now) after.now }
     requires known { AllWithin (λ a. is_written written.now a ≡ true) after.now 0 from }
@@ -48,7 +50,7 @@ fn count_written(written: &[bool], after: &[usize], from: usize) -> usize
 }
 
 impl Progress {
-    /// Returns the progress before any place is written or released.
+    /// Returns the state before any place is written or released.
     pub(crate) fn new(alloc: Global, plan: &Plan) -> Result<Progress, AllocError>
         requires { IsWellFormed plan.now }
         ensures starts { IfOk result (StartsAt plan.now) }
@@ -65,7 +67,7 @@ impl Progress {
         })
     }
 
-    /// Adds the place to those that are ready, if it is.
+    /// Adds the place to `ready` if it is ready.
     fn consider(&mut self, plan: &Plan, links: &Links, place: usize) -> Result<(), AllocError>
         requires well_formed { IsWellFormed plan.now }
         requires links { AreLinks plan.now links.now }
@@ -85,7 +87,7 @@ impl Progress {
         Ok(())
     }
 
-    /// Returns whether a place of the group still has to follow the place before it.
+    /// Returns whether places of the group must still follow the place before this one.
     fn is_held(&self, plan: &Plan, group: usize, place: usize) -> bool
         requires well_formed { IsWellFormed plan.now }
         requires stands { Stands plan.now self.now }
@@ -151,7 +153,7 @@ impl Progress {
         Ok(())
     }
 
-    /// Writes the ready place with the least key, and returns it.
+    /// Writes the ready place with the smallest key, and returns it.
     pub(crate) fn write_next(&mut self, plan: &Plan) -> Option<usize>
         requires well_formed { IsWellFormed plan.now }
         requires stands { Stands plan.now self.old }
@@ -164,7 +166,7 @@ impl Progress {
         Some(place)
     }
 
-    /// Adds the places that are ready because this place is written.
+    /// Adds the places that are ready because this place was written.
     pub(crate) fn consider_followers(
         &mut self,
         plan: &Plan,

@@ -1,5 +1,5 @@
--- A class has as many distinct numbers in messages as in the same messages in another order, if the
--- whole recording is one numbering.
+-- With `Mode::Whole`, a class has the same number of distinct ids in messages and in the same
+-- messages in another order.
 use Rattle.std.proofs.Common.{◌≡◌, ℕ, ℤ, Bool, true, false, ◌||◌, List, [], ◌∷◌, ◌++◌, length, map}
 use Rattle.std.proofs.Common.{refl, sym, ◌∙◌, ap, subst, arith, append_assoc}
 use Rattle.std.specs.List.{list_any}
@@ -19,7 +19,7 @@ use Rattle.dap_rename.specs.Messages.{Class, HasFewIds, in_whole, numbers_of_cla
 use Rattle.dap_rename.specs.Messages.{occurrences, same_class}
 use Rattle.dap_order.specs.Swaps.{Reordered, unmoved, swapped}
 
--- ---- numbers added to a list of distinct ones
+-- ---- numbers added to a list of distinct numbers
 
 add_in : (t : List ℤ) (x : ℤ) → list_any (int_eq x) t ≡ true → add t x ≡ t
 add_in t x there = rw there refl
@@ -27,7 +27,7 @@ add_in t x there = rw there refl
 add_new : (t : List ℤ) (x : ℤ) → list_any (int_eq x) t ≡ false → add t x ≡ t ++ x ∷ []
 add_new t x none = rw none refl
 
--- Lists with the same elements stay so if one number is added to both.
+-- Lists with the same elements still have the same elements if one number is added to both.
 add_moved : (t s : List ℤ) (x : ℤ) → IsPermutation t s → IsPermutation (add t x) (add s x)
 add_moved t s x p =
     let same = list_any-IsPermutation (int_eq x) t s p in
@@ -45,17 +45,17 @@ all_moved t s (x ∷ xs) p = all_moved (add t x) (add s x) xs (add_moved t s x p
 same_lists : (t s : List ℤ) → t ≡ s → IsPermutation t s
 same_lists t s same = subst (IsPermutation t) same (IsPermutation-refl t)
 
--- A number that is in the list stays there.
+-- A number in the list remains in it.
 stays : (t : List ℤ) (x y : ℤ) → list_any (int_eq x) t ≡ true
     → list_any (int_eq x) (add t y) ≡ true
 stays t x y there = any-add x y t ∙ ap (λ b. b || int_eq x y) there
 
--- A number that is not in the list is not there after another one is added.
+-- A number that is not in the list is not in it after another number is added.
 still_new : (t : List ℤ) (x y : ℤ) → list_any (int_eq x) t ≡ false → int_eq x y ≡ false
     → list_any (int_eq x) (add t y) ≡ false
 still_new t x y none other = any-add x y t ∙ ap (λ b. b || int_eq x y) none ∙ other
 
--- Two numbers are added in either order.
+-- Two numbers can be added in either order.
 module _ (t : List ℤ) (x y : ℤ) where
   first_in : list_any (int_eq x) t ≡ true → IsPermutation (add (add t x) y) (add (add t y) x)
   first_in there =
@@ -95,7 +95,7 @@ module _ (t : List ℤ) (x y : ℤ) where
       (λ apart. by_bool (int_eq y x) (λ e. equal_numbers (sym ((Decides-int_eq y x).0 e)))
       (λ turned. both_new no_x no_y apart turned))))
 
--- A number passes others.
+-- A number can be added before or after other numbers.
 one_passes : (t xs : List ℤ) (y : ℤ)
     → IsPermutation (add_all (add t y) xs) (add (add_all t xs) y)
 one_passes t [] y = IsPermutation-refl (add t y)
@@ -105,7 +105,7 @@ one_passes t (x ∷ xs) y =
     (all_moved (add (add t y) x) (add (add t x) y) xs (two_added t y x))
     (one_passes (add t x) xs y)
 
--- Numbers pass others.
+-- Numbers can be added before or after other numbers.
 all_pass : (t xs ys : List ℤ)
     → IsPermutation (add_all (add_all t xs) ys) (add_all (add_all t ys) xs)
 all_pass t xs [] = IsPermutation-refl (add_all t xs)
@@ -119,7 +119,7 @@ all_pass t xs (y ∷ ys) =
 -- ---- the numbers of messages
 
 module _ (c : Class) where
-  -- the numbers of the class in one message
+  -- The numbers of the class in one message.
   abbrev own : Sent → List ℤ
   own m = numbers same_class c (map (occurrence 0) (ids m.doc))
 
@@ -137,7 +137,7 @@ module _ (c : Class) where
       (sym (numbers-append same_class c (map (occurrence 0) (ids m.doc))
       (occurrences in_whole 0 ms)))
 
-  -- the distinct numbers of the class with two neighbours
+  -- The distinct numbers of the class, with two neighbours separated.
   two_apart : (front back : List Sent) (x y : Sent)
       → add_all [] (all (front ++ x ∷ y ∷ back))
       ≡ add_all (add_all (add_all (add_all [] (all front)) (own x)) (own y)) (all back)
@@ -178,7 +178,7 @@ module _ (c : Class) where
       ∙ ap (λ l. length (numbers_of_class in_whole c l)) (sym one.before)
       ∙ reordered_count free ms us p
 
--- Messages in another order have as few ids.
+-- Messages in another order have few ids too.
 pub reordered_few : (free : Sent → Sent → Bool) (limit : Sort → ℕ) (ms ns : List Sent)
     → Reordered free ms ns → HasFewIds in_whole limit ms → HasFewIds in_whole limit ns
 reordered_few free limit ms ns p few c =

@@ -1,4 +1,4 @@
--- What ordering returns, of bytes in memory and of an input.
+-- The result of ordering bytes in memory and of ordering an input.
 use Rattle.std.proofs.Common.{◌≡◌, ◌⊎◌, inl, inr, ℕ, ◌+◌, List, length, Result, Ok, Err}
 use Rattle.std.proofs.Common.{refl, ap, subst, arith, length-append}
 use Rattle.std.specs.Prelude.{IfErr, IfOk, Vec}
@@ -51,7 +51,7 @@ module _ (limits : Limits) (mode : Mode) (rules : List SwapRule) (bytes : List �
     text_refused fits because is errors =
         inr (ms, accepted, inr (fits, is, errors because is))
 
-  -- ---- what no input is refused for
+  -- ---- errors that no input has
 
   not_a_device : (because : Refused)
       → (IsRefused (accepting limits mode) bytes because → ⊥)
@@ -63,7 +63,7 @@ module _ (limits : Limits) (mode : Mode) (rules : List SwapRule) (bytes : List �
   not_a_device because first later other (inr (ms, accepted, inr (fits, is, error))) =
       later (text (ordered rules ms)) is
 
-  -- An input that passes its limit is not cut.
+  -- An input that exceeds its limit is not incomplete.
   not_cut : (n : ℕ) → IsNotOrdered limits mode rules bytes (Record n Cut)
       → length bytes ≡ limits.input + 1 → ⊥
   not_cut n (inl first) long =
@@ -110,7 +110,7 @@ module _ (limits : Limits) (mode : Mode) (rules : List SwapRule) (bytes : List �
         refl,
       )
 
-      -- An error of the bytes, which is not that they end too early, unless the reader ended.
+      -- An error of the bytes. It is that they are incomplete only if the reader reached its end.
       refuses : (because : Refused) (stop : Stop) → HasCome source old new limits.input bytes stop
           → RefusesToOrder limits mode rules bytes because
           → ((n : ℕ) → because ≡ Record n Cut → stop ≡ End) → Returns because

@@ -1,4 +1,4 @@
--- Engines over bytes in memory: what they promise of a reader is true of the bytes.
+-- Command functions over bytes in memory: their guarantees for a reader hold for the bytes.
 use Rattle.std.proofs.Common.{◌≡◌, ℕ, List, ◌++◌, Option, Some, None, false, refl, Result, Ok, Err}
 use Rattle.std.proofs.Common.{◌∙◌, sym, ap, subst, arith, append-nil, true≢false}
 use Rattle.dap_device.specs.declared.reading.Stop.{Stop}
@@ -27,11 +27,11 @@ use Rattle.dap_normal.proofs.AcceptingFacts.{accepted_facts, value_laws}
 use Rattle.dap_normal.proofs.WholeInput.{memory}
 use Rattle.dap_order_input.specs.OrderingSteps.{IsSession}
 
--- all bytes of a reader that did not fail
+-- All bytes of a reader that did not fail.
 abbrev pub all_of : List ℕ → Input
 all_of bytes = record { bytes = bytes; failed = false }
 
--- A refusal of bytes whose reader did not fail.
+-- A rejection of bytes whose reader did not fail.
 pub reported : (j : Judging) (bytes : List ℕ) (because : Refused) (number : ℕ) (fault : Fault)
     → Tells because number fault → IsRefusedAt j (all_of bytes) number fault
     → IsRefused j bytes because
@@ -40,13 +40,13 @@ reported j bytes because number (refused why) tells is =
 reported j bytes because number read_fault tells is = absurd (true≢false (sym is.0))
 
 module _ (old new : GivenBytes) where
-  -- All bytes came if the reader came to its end.
+  -- If the reader reached its end, all bytes were read.
   pub all_came : (limit : ℕ) (bytes : List ℕ) → HasCome memory old new limit bytes End
       → bytes ≡ old.left
   all_came limit bytes come =
       sym (come.came ∙ ap (λ rest. bytes ++ rest) come.stopped.0 ∙ append-nil bytes)
 
-  -- The bytes that came are those of the input, or a prefix of them. The reader did not fail.
+  -- The bytes read are those of the input, or a prefix of them. The reader did not fail.
   pub came_of : (bytes : List ℕ) (stop : Option Stop) → HasComeSoFar memory old new bytes stop
       → IsOf bytes stop (all_of old.left)
   came_of bytes None come = (new.left, come.came)
@@ -57,7 +57,7 @@ module _ (old new : GivenBytes) where
 
   module _ (j : Judging) (records : IsReadable j.records) (judged : ValueLaws j)
       (accepted : AcceptedFacts j) (Gives : List ℕ → List ℕ → Type 0) where
-    -- An engine that refuses a record refuses the bytes for it.
+    -- A command function that rejects a record rejects the bytes for the same reason.
     pub refused_whole : (because : Refused) (text : List ℕ)
         → RefusesNext j Gives memory old new because text → IsRefused j old.left because
     refused_whole because text next =

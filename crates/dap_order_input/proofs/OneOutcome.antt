@@ -1,4 +1,5 @@
--- A recording is ordered to one text, or is not ordered for one error, and not both.
+-- A recording is either ordered to exactly one text, or not ordered for exactly one error, never
+-- both.
 use Rattle.std.proofs.Common.{◌≡◌, inl, inr, ⊎_elim, ℕ, ◌<◌, ◌≤◌, List, [], ◌∷◌, ◌++◌, length}
 use Rattle.std.proofs.Common.{refl, sym, ◌∙◌, ap, subst, arith, append_assoc, length-append}
 use Rattle.std.proofs.lemmas.Bool.{cases_lt}
@@ -40,7 +41,7 @@ module _ (limits : Limits) (ms : List Sent) where
       → ms ≡ (p.before ++ p.message ∷ []) ++ p.after
   until n p = p.split ∙ sym (append_assoc p.before (p.message ∷ []) p.after)
 
-  -- The limits do not allow a text that passes one of them.
+  -- A text that exceeds a limit is not within the limits.
   not_allowed : (n : ℕ) → PassesLimit limits ms n → Fits limits ms → ⊥
   not_allowed n p fits =
       p.too_long

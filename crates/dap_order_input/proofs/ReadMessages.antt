@@ -1,4 +1,4 @@
--- The messages of a recording that is accepted, read once more.
+-- The messages of an accepted recording, read again.
 use Rattle.std.proofs.Common.{◌≡◌, ℕ, ◌+◌, ◌-◌, ◌<◌, ◌≤◌, ◌^◌, false, List, [], ◌∷◌, ◌++◌, length}
 use Rattle.std.proofs.Common.{Option, Some, None, Result, Ok, Err, refl, sym, ◌∙◌, ap, subst, arith}
 use Rattle.std.proofs.Common.{append_assoc, append-nil, length-append, true≢false}
@@ -34,7 +34,7 @@ use Rattle.dap_normal.specs.JudgingSteps.{held_of}
 use Rattle.dap_normal.proofs.AcceptingFacts.{accepted_facts, message_once, value_laws}
 use Rattle.dap_normal.proofs.WholeInput.{memory}
 
--- A reader of records gives the records that are judged.
+-- A reader of records returns the records that are checked.
 reads_records : (limits : Limits) (mode : Mode)
     → ReadsAs (accepting limits mode) (record_items limits.frame) held_of
 reads_records limits mode = record {
@@ -50,7 +50,7 @@ reads_records limits mode = record {
 abbrev pub start : List ℕ → GivenBytes
 start recording = record { left = recording; given = 0 }
 
--- The records before the next one have these messages.
+-- The records before the next one contain these messages.
 abbrev pub Reading : Limits → Mode → List ℕ → GivenBytes → Records RecordReading → List Sent → Type 0
 Reading limits mode recording reader records messages =
     loop.Going (accepting limits mode) (StandsForRecord limits.frame) memory (start recording)
@@ -165,7 +165,7 @@ module _ (limits : Limits) (mode : Mode) (recording : List ℕ) (all : List Sent
         (sym (end.came.came ∙ ap (λ t. end.whole ++ t) end.came.paused.0 ∙ append-nil end.whole))
         end.accepted
 
-    -- ---- no record is refused
+    -- ---- no record is rejected
 
     module _ (because : Refused)
         (one : RefusesOne (accepting limits mode) memory (start recording) after new because) where

@@ -1,5 +1,5 @@
--- What the text of messages in order can be refused for: it is too long, or, if ids are numbered
--- per stop, it has too many ids.
+-- The possible errors of the text of messages in order: it is too long, or, with `Mode::PerStop`,
+-- it has too many ids.
 use Rattle.std.proofs.Common.{◌≡◌, ℕ, ◌+◌, ◌≤◌, List, [], ◌∷◌, ◌++◌, length, Some, None, refl}
 use Rattle.std.proofs.Common.{sym, ◌∙◌, ap, subst, arith, append_assoc, append-nil, length-append}
 use Rattle.std.proofs.Common.{zero-add}
@@ -45,7 +45,7 @@ use Rattle.dap_order_input.specs.OrderingSteps.{IsTextOf}
 use Rattle.dap_order_input.proofs.DistinctCounts.{reordered_few}
 use Rattle.dap_order_input.proofs.WrittenTexts.{ordered_typed}
 
--- The reasons that are left for a record of the text.
+-- The remaining reasons for rejecting a record of the text.
 abbrev Allowed : Mode → Reason → Type 0
 Allowed mode (objected grew) = Unit {0}
 Allowed mode (objected too_many_ids) = mode ≡ PerStop
@@ -59,7 +59,7 @@ module _ (limits : Limits) (mode : Mode) where
   abbrev judging : Judging
   judging = accepting limits mode
 
-  -- With one numbering for the whole recording, the messages have few ids.
+  -- With `Mode::Whole`, the messages have few ids.
   abbrev FewInWhole : List Sent → Type 0
   FewInWhole ms = mode ≡ Whole → HasFewIds (stop_in mode) (id_limit limits) ms
 

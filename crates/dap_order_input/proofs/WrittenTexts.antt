@@ -1,4 +1,4 @@
--- The text of messages, made record by record, and what it is accepted as.
+-- The text of messages, created record by record, and the messages as which it is accepted.
 use Rattle.std.proofs.Common.{◌≡◌, ◌⊎◌, inl, inr, ℕ, zero, suc, ◌+◌, ◌<◌, ◌≤◌, List, [], ◌∷◌, ◌++◌}
 use Rattle.std.proofs.Common.{length, map, take, get_or, Some, option_map, Ok, Err, refl, sym}
 use Rattle.std.proofs.Common.{◌∙◌, ap, ap₂, subst}
@@ -75,9 +75,9 @@ none_written limits written none = record {
   read_back = tt;
 }
 
--- ---- the message at a place
+-- ---- the message at a position
 
--- The message at place i, and the messages before and after it.
+-- The message at position i, and the messages before and after it.
 pub record IsNextAt (all : List Sent) (p : ℕ) (messages : List Sent) (i : ℕ) : Type 0 where
   pub message : Sent
   pub is_at : slice_get all p ≡ Some message
@@ -121,7 +121,7 @@ module _ (all : List Sent) where
         count = (let count = later.count in omega (arith, count));
       }
 
-  -- There are as many messages as places.
+  -- There are as many messages as positions.
   pub all_at : (places : List ℕ) (messages : List Sent) → AreAt all places messages
       → take (length places) messages ≡ messages
   all_at [] [] are = refl
@@ -131,7 +131,7 @@ module _ (all : List Sent) where
       let rest : AreAt all places messages = cc in
       ap (λ ms. m ∷ ms) (all_at places messages rest)
 
-  -- The place is one of the list.
+  -- The position is within the list.
   pub within : (places : List ℕ) (messages : List Sent) (i : ℕ) → AreAt all places messages
       → i < length places → get_or places i 0 < length all
   within places messages i are low =
@@ -139,7 +139,7 @@ module _ (all : List Sent) where
       (slice_get-get_or places i 0 low) in
       slice_get_within all (get_or places i 0) next.message next.is_at
 
--- ---- one record passes a limit
+-- ---- one record exceeds a limit
 
 module _ (limits : Limits) (all messages : List Sent) (p i : ℕ)
     (next : IsNextAt all p messages i) (old : List ℕ)
@@ -169,7 +169,7 @@ module _ (limits : Limits) (all messages : List Sent) (p i : ℕ)
   not_appended n new is Memory told = tt
   not_appended n new is because told = absurd told
 
--- The message of a list at a place.
+-- The message of a list at a position.
 pub message_at : (messages : List Message) (p : ℕ) (m : Sent) (item : Message)
     → slice_get (map sent messages) p ≡ Some m → item ≡ get_or messages p item → sent item ≡ m
 message_at messages p m item is_at is =
@@ -183,7 +183,7 @@ message_at messages p m item is_at is =
     ∙ sym (slice_get-map sent messages p) ∙ is_at in
     cc
 
--- ---- what the text is accepted as
+-- ---- the messages as which the text is accepted
 
 messages_once : (records : List Held) (ms ns : List Sent) → AreMessages records ms
     → AreMessages records ns → ms ≡ ns
@@ -230,14 +230,14 @@ module _ (rules : List SwapRule) where
       All-permutation IsOwn ms (ordered rules ms)
       (reordered_permutation (free rules) ms (ordered rules ms) (to_ordered rules ms))
 
-  -- The records of the text hold the messages in order.
+  -- The records of the text contain the messages in order.
   pub ordered_typed : (ms : List Sent) (records : List Held) → AreMessages records ms
       → AllByRecursion IsReadBack (ordered rules ms)
       → AreMessages (contents_of (ordered rules ms)) (ordered rules ms)
   ordered_typed ms records typed =
       own_contents (ordered rules ms) (ordered_own ms (all_own records ms typed))
 
-  -- The text of the messages in order holds no others.
+  -- The text of the messages in order contains no other messages.
   pub ordered_only : (limits : Limits) (mode : Mode) → AreSound limits
       → (bytes written : List ℕ) (ms others : List Sent)
       → IsAccepted limits mode bytes ms → IsTextOf limits (ordered rules ms) written

@@ -1,4 +1,4 @@
--- The laws that the functions of `laws` state.
+-- The statements of the functions in `laws`.
 use Rattle.std.specs.Prelude.{◌≡◌, ◌↔◌, ℕ, List}
 use Rattle.dap_tree.specs.declared.side.Side.{Side}
 use Rattle.dap_message.specs.Message.{Sent}
@@ -19,7 +19,7 @@ use Rattle.dap_swaps.specs.Order.{ordered}
 use Rattle.dap_swaps.specs.SameButOrder.{AreSameButOrder}
 use Rattle.dap_order_input.specs.Ordering.{IsNotOrdered, Orders}
 
--- A recording is ordered to one text.
+-- A recording is ordered to at most one text.
 abbrev pub OneOrderedText : Type 0
 OneOrderedText = (limits : Limits) (mode : Mode) (rules : List SwapRule)
     (bytes written other : List ℕ) → Orders limits mode rules bytes written
@@ -37,8 +37,8 @@ OrderedHasNoError = (limits : Limits) (mode : Mode) (rules : List SwapRule)
     (bytes written : List ℕ) (because : Refused) → Orders limits mode rules bytes written
     → IsNotOrdered limits mode rules bytes because → ⊥
 
--- The text that a recording is ordered to is accepted. Swaps of free neighbours turn the messages
--- of the recording into those of the text.
+-- The text of an ordered recording is accepted. Swaps of free neighbours turn the messages of the
+-- recording into those of the text.
 abbrev pub OrderedIsAccepted : Type 0
 OrderedIsAccepted = (limits : Limits) (mode : Mode) (rules : List SwapRule)
     (bytes written : List ℕ) (a : Orders limits mode rules bytes written)
@@ -59,9 +59,9 @@ OrderedStandsStill = (limits : Limits) (mode : Mode) (rules : List SwapRule)
     (bytes written : List ℕ) → Orders limits mode rules bytes written
     → Orders limits mode rules written written
 
--- Two recordings are ordered and then normalised, with one numbering per recording, to equal texts
--- if and only if swaps of free neighbours and a one-to-one renaming turn the messages of one into
--- those of the other.
+-- Two recordings are ordered and then normalised, with `Mode::Whole`. The results are equal if and
+-- only if swaps of free neighbours and a one-to-one renaming turn the messages of one into those of
+-- the other.
 abbrev pub EqualOrderedTexts : Type 0
 EqualOrderedTexts = (limits : Limits) → AreSound limits → (rules : List SwapRule)
     (bytes others written other normal also : List ℕ)
@@ -69,8 +69,8 @@ EqualOrderedTexts = (limits : Limits) → AreSound limits → (rules : List Swap
     → Normalises limits Whole written normal → Normalises limits Whole other also
     → (normal ≡ also) ↔ AreSameButOrder rules a.messages b.messages
 
--- In each mode they are ordered and then normalised to equal texts if and only if a renaming of
--- this mode turns the ordered messages of one into those of the other.
+-- Two recordings are ordered and then normalised, in any mode. The results are equal if and only if
+-- a renaming of this mode turns the ordered messages of one into those of the other.
 abbrev pub EqualTextsInOrder : Type 0
 EqualTextsInOrder = (limits : Limits) (mode : Mode) → AreSound limits → (rules : List SwapRule)
     (bytes others written other normal also : List ℕ)

@@ -1,6 +1,7 @@
--- The text that a recording is ordered to, and the errors for which it is not ordered. Source: own,
--- over recordings, the rules of their sessions, and the order of their messages. The mode is that
--- of the names of ids: it says how many ids and how long a normal form a recording may have.
+-- The text of an ordered recording, and the errors for which a recording is not ordered. Source:
+-- own, over recordings, the rules of their sessions, and the order of their messages. The mode is
+-- that of the numbering of ids: it determines how many ids a recording may have, and the length of
+-- its normal form.
 use Rattle.std.specs.Prelude.{◌≡◌, ◌⊎◌, ℕ, ◌+◌, List, [], ◌∷◌, ◌++◌, length}
 use Rattle.dap_message.specs.Message.{Sent}
 use Rattle.dap_mask.specs.Swaps.{SwapRule}
@@ -13,8 +14,9 @@ use Rattle.dap_input.specs.Refusals.{IsRefused}
 use Rattle.dap_normal.specs.Accepting.{Fits, IsAccepted, accepting, text}
 use Rattle.dap_swaps.specs.Order.{ordered}
 
--- The recording is accepted, and this is the text of its messages in order: for each message the
--- record of its canonical content. The limits allow the text, and it is accepted as these messages.
+-- The recording is accepted, and `written` is the text of its messages in order: for each message
+-- the record of its canonical content. The text is within the limits, and it is accepted as these
+-- messages.
 pub record Orders (limits : Limits) (mode : Mode) (rules : List SwapRule)
     (bytes written : List ℕ) : Type 0 where
   pub messages : List Sent
@@ -23,8 +25,8 @@ pub record Orders (limits : Limits) (mode : Mode) (rules : List SwapRule)
   pub fits : Fits limits (ordered rules messages)
   pub accepted : IsAccepted limits mode written (ordered rules messages)
 
--- The text of the messages before this one keeps within the limits, and with the message of this
--- number it does not.
+-- The text of the messages before this one is within the limits, and the text including the message
+-- with this number is not.
 pub record PassesLimit (limits : Limits) (messages : List Sent) (number : ℕ) : Type 0 where
   pub before : List Sent
   pub message : Sent
@@ -34,30 +36,31 @@ pub record PassesLimit (limits : Limits) (messages : List Sent) (number : ℕ) :
   pub fits : Fits limits before
   pub too_long : Fits limits (before ++ message ∷ []) → ⊥
 
--- The errors that the text can have: it or its normal form is too long; or, if ids are numbered per
--- stop, it has too many in a class, since a message that passes a stop has its ids in another class.
+-- The possible errors of the text: it or its normal form is too long; or, with `Mode::PerStop`, it
+-- has too many ids in a class, because a message that moves past a stop has its ids in another
+-- class.
 abbrev pub IsTextError : Mode → Refused → Type 0
 IsTextError mode (Grew number) = Unit {0}
 IsTextError mode (TooManyIds number) = mode ≡ PerStop
 IsTextError mode because = ⊥
 
--- The text of the messages is not accepted within the limits: it passes a limit at the record of
--- this number; or the limits allow it, and this is its first error.
+-- The text of the messages is rejected: it exceeds a limit at the record with this number; or it is
+-- within the limits, and this is its first error.
 abbrev pub IsTextRefused : Limits → Mode → List Sent → Refused → Type 0
 IsTextRefused limits mode messages because =
     ((number : ℕ) × (because ≡ Grew number) × PassesLimit limits messages number)
     ⊎ (Fits limits messages × IsRefused (accepting limits mode) (text messages) because
     × IsTextError mode because)
 
--- The recording is not ordered: this is its first error; or it is accepted, and the text of its
--- messages in order is not.
+-- The recording is not ordered: this is its first error; or it is accepted, and this is an error of
+-- the text of its messages in order.
 abbrev pub IsNotOrdered : Limits → Mode → List SwapRule → List ℕ → Refused → Type 0
 IsNotOrdered limits mode rules bytes because =
     IsRefused (accepting limits mode) bytes because
     ⊎ ((messages : List Sent) × IsAccepted limits mode bytes messages
     × IsTextRefused limits mode (ordered rules messages) because)
 
--- The recording is not ordered for this, or an allocation failed.
+-- The recording is not ordered for this reason, or an allocation failed.
 abbrev pub RefusesToOrder : Limits → Mode → List SwapRule → List ℕ → Refused → Type 0
 RefusesToOrder limits mode rules bytes Memory = Unit {0}
 RefusesToOrder limits mode rules bytes because = IsNotOrdered limits mode rules bytes because

@@ -24,18 +24,18 @@ use Rattle.dap_order_input.specs.Ordering.{PassesLimit}
 abbrev pub IsSession : Limits → Mode → List ℕ → Type 0
 IsSession limits mode bytes = (messages : List Sent) × IsAccepted limits mode bytes messages
 
--- The content of the message is read as its document, whose ids are then plain numbers.
+-- The content of the message is read as its document, in which ids are plain numbers.
 abbrev pub IsReadBack : Sent → Type 0
 IsReadBack m = IsRead (text_of m.doc) (without_ids m.doc)
 
--- The record of the message was appended, and the limits allow it.
+-- The record of the message was appended, and is within the limits.
 pub record IsAppended (limits : Limits) (m : Sent) (old new : List ℕ) : Type 0 where
   pub short : length (text_of m.doc) ≤ limits.frame.content
   pub read_back : IsReadBack m
   pub appended : new ≡ old ++ record_of m
   pub within : length new ≤ limits.input
 
--- The record of message n was appended; or it passes a limit.
+-- The record of message n was appended, or it exceeds a limit.
 abbrev pub Appends : {U : Type 0} → Limits → Sent → ℕ → List ℕ → List ℕ → Result U Refused → Type 0
 Appends limits m n old new (Ok done) = IsAppended limits m old new
 Appends limits m n old new (Err (Grew k)) =
@@ -44,32 +44,32 @@ Appends limits m n old new (Err (Grew k)) =
 Appends limits m n old new (Err Memory) = Unit {0}
 Appends limits m n old new (Err _) = ⊥
 
--- This is the text of the messages, and the limits allow it.
+-- This is the text of the messages, and it is within the limits.
 pub record IsTextOf (limits : Limits) (messages : List Sent) (written : List ℕ) : Type 0 where
   pub text_is : written ≡ text messages
   pub fits : Fits limits messages
   pub read_back : AllByRecursion IsReadBack messages
 
--- The text of the messages was made; or it passes a limit.
+-- The text of the messages was created, or it exceeds a limit.
 abbrev pub Writes : Limits → List Sent → Result (Vec ℕ Global) Refused → Type 0
 Writes limits messages (Ok written) = IsTextOf limits messages written.items
 Writes limits messages (Err (Grew n)) = PassesLimit limits messages n
 Writes limits messages (Err Memory) = Unit {0}
 Writes limits messages (Err _) = ⊥
 
--- The messages at these places of a list are these.
+-- These are the messages at these positions of a list.
 abbrev pub AreAt : List Sent → List ℕ → List Sent → Type 0
 AreAt all places messages = map (slice_get all) places ≡ map Some messages
 
--- The text of the recording in order was made; or it passes a limit.
+-- The text of the recording in order was created, or it exceeds a limit.
 abbrev pub WritesInOrder : Limits → Mode → List SwapRule → List ℕ
     → Result (Vec ℕ Global) Refused → Type 0
 WritesInOrder limits mode rules bytes result =
     (messages : List Sent) → IsAccepted limits mode bytes messages
     → Writes limits (ordered rules messages) result
 
--- What `order` returns for an input whose reader stopped for this reason, if ordering the bytes that
--- came gave this result.
+-- The result of `order` for an input whose reader stopped for this reason, given the result of
+-- ordering the bytes read.
 abbrev pub result_of_input : {T : Type 0} → Result T Refused → Stop → Result T Refused
 result_of_input (Ok text) Failed = Err ReadFault
 result_of_input (Err (Record n Cut)) Failed = Err ReadFault

@@ -10,7 +10,7 @@ use dap_normal::check;
 use dap_rename::Mode;
 use std::alloc::Global;
 
-/// Checks a recording in memory. It holds one record at a time.
+/// Checks a recording in memory. Buffers one record at a time.
 pub fn check_bytes(
     alloc: Global,
     recording: &[u8],

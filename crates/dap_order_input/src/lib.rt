@@ -1,8 +1,8 @@
-//! Recordings put in order, by the rules of a user for the order of messages.
+//! Puts recordings in order, by a user's rules for the order of messages.
 //!
 //! [`order`] and [`order_bytes`] write the records of a recording in the order that
-//! [`dap_swaps::put_in_order`] gives their messages. `specs/` defines the terms, and [`laws`] has
-//! the theorems.
+//! [`dap_swaps::put_in_order`] defines for their messages. `specs/` defines the terms, and [`laws`]
+//! contains the theorems.
 #![tactic(auto)]
 
 mod checking;

@@ -20,22 +20,22 @@ use std::alloc::Global;
 /// Returns the text of the records of a recording in order.
 ///
 /// [`put_in_order`] defines the order. Each record is written with the canonical content of its
-/// message; ids are unchanged. The recording is checked as [`check`](dap_normal::check) checks it
-/// in this mode, and so is the text that is returned.
+/// message; ids are unchanged. The recording and the returned text are both checked in the same way
+/// as by [`check`](dap_normal::check) in this mode.
 ///
-/// The messages of the recording and the text are held in memory. The recording is read twice, once
-/// to check it and once for its messages, and the text is read once.
+/// Buffers the messages of the recording, and the text. Reads the recording twice, once to check it
+/// and once for its messages, and the text once.
 ///
 /// # Errors
 ///
-/// The first error of the recording. Records are counted from 1 in their order in the recording.
-///
-/// If the recording is accepted, but its text in order is not: `Grew`, if the text or its normal
-/// form exceeds `limits`; in `Mode::PerStop` also `TooManyIds`, since the ids of a message that
-/// passes a `stopped` event are counted in another class. This record is counted from 1 in the
-/// order of the text.
-///
-/// `Memory`: an allocation failed.
+/// - The first error of the recording, if it is rejected. Records are numbered from 1 in their
+///   order in the recording.
+/// - `Grew`: the recording is accepted, but its text in order or the normal form of that text
+///   exceeds `limits`. Records are numbered from 1 in the order of the text.
+/// - `TooManyIds`, only in `Mode::PerStop`: the recording is accepted, but its text in order has
+///   too many ids in a class. If a message moves past a `stopped` event, its ids belong to another
+///   class. Records are numbered from 1 in the order of the text.
+/// - `Memory`: an allocation failed.
 pub fn order_bytes(
     alloc: Global,
     rules: &[SwapRule],
@@ -54,8 +54,8 @@ pub fn order_bytes(
     Ok(text)
 }
 
-/// Returns the text of the records of a recording in order. The recording is accepted within these
-/// limits.
+/// Returns the text of the records of a recording in order. The recording must be accepted within
+/// these limits.
 fn text_in_order(
     alloc: Global,
     rules: &[SwapRule],
@@ -76,17 +76,16 @@ fn text_in_order(
 
 /// Reads a recording and writes its records in order, as [`order_bytes`] returns them.
 ///
-/// It reads its whole input, at most one byte past `limits.input`, before it writes. After an error
-/// of the input, or of its text, nothing is written. What is written is flushed.
+/// Reads the whole input, at most one byte past `limits.input`, before it writes. If the input or
+/// its text is rejected, nothing is written. The output is flushed.
 ///
 /// # Errors
 ///
-/// Those of [`order_bytes`].
+/// Those of [`order_bytes`], and:
 ///
-/// `ReadFault`: the reader failed, and the bytes read before contain no error other than being
-/// incomplete.
-///
-/// `WriteFault`: the writer failed. A prefix of the text was written.
+/// - `ReadFault`: the reader failed, and the bytes read before contain no error other than being
+///   incomplete.
+/// - `WriteFault`: the writer failed. A prefix of the text was written.
 pub fn order<R: Source, W: Sink>(
     alloc: Global,
     rules: &[SwapRule],
@@ -100,13 +99,14 @@ pub fn order<R: Source, W: Sink>(
     requires read_failures { R.failures reader.old < 2 ^ 62 }
     requires write_failures { W.failures writer.old < 2 ^ 62 }
 
-    // The text of the input in order is written and flushed, or an error is returned and nothing
-    // is written. An error of a device is returned if and only if that device failed.
+    // The text of the input in order is written and flushed. If the writer fails, a prefix of the
+    // text is written and `WriteFault` is returned. With any other error, nothing is written.
+    // `ReadFault` is returned only if the reader failed.
     ensures answer { Answers R.Source W.Sink limits.input (Orders limits mode (swaps_of rules.now))
         (IsNotOrdered limits mode (swaps_of rules.now)) reader.old reader.new writer.old writer.new
         result }
 
-    // It reads at most one byte past the limit.
+    // At most one byte past the limit is read.
     ensures taken { R.given reader.new ≤ R.given reader.old + limits.input + 1 }
 {
     let Ok(input) = read_all(alloc, reader, limits.input) else {
@@ -122,8 +122,8 @@ pub fn order<R: Source, W: Sink>(
     }
 }
 
-/// Returns what ordering the bytes of an input gave, or `ReadFault` if the reader failed after them
-/// and they contain no error other than being incomplete.
+/// Returns the result of ordering the bytes of an input. If the reader failed after them and they
+/// contain no error other than being incomplete, returns `ReadFault`.
 fn text_of_input(ordered: Result<Vec<u8>, Refused>, stop: Stop) -> Result<Vec<u8>, Refused>
     ensures { result ≡ result_of_input ordered stop }
 {

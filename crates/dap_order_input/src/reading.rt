@@ -1,4 +1,4 @@
-//! Reads the messages of a recording that is accepted.
+//! Reads the messages of an accepted recording.
 ghost use Rattle.std.specs.Prelude.{◌≡◌, IfErr, IfOk, map};
 ghost use Rattle.dap_message.specs.Message.{sent};
 ghost use Rattle.dap_input.specs.ItemReading.{StandsForRecord};
@@ -17,7 +17,7 @@ use dap_tree::Scratch;
 use std::alloc::Global;
 
 /// Returns the messages of a recording that is accepted within these limits in this mode. The only
-/// error is `Memory`.
+/// possible error is `Memory`.
 pub fn read_messages(
     alloc: Global,
     recording: &[u8],

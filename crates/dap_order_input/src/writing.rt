@@ -10,7 +10,7 @@ use dap_message::Message;
 use dap_recording::write_record;
 use std::alloc::Global;
 
-/// Appends the record of a message, which has this number in the text. `content` is a buffer for
+/// Appends the record of a message, which is record `number` of the text. `content` is a buffer for
 /// its content.
 fn append_record(
     alloc: Global,
@@ -38,7 +38,7 @@ fn append_record(
     Ok(())
 }
 
-/// Returns the text of the messages at these places, in the order of the places.
+/// Returns the text of the messages at these positions, in the order of the positions.
 pub fn text_of_places(
     alloc: Global,
     messages: &[Message],

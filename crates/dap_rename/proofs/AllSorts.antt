@@ -1,4 +1,4 @@
--- What holds of each sort, and tables of something for each.
+-- Statements about every kind of id, and tables with a value for each kind.
 use Rattle.std.proofs.Common.{◌≡◌, ◌<◌, ℕ, zero, suc, List, [], ◌∷◌, length, get_or, inl, inr, refl}
 use Rattle.std.proofs.Common.{sym, ap, arith}
 use Rattle.dap_tree.specs.declared.sort.Sort.{Sort}

@@ -1,4 +1,4 @@
--- The test whether pairs carry one document to another answers whether they do.
+-- The test whether pairs map one document to another is correct.
 use Rattle.std.proofs.Common.{◌≡◌, ℕ, suc, ◌+◌, ℤ, pos, Bool, true, false, ◌&&◌, ◌||◌, inl, inr}
 use Rattle.std.proofs.Common.{eqb, List, [], ◌∷◌}
 use Rattle.std.proofs.Common.{◌++◌, map, length, drop, ◌≤◌, refl, sym, ◌∙◌, ap, subst, arith}
@@ -51,7 +51,7 @@ related_rest r [] b (p ∷ c) d n h = absurd (omega (arith, n))
 related_rest r (o ∷ a) b [] d n h = absurd (omega (arith, n))
 related_rest r (o ∷ a) b (p ∷ c) d n h = related_rest r a b c d (omega (arith, n)) h.2
 
--- ids behind so many stops
+-- ids after k stops
 abbrev pub ids_related : List (Class × ℤ × ℤ) → ℕ → List (Sort × ℤ) → List (Sort × ℤ) → Type 0
 ids_related r k is js = AreRelated r (map (occurrence k) is) (map (occurrence k) js)
 
@@ -121,7 +121,7 @@ in_has_pair (p ∷ ps) c x y (inr i) =
 
 -- ---- documents
 
--- the documents are equal but for the numbers of their ids, and the pairs relate those
+-- the documents are equal except for the numbers of their ids, and the pairs relate these numbers
 abbrev pub DocsCarried : List Pair → ℕ → Doc → Doc → Type 0
 DocsCarried ps n d e = (skeleton d ≡ skeleton e) × ids_related (entries ps) n (ids d) (ids e)
 
@@ -222,7 +222,7 @@ mutual
 
 -- ---- messages
 
--- behind so many stops
+-- after k stops
 pub list_carried : (ps : List Pair) (stop : Sent → ℕ) → IsToldBySkeleton stop → (k : ℕ)
     (ms ns : List Sent) → carries_list ps stop k ms ns ≡ true
     → (map message_skeleton ms ≡ map message_skeleton ns)

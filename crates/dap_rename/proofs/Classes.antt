@@ -1,4 +1,4 @@
--- The classes that there are where there are so many stops.
+-- The classes that exist after a given number of stops.
 use Rattle.std.proofs.Common.{◌≡◌, ℕ, zero, suc, ◌+◌, ◌<◌, ◌≤◌, ℤ, Bool, true, false, ◌&&◌, not}
 use Rattle.std.proofs.Common.{List, [], ◌∷◌, ◌++◌, map, inl, inr, eqb, refl, sym, ◌∙◌, ap, subst}
 use Rattle.std.proofs.Common.{arith, true≢false}
@@ -20,7 +20,7 @@ use Rattle.dap_rename.proofs.Lists.{each-append, each-more, in-left, in-right}
 use Rattle.dap_rename.proofs.Occurrences.{class_sort}
 use Rattle.dap_rename.proofs.RelatedLists.{Distinct}
 
--- ---- no class stands twice
+-- ---- no class occurs twice
 
 distinct-append : {X : Type 0} (xs ys : List X) → Distinct xs → Distinct ys
     → AllByRecursion (λ x. AllByRecursion (λ y. x ≡ y → ⊥) ys) xs → Distinct (xs ++ ys)
@@ -28,7 +28,7 @@ distinct-append [] ys d e h = e
 distinct-append (x ∷ xs) ys d e h =
     (each-append (λ y. x ≡ y → ⊥) xs ys d.0 h.0, distinct-append xs ys d.1 e h.1)
 
--- a class of this sort, with a number below that
+-- a class of this kind with a stop below n
 abbrev pub IsBelow : Sort → ℕ → Class → Type 0
 IsBelow s n c = (c.0 ≡ s) × (c.1 < n)
 
@@ -50,7 +50,7 @@ first_distinct s (suc n) =
     below_itself : (j n : ℕ) → j < n → j ≡ n → ⊥
     below_itself j n h e = omega arith
 
--- sorts that differ by a test
+-- kinds that are pairwise different, as a test
 abbrev pub sorts_differ : List Sort → Bool
 sorts_differ [] = true
 sorts_differ (s ∷ ss) = not (list_any (same_sort s) ss) && sorts_differ ss
@@ -64,7 +64,7 @@ none_equal s (t ∷ ss) h = (
   none_equal s ss (or_right (same_sort s t) (list_any (same_sort s) ss) h),
 )
 
--- every class of these sorts is of one of them
+-- every class of these kinds has one of them
 of_sorts : (stops : ℕ) (P : Sort → Type 0) (ss : List Sort) → AllByRecursion P ss
     → AllByRecursion (λ (c : Class). P c.0) (flat_map (classes_of_sort stops) ss)
 of_sorts stops P [] h = tt
@@ -96,7 +96,7 @@ sorts_distinct stops (s ∷ ss) h =
 pub classes_differ : (stops : ℕ) → Distinct (all_classes stops)
 classes_differ stops = sorts_distinct stops all_sorts refl
 
--- ---- every occurrence is of one of them
+-- ---- every occurrence has one of these classes
 
 in_first : (s : Sort) (j n : ℕ) → j < n → IsIn (s, j) (first_classes s n)
 in_first s j zero h = absurd (omega (arith, h))
@@ -125,7 +125,7 @@ later_class j k Frame h = omega (arith, h)
 later_class j k Reference h = omega (arith, h)
 later_class j k s h = omega arith
 
--- an id behind no more stops is of one of the classes
+-- an id after at most k stops has one of the classes for k stops
 reached : (j k : ℕ) (s : Sort) → j ≤ k → IsIn (class_after j s) (all_classes k)
 reached j k s h =
     in_sorts k (class_after j s) s all_sorts (in_all_sorts s)

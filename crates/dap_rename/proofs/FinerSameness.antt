@@ -1,5 +1,5 @@
--- Lists that are the same in the whole are the same in each mode: a renaming of the whole renames
--- each class that the mode cuts out of it.
+-- Lists that are the same in the mode `Whole` are the same in every mode: a renaming in that mode
+-- also renames each class into which another mode divides its classes.
 use Rattle.std.proofs.Common.{◌≡◌, ℕ, ◌+◌, ℤ, Bool, true, false, cond, ◌&&◌, List, [], ◌∷◌, ◌++◌}
 use Rattle.std.proofs.Common.{map, inl, inr, refl, sym, ◌∙◌, ap₂, true≢false}
 use Rattle.std.proofs.lemmas.Bool.Decides.{Decides-int_eq}
@@ -23,7 +23,7 @@ use Rattle.dap_rename.proofs.RelatedLists.{gives_one, takes_one}
 use Rattle.dap_rename.proofs.Sameness.{in_is}
 use Rattle.dap_rename.proofs.Stops.{mode_is_told}
 
--- ---- the class in the whole, of which this one is a part
+-- ---- the class in the mode `Whole` that contains this class
 
 abbrev pub whole_class : Class → Class
 whole_class c = (c.0, 0)
@@ -43,13 +43,13 @@ whole_occurrences stop k (m ∷ ms) =
     map-append in_whole_class (map (occurrence k) (ids m.doc)) (occurrences stop (k + stop m) ms)
     ∙ ap₂ (λ a b. a ++ b) (whole_ids k (ids m.doc)) (whole_occurrences stop (k + stop m) ms)
 
--- ---- the entries for lists that a renaming of the whole relates
+-- ---- the entries for lists that a renaming in the mode `Whole` relates
 
--- the entry stands for this occurrence
+-- the entry is for this occurrence
 abbrev takes : Class × ℤ → Class × ℤ × ℤ → Bool
 takes o p = same_class o.0 p.0 && int_eq o.1 p.1
 
--- place by place one entry, and none twice
+-- one entry for each position, without duplicates
 abbrev entries_of : List (Class × ℤ) → List (Class × ℤ) → List (Class × ℤ × ℤ)
 entries_of [] ys = []
 entries_of (o ∷ xs) [] = []
@@ -64,7 +64,7 @@ taken_number : (o : Class × ℤ) (p : Class × ℤ × ℤ) → takes o p ≡ tr
 taken_number o p h = (Decides-int_eq o.1 p.1).0 (and_right (same_class o.0 p.0) (int_eq o.1 p.1) h)
 
 module _ (r : List (Class × ℤ × ℤ)) (ok : IsRenaming IsProperId r) where
-  -- the renaming of the whole has the entry
+  -- the renaming in the mode `Whole` has the entry
   abbrev IsWhole : Class × ℤ × ℤ → Type 0
   IsWhole p = IsIn (whole_class p.0, p.1, p.2) r
 
@@ -78,7 +78,7 @@ module _ (r : List (Class × ℤ × ℤ)) (ok : IsRenaming IsProperId r) where
       by_bool (list_any (takes o) (entries_of xs ys))
       (λ a. rw a more) (λ a. rw a (h.1, more))
 
-  -- an entry that is not taken yet stands apart from all others
+  -- an entry whose number is not mapped yet is compatible with all others
   apart : (o : Class × ℤ) (y : ℤ) (q : List (Class × ℤ × ℤ)) → IsWhole (o.0, o.1, y)
       → AllByRecursion IsWhole q → list_any (takes o) q ≡ false
       → AllByRecursion (AreApart (o.0, o.1, y)) q
@@ -118,7 +118,7 @@ module _ (r : List (Class × ℤ × ℤ)) (ok : IsRenaming IsProperId r) where
         more,
       ))
 
-  -- the entry that is there for a number gives the one number that the whole gives
+  -- the entry for a number maps it to the same number as the renaming in the mode `Whole`
   found : (o : Class × ℤ) (y : ℤ) (q : List (Class × ℤ × ℤ)) → IsWhole (o.0, o.1, y)
       → AllByRecursion IsWhole q → list_any (takes o) q ≡ true → IsIn (o.0, o.1, y) q
   found o y [] i h some = absurd (true≢false (sym some))

@@ -1,4 +1,4 @@
--- How the lists of the sorts grow.
+-- How the lists of the kinds grow.
 use Rattle.std.proofs.Common.{◌≡◌, ℕ, ◌+◌, ◌<◌, ◌≤◌, ℤ, false, cond, List, [], ◌∷◌, ◌++◌, length}
 use Rattle.std.proofs.Common.{take}
 use Rattle.std.proofs.Common.{drop, get_or, refl, sym, ◌∙◌, ap, subst, arith, length-append}
@@ -76,7 +76,7 @@ pub named_step : (l m : Lists) (is : List (Sort × ℤ)) (k : ℕ) (d : Sort × 
     → w ≡ v ++ x ∷ [] → w ≡ names_from l (take (k + 1) is)
 named_step l m is k d v w x h e f g q = rw (take_more is k d h, names_from-push, ← e, ← f, ← g) q
 
--- a list cut to the length of the one with which it begins
+-- truncating a list to the length of its prefix yields the prefix
 pub cut_back : (old new cut : List ℤ) (k : ℕ) → Begins old new → k ≡ length old → cut ≡ take k new
     → cut ≡ old
 cut_back old new cut k h e f = f ∙ rw e h.1
@@ -93,7 +93,7 @@ module _ {T : Type 0} (numbers : T → List ℤ) where
       ap (λ m. table_of m s) e ∙ table_is (λ r. length (numbers (table_of t r))) s
       ∙ sym (ap length (list_at t s))
 
-  -- tables that have grown have the names that they had
+  -- tables that have grown contain the numbers that they had
   pub counts_fit : (old new : Tables T) (n : Tables ℕ) → n ≡ counts numbers old
       → AllBegin (lists numbers old) (lists numbers new)
       → EachSort (λ s. table_of n s ≤ length (numbers (table_of new s)))
@@ -102,7 +102,7 @@ module _ {T : Type 0} (numbers : T → List ℤ) where
       each_sort (λ s. table_of n s ≤ length (numbers (table_of new s)))
       (λ s. omega (arith, count_at old n s e, (h s).0, ap length (list_at new s)))
 
-  -- and cut to those they are as before
+  -- and truncated to these they are unchanged
   pub lists_cut : (old new cut : Tables T) (n : Tables ℕ) → n ≡ counts numbers old
       → AllBegin (lists numbers old) (lists numbers new)
       → EachSort (λ s. numbers (table_of cut s) ≡ take (table_of n s) (numbers (table_of new s)))
@@ -147,7 +147,7 @@ longer l m s h = (h s).0
 pub add-new : (t : List ℤ) (x : ℤ) → has t x ≡ false → length (add t x) ≡ length t + 1
 add-new t x h = rw h (length-append t (x ∷ []))
 
--- a new number of a sort at its limit makes its list pass the limit
+-- a new number of a kind at its limit makes its list longer than the limit
 pub over : (lim : Limits) (l : Lists) (is : List (Sort × ℤ)) (k : ℕ) (i : Sort × ℤ)
     → take (k + 1) is ≡ take k is ++ i ∷ []
     → has (table_of (added_all l (take k is)) i.0) i.1 ≡ false →

@@ -1,5 +1,5 @@
--- Two lists of messages are the same whose ids of some sorts are those of two lists that are the
--- same, and whose other ids are equal.
+-- Let the ids of some kinds in two lists of messages be those of two lists that are the same, and
+-- let their other ids be equal. Then the two lists are the same.
 use Rattle.std.proofs.Common.{◌≡◌, ℤ, Bool, not, List, [], ◌∷◌, ◌++◌, map, refl, sym, ◌∙◌, ap}
 use Rattle.dap_tree.specs.Ids.{ids}
 use Rattle.dap_tree.specs.declared.sort.Sort.{Sort}
@@ -15,7 +15,7 @@ use Rattle.dap_rename.proofs.Occurrences.{class_decides, class_sort, firsts_alik
 use Rattle.dap_rename.proofs.Occurrences.{proper_occurrences}
 use Rattle.dap_rename.proofs.Sameness.{alike, same_of}
 
--- ---- the ids of some sorts
+-- ---- the ids of some kinds
 
 part_of : (p : Sort → Bool) (is : List (Sort × ℤ))
     → part (λ (c : Class). p c.0) (map (occurrence 0) is) ≡ map (occurrence 0) (of_sorts p is)

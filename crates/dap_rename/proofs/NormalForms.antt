@@ -1,4 +1,4 @@
--- The normal form is there, grows message by message, and has small names.
+-- The normal form exists, can be computed message by message, and has small numbers.
 use Rattle.std.proofs.Common.{◌≡◌, ℕ, suc, ◌+◌, ◌<◌, ◌≤◌, ◌^◌, ℤ, pos, true, List, [], ◌∷◌, ◌++◌}
 use Rattle.std.proofs.Common.{length, map, inl, inr, refl, sym, ◌∙◌, ap, subst, arith, append_assoc}
 use Rattle.std.proofs.Common.{append-nil}
@@ -34,14 +34,14 @@ use Rattle.dap_rename.proofs.Sameness.{normal_is_unique, named_is_normal}
 pub whole_is_told : WholeIsTold
 whole_is_told m n h = refl
 
--- lists that are the same have as many stops
+-- lists that are the same have equally many stops
 pub same_stops : (stop : Sent → ℕ) → IsToldBySkeleton stop → (ms ns : List Sent)
     → AreSame stop ms ns → stops_after stop 0 ms ≡ stops_after stop 0 ns
 same_stops stop told ms ns s = stops_alike stop told 0 ms ns (alike stop ms ns s).skeletons
 
--- ---- names of ids are ids
+-- ---- canonical numbers are ids
 
--- the sorts and numbers of occurrences
+-- the kinds and numbers of occurrences
 abbrev pub back : List (Class × ℤ) → List (Sort × ℤ)
 back [] = []
 back (o ∷ os) = (o.0.0, o.1) ∷ back os
@@ -75,7 +75,7 @@ named-append before (x ∷ xs) ys =
     ∙ ap (λ b. named same_class (before ++ x ∷ []) xs ++ named same_class b ys)
     (append_assoc before (x ∷ []) xs))
 
--- ---- the messages with the names of their ids
+-- ---- the messages with the canonical numbers of their ids
 
 abbrev pub named_message : List (Class × ℤ) → ℕ → Sent → Sent
 named_message before stops m =
@@ -129,7 +129,7 @@ normal_one stop told ms n p h =
     normal_is_unique stop ms ms n (normal_of stop ms) (same_as_itself stop ms p) h
     (some_normal stop told ms p)
 
--- ---- fronts
+-- ---- prefixes
 
 pub normal_front : (stop : Sent → ℕ) (before : List (Class × ℤ)) (stops : ℕ) (ms more : List Sent)
     → (rest : List Sent)
@@ -152,7 +152,7 @@ normal_of_front stop told ms more n h =
       some_normal stop told ms (each_left _ ms more p),
     )
 
--- what a normal form has at its ids
+-- the ids of a normal form
 pub normal_names : (stop : Sent → ℕ) (ms n : List Sent) → IsNormal stop ms n
     → occurrences stop 0 n ≡ named same_class [] (occurrences stop 0 ms)
 unfolding IsNormal
@@ -233,7 +233,7 @@ front_has_few_ids stop limit ms more h c =
     let front = table_front c (occurrences stop 0 ms) rest in
     omega arith
 
--- ---- small names
+-- ---- small canonical numbers
 
 pub counted_all : (e os : List (Class × ℤ)) → IsCounted same_class class_decides e
     → IsFresh same_class (e ++ os) → IsCounted same_class class_decides (e ++ os)

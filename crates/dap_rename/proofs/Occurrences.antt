@@ -1,5 +1,5 @@
--- Laws of the ids of messages: their classes, their order, and that a list of messages is told by
--- its skeletons and its ids.
+-- Lemmas about the ids of messages: their classes, their order, and that a list of messages is
+-- determined by its skeletons and its ids.
 use Rattle.std.proofs.Common.{◌≡◌, ℕ, ◌+◌, ℤ, true, false, List, [], ◌∷◌, ◌++◌, map, length, refl}
 use Rattle.std.proofs.Common.{sym}
 use Rattle.std.proofs.Common.{◌∙◌, ap, ap₂, subst, arith, append_assoc, append-nil}
@@ -78,7 +78,7 @@ occurrences-push stop k ms m =
     ∙ ap (λ t. occurrences stop k ms ++ t)
     (append-nil (map (occurrence (stops_after stop k ms)) (ids m.doc)))
 
--- so many stops, and those of one message more
+-- the number of stops after one more message
 pub stops-push : (stop : Sent → ℕ) (k : ℕ) (ms : List Sent) (m : Sent)
     → stops_after stop k (ms ++ m ∷ []) ≡ stops_after stop k ms + stop m
 stops-push stop k [] m = refl
@@ -103,7 +103,7 @@ pub ids_alike : (m n : Sent) → message_skeleton m ≡ message_skeleton n
 ids_alike m n h =
     count_ids m.doc ∙ (count_alike m.doc n.doc (docs_alike m n h) ∙ sym (count_ids n.doc))
 
--- as many occurrences in lists with one skeleton
+-- lists with the same skeletons have equally many occurrences
 pub occurrences_alike : (stop : Sent → ℕ) (j k : ℕ) (ms ns : List Sent)
     → map message_skeleton ms ≡ map message_skeleton ns
     → length (occurrences stop j ms) ≡ length (occurrences stop k ns)
@@ -123,7 +123,7 @@ occurrences_alike stop j k (m ∷ ms) (n ∷ ns) h =
       length-map (ids n.doc) (occurrence k),
     )
 
--- the classes of ids are told by skeletons
+-- skeletons determine the classes of ids
 firsts_of : (k : ℕ) (is js : List (Sort × ℤ)) → sorts_of is ≡ sorts_of js
     → firsts (map (occurrence k) is) ≡ firsts (map (occurrence k) js)
 firsts_of k [] [] h = refl
@@ -151,7 +151,7 @@ firsts_alike stop told k (m ∷ ms) (n ∷ ns) h =
     ∙ ap₂ (λ a b. a ++ b) one rest
     ∙ sym (map-append class (map (occurrence k) (ids n.doc)) (occurrences stop (k + stop n) ns))
 
--- ---- messages are told by their skeletons and their ids
+-- ---- messages are determined by their skeletons and their ids
 
 pub all_numbers : List Sent → List ℤ
 all_numbers [] = []

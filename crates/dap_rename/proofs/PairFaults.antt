@@ -1,4 +1,4 @@
--- Pairs judged one by one, and the pairs of equal places.
+-- Checking pairs one by one, and pairing by position.
 use Rattle.std.proofs.Common.{◌≡◌, ℕ, suc, ◌+◌, ◌<◌, ◌≤◌, ℤ, pos, true, false, ◌&&◌, List, []}
 use Rattle.std.proofs.Common.{◌∷◌, ◌++◌}
 use Rattle.std.proofs.Common.{length, take, drop, get_or, Option, Some, None, MatchOption}
@@ -33,7 +33,7 @@ use Rattle.dap_rename.proofs.Occurrences.{class_decides}
 pub entries-append : (a b : List Pair) → entries (a ++ b) ≡ entries a ++ entries b
 entries-append a b = map-append entry a b
 
--- ---- one pair more
+-- ---- one more pair
 
 pub apart_from : (q p : Pair)
     → (same_class (class_of q) (class_of p) && int_eq q.from p.from) ≡ false
@@ -96,7 +96,7 @@ fails_first ps k d f h r e = record {
   fails = e;
 }
 
--- the fault that was found is that of the first pair that fails
+-- the error that was found is that of the first pair that has one
 pub first_found : (ps : List Pair) (k : ℕ) (d : Pair) (o : Option PairFault) → k < length ps
     → AreRenaming (take k ps)
     → MatchOption o (MayFollow (take k ps) (get_or ps k d)) (PairFails (take k ps) (get_or ps k d))
@@ -113,9 +113,9 @@ pub none_found : (ps : List Pair) (k : ℕ) (d : Pair) (o : Option PairFault) �
 none_found ps k d None h r m s = renaming_step ps k d h r m
 none_found ps k d (Some f) h r m s = absurd (true≢false s)
 
--- ---- equal places
+-- ---- pairing by position
 
--- of no numbers there are no pairs
+-- without numbers there are no pairs
 pub no_names : (cs : List Class) (f g : Class → List ℤ) → ((c : Class) → f c ≡ [])
     → names_of_classes cs f g ≡ []
 no_names [] f g h = refl
@@ -134,7 +134,7 @@ names-append (c ∷ cs) ds f g =
     ∙ sym (append_assoc (pairs_of_class c (f c) (g c)) (names_of_classes cs f g)
     (names_of_classes ds f g))
 
--- one class of a sort more
+-- one more class of a kind
 pub class_step : (s : Sort) (k : ℕ) (f g : Class → List ℤ)
     (first old new : List (Class × ℤ × ℤ))
     → old ≡ first ++ names_of_classes (first_classes s k) f g
@@ -147,7 +147,7 @@ class_step s k f g first old new e q =
     ∙ ap (λ t. first ++ (before ++ t)) (sym (append-nil last))
     ∙ ap (λ t. first ++ t) (sym (names-append (first_classes s k) ((s, k) ∷ []) f g))
 
--- one sort more
+-- one more kind
 pub sort_step : (stops : ℕ) (ss : List Sort) (k : ℕ) (d : Sort) (f g : Class → List ℤ)
     (old new : List (Class × ℤ × ℤ)) → k < length ss
     → old ≡ names_of_classes (flat_map (classes_of_sort stops) (take k ss)) f g
@@ -196,7 +196,7 @@ add_step c xs ys k first old new x y h n p q e f =
     ∙ ap (λ u. pairs_of_class c (take (k + 1) xs) u) (ap (λ a. take k ys ++ a ∷ []) q
     ∙ sym (take_more ys k (pos 0) (omega (arith, h, n))))))
 
--- all numbers were paired
+-- all numbers are paired
 pub class_ended : (c : Class) (xs ys : List ℤ) (k : ℕ) (first r : List (Class × ℤ × ℤ))
     → length xs ≤ k → length xs ≡ length ys
     → r ≡ first ++ pairs_of_class c (take k xs) (take k ys)

@@ -1,4 +1,4 @@
--- The numbers of pairs that were seen pair by pair, and pairs found by class and both numbers.
+-- The numbers of pairs seen one by one, and pairs found by class and both numbers.
 use Rattle.std.proofs.Common.{◌≡◌, ℕ, suc, ◌+◌, ◌<◌, ℤ, Bool, true, false, cond, ◌&&◌, ◌||◌}
 use Rattle.std.proofs.Common.{eqb, List, [], ◌∷◌, ◌++◌, length, take, get_or, Option, Some, None}
 use Rattle.std.proofs.Common.{Result, Ok, Err, MatchOption, inl, inr, is_some, is_ok, not}
@@ -42,7 +42,7 @@ then_test Greater b = refl
 nat_test : (x y : ℕ) → is_eq (nat_cmp x y) ≡ eqb x y
 nat_test x y = grind (arith, nat_tests)
 
--- a number of a class is found by the key that has both
+-- a number of a class is found by its key
 pub key_test : (c d : Class) (x y : ℤ)
     → is_eq (key_cmp (key c x) (key d y)) ≡ (same_class c d && int_eq x y)
 key_test c d x y =
@@ -52,7 +52,7 @@ key_test c d x y =
     ∙ ap (λ b. b && int_eq x y) (then_test sorts stops
     ∙ ap₂ (λ a b. a && b) (nat_test (sort_number c.0) (sort_number d.0)) (nat_test c.1 d.1))
 
--- a pair of a class is found by the key that has both its numbers
+-- a pair of a class is found by its key
 pub pair_test : (c d : Class) (x y u v : ℤ)
     → is_eq (pair_key_cmp (pair_key c x u) (pair_key d y v))
     ≡ (same_class c d && (int_eq x y && int_eq u v))
@@ -65,7 +65,7 @@ pair_test c d x y u v =
 
 module _ (set : BTreeSet Key) (side : Pair → ℤ) (ps : List Pair) (p : Pair)
     (h : HasNumbers set side ps) where
-  -- the number of the pair is new to the set exactly if no earlier pair of its class has it
+  -- the number of the pair is new to the set if and only if no earlier pair of its class has it
   pub was_there : (k : Key) (b : Bool) → k ≡ key (class_of p) (side p)
       → b ≡ not (sorted.contains key_cmp set k)
       → list_any (λ q. same_class (class_of q) (class_of p) && int_eq (side q) (side p)) ps ≡ not b
@@ -93,7 +93,7 @@ module _ (set : BTreeSet Key) (side : Pair → ℤ) (ps : List Pair) (p : Pair)
       cond_or false true = refl
       cond_or false false = refl
 
--- ---- a step of going through the pairs
+-- ---- one step of checking the pairs
 
 pub nothing_seen : (seen : SeenPairs) → seen.taken.keys ≡ [] → seen.given.keys ≡ []
     → HasSeen seen []
@@ -108,7 +108,7 @@ module _ (P Q : Type 0) (R : PairFault → Type 0) where
   second_of None h e = h.1
   second_of (Some f) h e = absurd (true≢false e)
 
--- what is known of the pair at a place after it was looked at
+-- what is known about the pair at a position after it was checked
 abbrev pub Judged : SeenPairs → SeenPairs → ℕ → Pair → Option PairFault → Type 0
 Judged old new place p o = (before : List Pair) → HasSeen old before → place ≡ suc (length before)
     → MatchOption o (MayFollow before p × HasSeen new (before ++ p ∷ [])) (PairFails before p)
@@ -133,7 +133,7 @@ module _ (old new : SeenPairs) (ps : List Pair) (k : ℕ) (d : Pair) (o : Option
 
 -- ---- the index of pairs
 
--- a test passes some pair exactly if it passes the pair at some place
+-- a test passes for some pair if and only if it passes for the pair at some position
 pub at_some_place : (t : Pair → Bool) (ps : List Pair)
     → list_any t ps ≡ list_any (λ k. t (pair_at ps k)) (range_with_len 0 (length ps))
 at_some_place t ps = from_place ps 0 ps (λ k h. ap (pair_at ps) (sym (zero-add k)))
@@ -162,7 +162,7 @@ pair_key_total =
     (on_total (λ (k : Key). k.1) int_cmp_total)))
     (on_total (λ (k : Key × ℤ). k.1) int_cmp_total)
 
--- a binary search by a key succeeds exactly if some place has it
+-- a binary search by a key succeeds if and only if some position has the key
 pub search_told : {K : Type 0} {R : K → K → Ordering} → IsTotalOrder R → (at : ℕ → K)
     (places : List ℕ) (k : K) → IsSortedByKey at R places → (r : Result ℕ ℕ)
     → IsSearchInRange r (length places) → IsBinarySearchResult (λ p. R (at p) k) places r

@@ -1,4 +1,4 @@
--- Laws of renamings: two lists that one relates have the same names.
+-- Lemmas about renamings: two lists that a renaming relates have the same canonical numbers.
 use Rattle.std.proofs.Common.{◌≡◌, suc, inl, inr, ℤ, pos, Bool, true, List, [], ◌∷◌, ◌++◌, refl}
 use Rattle.std.proofs.Common.{sym, ◌∙◌, ap, arith, true≢false}
 use Rattle.std.specs.List.{list_any, position_or_len, AllByRecursion}
@@ -16,7 +16,7 @@ pub same_head : {K : Type 0} (c d : K) (x y : ℤ) (xs ys : List (K × ℤ)) →
 same_head c d x y xs ys k h t = rw (k, h, t) refl
 
 module _ {K : Type 0} (IsId : K × ℤ → Type 0) where
-  -- an entry is told by its class and one of its two numbers
+  -- an entry is determined by its class and one of its two numbers
   pub gives_one : (r : List (K × ℤ × ℤ)) → IsRenaming IsId r → (c : K) (x y z : ℤ)
       → IsIn (c, x, y) r → IsIn (c, x, z) r → y ≡ z
   gives_one [] h c x y z i j = absurd i
@@ -48,7 +48,7 @@ module _ {K : Type 0} (IsId : K × ℤ → Type 0) where
       (Decides-like (int_eq u v) (λ e. takes_one r h c x y v (rw e at i) j)
       (λ e. gives_one r h c y u v (rw e at i) j) (Decides-int_eq u v))
 
--- place by place an entry
+-- an entry at each position
 unfoldable pub Tied : {K : Type 0} → List (K × ℤ × ℤ) → K → List ℤ → List ℤ → Type 0
 Tied r c [] [] = Unit {0}
 Tied r c [] (y ∷ u) = ⊥
@@ -109,7 +109,7 @@ module _ {K : Type 0} (same : K → K → Bool) (decides : (a b : K)
       rw s (tied-add IsId r ok c o.1 p.1 (table same c d) (table same c e) (rw q i) t))
       (λ s. rw s t))
 
-  -- lists that a renaming relates have the same names
+  -- lists that a renaming relates have the same canonical numbers
   pub named-related : (d e xs ys : List (K × ℤ))
       → ((c : K) → Tied r c (table same c d) (table same c e)) → AreRelated r xs ys
       → named same d xs ≡ named same e ys
@@ -123,7 +123,7 @@ module _ {K : Type 0} (same : K → K → Bool) (decides : (a b : K)
       (λ c. tied-step c d e o p k (t c) h.1) h.2 in
       same_head o.0 p.0 _ _ _ _ k n rest
 
--- no element stands twice
+-- no element occurs twice
 abbrev pub Distinct : {X : Type 0} → List X → Type 0
 Distinct [] = Unit {0}
 Distinct (x ∷ xs) = AllByRecursion (λ y. x ≡ y → ⊥) xs × Distinct xs

@@ -1,5 +1,5 @@
--- Two lists with the same names are related by the renaming that pairs their distinct numbers,
--- class by class and place by place.
+-- Two lists with the same canonical numbers are related by the renaming that pairs their distinct
+-- numbers, class by class and position by position.
 use Rattle.std.proofs.Common.{◌≡◌, ℕ, suc, inl, inr, ℤ, pos, Bool, true, false, List, [], ◌∷◌, ◌++◌}
 use Rattle.std.proofs.Common.{refl, sym, ◌∙◌, ap, subst, arith, append_assoc, true≢false}
 use Rattle.std.specs.List.{list_any, position_or_len, AllByRecursion}
@@ -116,7 +116,7 @@ keeps-add_all t [] x h = refl
 keeps-add_all t (y ∷ ys) x h =
     keeps-add_all (add t y) ys x (rw any-add (grind arith)) ∙ keeps-add t x y h
 
--- the place at which a number is added is its place from then on
+-- a number keeps the position at which it was added
 pub place-add : (t : List ℤ) (x : ℤ)
     → position_or_len (int_eq x) (add t x) ≡ position_or_len (int_eq x) t
 place-add t x =

@@ -1,5 +1,5 @@
--- What it is to be the same: one skeleton and one list of names. From it the laws of fresh lists
--- and of the normal form.
+-- Two lists are the same if and only if they have the same skeletons and the same canonical
+-- numbers. This implies the laws about fresh lists and the normal form.
 use Rattle.std.proofs.Common.{◌≡◌, ℕ, suc, ℤ, pos, true, false, cond, List, []}
 use Rattle.std.proofs.Common.{◌∷◌, ◌++◌, map}
 use Rattle.std.proofs.Common.{length, inl, inr, refl, sym, ◌∙◌, ap, subst, arith, true≢false}
@@ -71,9 +71,10 @@ classes_all [] = tt
 classes_all (o ∷ os) =
     (in_first o os, each-more _ _ os (λ p i. in_more o os p.0 i) (classes_all os))
 
--- ---- what it is to be the same
+-- ---- being the same
 
--- the two lists have one skeleton and one list of names, and both are proper
+-- the two lists have the same skeletons and the same canonical numbers, and no variables reference
+-- of 0
 pub record Alike (stop : Sent → ℕ) (ms ns : List Sent) : Type 0 where
   pub skeletons : map message_skeleton ms ≡ map message_skeleton ns
   pub names : named same_class [] (occurrences stop 0 ms)
@@ -110,7 +111,7 @@ alike stop ms ns s =
       right = ids.1;
     }
 
--- the pairs of equal places, of classes in any order, carry the one list to the other
+-- pairing by position, for classes in any order, maps the first list to the second
 pub carried : (stop : Sent → ℕ) (cs : List Class) (ms ns : List Sent) → Distinct cs
     → AllByRecursion (λ o. IsIn o.0 cs) (occurrences stop 0 ms) → Alike stop ms ns →
     let r = pairs same_class cs (occurrences stop 0 ms) (occurrences stop 0 ns) in IsRenaming
@@ -246,7 +247,7 @@ named_is_normal stop ms n p h e =
       g,
     )
 
--- ---- pairs of equal places
+-- ---- pairing by position
 
 pub equal_places_carry : EqualPlacesCarry
 equal_places_carry stop ms ns s =

@@ -1,4 +1,4 @@
--- Which messages are stops, and that skeletons tell it.
+-- The messages that are stops. Skeletons determine this.
 use Rattle.std.proofs.Common.{◌≡◌, ℕ, true, false, cond, ◌&&◌, List, Option, Some, codes}
 use Rattle.std.proofs.Common.{refl, sym, ◌∙◌, ap, ap₂, subst}
 use Rattle.std.proofs.lemmas.Bool.Decides.{same_from_decides}
@@ -17,7 +17,7 @@ use Rattle.dap_rename.specs.Modes.{is_stopped}
 use Rattle.dap_rename.specs.declared.mode.Mode.TheVariants.{Whole, PerStop}
 use Rattle.dap_rename.proofs.Occurrences.{docs_alike}
 
--- ---- skeletons tell it
+-- ---- determined by skeletons
 
 text_alike : (w k : List ℕ) (d e : Doc) → skeleton d ≡ skeleton e
     → is_text w (get k d) ≡ is_text w (get k e)
@@ -35,7 +35,7 @@ pub mode_is_told : ModeIsTold
 mode_is_told Whole m n h = refl
 mode_is_told PerStop m n h = ap (λ b. cond b 1 0) (stopped_alike m n (docs_alike m n h))
 
--- ---- by the kind and the name of a message
+-- ---- determined by the kind and the name of a message
 
 text_told : (w : List ℕ) (o : Option Doc) (s : List ℕ) → text_value o ≡ Some s
     → is_text w o ≡ bytes_eq w s

@@ -1,4 +1,5 @@
--- What the tables hold and give are the numbers of the classes and their names.
+-- The numbers in the tables are those of the classes, and their positions are the canonical
+-- numbers.
 use Rattle.std.proofs.Common.{◌≡◌, ℕ, zero, suc, ◌+◌, ◌<◌, ◌≤◌, ℤ, pos, Bool, true, false, cond}
 use Rattle.std.proofs.Common.{eqb, take, Result, Ok, Err, OnOk, OnErr, is_err}
 use Rattle.std.proofs.Common.{List, [], ◌∷◌, ◌++◌, length, map, zip, get_or, refl, sym, ◌∙◌, ap}
@@ -34,7 +35,7 @@ use Rattle.dap_rename.proofs.Occurrences.{class_decides, class_sort, class_apart
 use Rattle.dap_rename.proofs.Occurrences.{same_sent, occurrences-push, stops-push}
 use Rattle.dap_rename.proofs.Sameness.{proper_suc}
 
--- the lists are the distinct numbers of each class behind so many stops
+-- the lists are the distinct numbers of each class after k stops
 abbrev pub StandAfter : ℕ → Lists → List (Class × ℤ) → Type 0
 StandAfter k l os = (s : Sort) → table_of l s ≡ table same_class (class_after k s) os
 
@@ -68,7 +69,7 @@ stand-added_all k l os (i ∷ is) h =
     λ s. t s ∙ ap (table same_class (class_after k s))
     (append_assoc os (occurrence k i ∷ []) (map (occurrence k) is))
 
--- the ids of a message with the names that the lists give
+-- the ids of a message with the canonical numbers that the lists define
 pub named_ids_are : (k : ℕ) (l : Lists) (os : List (Class × ℤ)) (is : List (Sort × ℤ))
     → StandAfter k l os
     → map (occurrence k) (zip (sorts_of is) (names_from l is))
@@ -84,7 +85,7 @@ pub count_names : (l : Lists) (is : List (Sort × ℤ)) → length (names_from l
 count_names l [] = refl
 count_names l (i ∷ is) = ap suc (count_names (added l i.0 i.1) is)
 
--- names are no references of 0
+-- canonical numbers are not variables references of 0
 pub names_proper : (ss : List Sort) (l : Lists) (is : List (Sort × ℤ))
     → are_proper (zip ss (names_from l is)) ≡ true
 names_proper [] l is = refl
@@ -95,14 +96,14 @@ names_proper (s ∷ ss) l (i ∷ is) =
 
 -- ---- the lists of classes
 
--- as many classes were put by as there were stops
+-- as many classes have ended as there were stops
 pub past_count : (past : List PastClasses) (s : Sort)
     → length (past_lists past s) ≡ (class_after (length past) s).1
 past_count past Frame = length-map past (λ p. p.frames.items)
 past_count past Reference = length-map past (λ p. p.references.items)
 past_count past s = refl
 
--- the last list of a sort is that of its present class
+-- the last list of a kind is that of its present class
 pub present_list : (past : Sort → List (List ℤ)) (now : Sort → List ℤ) (k : ℕ) (s : Sort)
     → length (past s) ≡ (class_after k s).1 → list_of_class past now (class_after k s) ≡ now s
 present_list past now k Frame h = get_or_push (past Frame) (now Frame) [] k h
@@ -116,7 +117,7 @@ present_class k c h =
     same_pair : (a b : Sort) (m n : ℕ) → a ≡ b → m ≡ n → ◌≡◌ {A = Class} (a, m) (b, n)
     same_pair a b m n p q = rw (p, q) refl
 
--- the lists before the last one have nothing to do with it
+-- the lists before the last one do not depend on it
 other_list : (xs : List (List ℤ)) (x y : List ℤ) (j : ℕ) → (j ≡ length xs → ⊥)
     → get_or (xs ++ x ∷ []) j [] ≡ get_or (xs ++ y ∷ []) j []
 other_list [] x y zero h = absurd (h refl)
@@ -124,7 +125,7 @@ other_list [] x y (suc j) h = refl
 other_list (z ∷ xs) x y zero h = refl
 other_list (z ∷ xs) x y (suc j) h = other_list xs x y j (λ e. h (omega (arith, e)))
 
--- a list that has a number and was not put by is the last one
+-- a list that has a number and has not ended is the last one
 pub last_list : (xs : List (List ℤ)) (x : List ℤ) (j i : ℕ) → length xs ≤ j
     → i < length (get_or (xs ++ x ∷ []) j []) → get_or (xs ++ x ∷ []) j [] ≡ x
 last_list [] x zero i h k = refl
@@ -132,20 +133,20 @@ last_list [] x (suc j) i h k = absurd (omega (arith, k))
 last_list (z ∷ xs) x zero i h k = absurd (omega (arith, h))
 last_list (z ∷ xs) x (suc j) i h k = last_list xs x j i (omega (arith, h)) k
 
--- one number of a table more
+-- one more number of a table
 pub numbers_step : (xs : List ℤ) (k : ℕ) (old new : List ℤ) (x : ℤ) → k < length xs
     → old ≡ take k xs → x ≡ get_or xs k (pos 0) → new ≡ old ++ x ∷ [] → new ≡ take (k + 1) xs
 numbers_step xs k old new x h e f q =
     q ∙ ap (λ t. t ++ x ∷ []) e ∙ ap (λ y. take k xs ++ y ∷ []) f ∙ sym (take_more xs k (pos 0) h)
 
--- a last list without numbers is as none
+-- an empty last list is like no list
 pub empty_last : (xs : List (List ℤ)) (j : ℕ) → get_or (xs ++ [] ∷ []) j [] ≡ get_or xs j []
 empty_last [] zero = refl
 empty_last [] (suc j) = refl
 empty_last (z ∷ xs) zero = refl
 empty_last (z ∷ xs) (suc j) = empty_last xs j
 
--- ---- a class that is not the present one of its sort
+-- ---- a class that is not the present class of its kind
 
 class_other : (k : ℕ) (c : Class) (s : Sort) → (c.1 ≡ (class_after k c.0).1 → ⊥)
     → same_class c (class_after k s) ≡ false
@@ -170,7 +171,7 @@ table_other k c os is h =
     ∙ ap (λ t. numbers same_class c os ++ t) (numbers_other k c is h)
     ∙ append-nil (numbers same_class c os))
 
--- ---- ids are named
+-- ---- interning ids
 
 -- the lists of classes are their distinct numbers
 abbrev pub AreHeld : (Sort → List (List ℤ)) → Lists → List (Class × ℤ) → Type 0
@@ -196,7 +197,7 @@ module _ (past : Sort → List (List ℤ)) (l : Lists) (k : ℕ) (os : List (Cla
       (λ e. apart (e ∙ count c.0))
       ∙ held c ∙ sym (table_other k c os is apart))
 
--- ---- names, one message more
+-- ---- names after one more message
 
 module _ {T : Type 0} (stop : Sent → ℕ) (numbers_of : T → List ℤ) (limit : T → ℕ) where
   module _ (names : Names T) (ms : List Sent) (h : StandWith stop numbers_of limit names ms) where
@@ -313,7 +314,7 @@ stand_new stop numbers_of limit names none empty =
     nothing Frame j = refl
     nothing s j = refl
 
--- names whose lists are as before
+-- names with unchanged lists
 pub same_classes : {T : Type 0} (numbers_of : T → List ℤ) (t u : Tables T)
     (past more : List PastClasses) → lists numbers_of u ≡ lists numbers_of t → more ≡ past
     → (c : Class)
@@ -328,7 +329,7 @@ pub on_err_told : {V E P : Type 0} (r : Result V E) → is_err r ≡ true → On
 on_err_told (Ok v) e h = absurd (true≢false (sym e))
 on_err_told (Err f) e h = h
 
--- a message with these names at its ids
+-- a message with these canonical numbers at its ids
 pub renamed : (stop : Sent → ℕ) (ms : List Sent) (m new : Sent) (l : Lists) → new.side ≡ m.side
     → skeleton new.doc ≡ skeleton m.doc
     → ids new.doc ≡ zip (sorts_of (ids m.doc)) (names_from l (ids m.doc)) →
@@ -340,7 +341,7 @@ renamed stop ms m new l side skel numbered h = record {
       ∙ named_ids_are (stops_after stop 0 ms) l (occurrences stop 0 ms) (ids m.doc) h;
 }
 
--- it, where the names are put at the ids
+-- this message, if the canonical numbers are inserted at the ids
 pub renamed_with : (stop : Sent → ℕ) (ms : List Sent) (m : Sent) (l : Lists) (ns : List ℤ)
     → ns ≡ names_from l (ids m.doc)
     → StandAfter (stops_after stop 0 ms) l (occurrences stop 0 ms)
@@ -351,7 +352,7 @@ renamed_with stop ms m l ns named h =
     renamed stop ms m (with_numbers m ns) l refl (skeleton-with m.doc ns)
     (ids-with m.doc ns count ∙ ap (renumbered m.doc) named) h
 
--- two facts of an `Ok` give a third
+-- two facts about `Ok` imply a third
 pub on_ok_both : {V E P Q R : Type 0} (r : Result V E) → OnOk r P → OnOk r Q → (P → Q → R)
     → OnOk r R
 on_ok_both (Ok v) p q f = f p q

@@ -1,4 +1,4 @@
--- For private clauses: a test whether pairs carry one document, message or list of messages to
+-- For private clauses: a test whether pairs map one document, message or list of messages to
 -- another.
 use Rattle.std.specs.Prelude.{ℕ, ◌+◌, ℤ, Bool, true, false, ◌&&◌, List, [], ◌∷◌, bytes_eq}
 use Rattle.std.specs.Bool.{beq}
@@ -13,12 +13,12 @@ use Rattle.dap_rename.specs.Pairs.{class_of}
 use Rattle.dap_rename.specs.Sorts.{same_sort}
 use Rattle.dap_rename.specs.declared.pair.Pair.{Pair}
 
--- Some pair of the class takes x and gives y.
+-- Some pair of the class maps x to y.
 abbrev pub has_pair : List Pair → Class → ℤ → ℤ → Bool
 has_pair ps c x y =
     list_any (λ p. same_class (class_of p) c && (int_eq p.from x && int_eq p.to y)) ps
 
--- Behind so many stops the pairs carry the one document to the other.
+-- After k stops, the pairs map the first document to the second.
 abbrev mutual
   pub carries_doc : List Pair → ℕ → Doc → Doc → Bool
   carries_doc ps k null null = true
@@ -44,7 +44,7 @@ abbrev mutual
 abbrev pub carries_sent : List Pair → ℕ → Sent → Sent → Bool
 carries_sent ps k m n = same_side m.side n.side && carries_doc ps k m.doc n.doc
 
--- So it is of messages behind so many stops, where these are stops.
+-- The same for lists of messages after k stops, where `stop` counts the stops of a message.
 abbrev pub carries_list : List Pair → (Sent → ℕ) → ℕ → List Sent → List Sent → Bool
 carries_list ps stop k [] [] = true
 carries_list ps stop k (m ∷ ms) (n ∷ ns) =

@@ -1,8 +1,8 @@
--- What a renaming is to its callers.
+-- The model of a renaming.
 use Rattle.std.specs.Prelude.{List}
 use Rattle.dap_rename.specs.declared.pair.Pair.{Pair}
 use Rattle.dap_rename.specs.declared.renaming.Renaming.{Renaming}
 
--- The pairs that it has, in their order.
+-- Its pairs, in order.
 abbrev pub pairs_of : Renaming → List Pair
 pairs_of r = r.pairs.items

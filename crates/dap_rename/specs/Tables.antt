@@ -1,5 +1,5 @@
--- The tables of the sorts, and for private clauses what they hold as lists, and the names that
--- those give.
+-- The tables of the kinds of ids. For private clauses: their numbers as lists, and the canonical
+-- numbers that these define.
 use Rattle.std.specs.Prelude.{◌≡◌, ◌≤◌, ◌<◌, ℕ, ℤ, cond, List, [], ◌∷◌, length, take}
 use Rattle.dap_tree.specs.declared.sort.Sort.{Sort}
 use Rattle.dap_tree.specs.declared.sort.Sort.TheVariants.{ClientSeq, AdapterSeq, Frame, Reference}
@@ -9,7 +9,7 @@ use Rattle.dap_names.specs.Table.{place}
 use Rattle.dap_rename.specs.Sorts.{same_sort}
 use Rattle.dap_rename.specs.declared.tables.Tables.{Tables}
 
--- What is there for a sort.
+-- The table of a kind.
 abbrev pub table_of : {T : Type 0} → Tables T → Sort → T
 table_of t ClientSeq = t.client_seq
 table_of t AdapterSeq = t.adapter_seq
@@ -18,7 +18,7 @@ table_of t Reference = t.reference
 table_of t Thread = t.thread
 table_of t Breakpoint = t.breakpoint
 
--- For each sort what is said of it.
+-- The value of a function for each kind.
 abbrev pub tables_of : {T : Type 0} → (Sort → T) → Tables T
 tables_of f =
     record {
@@ -30,41 +30,41 @@ tables_of f =
       breakpoint = f Breakpoint;
     }
 
--- A list for each sort.
+-- A list for each kind of id.
 abbrev pub Lists : Type 0
 Lists = Tables (List ℤ)
 
--- What the tables hold.
+-- The numbers in the tables.
 abbrev pub lists : {T : Type 0} → (T → List ℤ) → Tables T → Lists
 lists numbers t = tables_of (λ s. numbers (table_of t s))
 
--- How many names they have.
+-- The lengths of the tables.
 abbrev pub counts : {T : Type 0} → (T → List ℤ) → Tables T → Tables ℕ
 counts numbers t = tables_of (λ s. length (numbers (table_of t s)))
 
--- The lists after an id was named.
+-- The lists after an id was interned.
 abbrev pub added : Lists → Sort → ℤ → Lists
 added l s x = tables_of (λ r. cond (same_sort r s) (add (table_of l r) x) (table_of l r))
 
--- The lists after these ids were named in turn.
+-- The lists after these ids were interned, one after another.
 abbrev pub added_all : Lists → List (Sort × ℤ) → Lists
 added_all l [] = l
 added_all l (i ∷ is) = added_all (added l i.0 i.1) is
 
--- The name of each id, where each is named after those before it.
+-- The canonical number of each id, if they are interned one after another.
 abbrev pub names_from : Lists → List (Sort × ℤ) → List ℤ
 names_from l [] = []
 names_from l (i ∷ is) = place (table_of l i.0) i.1 ∷ names_from (added l i.0 i.1) is
 
--- The new list begins with the old one.
+-- The old list is a prefix of the new list.
 abbrev pub Begins : List ℤ → List ℤ → Type 0
 Begins old new = (length old ≤ length new) × (take (length old) new ≡ old)
 
--- Each new list begins with its old one.
+-- Each old list is a prefix of its new list.
 unfoldable pub AllBegin : Lists → Lists → Type 0
 AllBegin old new = (s : Sort) → Begins (table_of old s) (table_of new s)
 
--- A limit for each sort.
+-- A limit for each kind of id.
 abbrev pub Limits : Type 0
 Limits = Tables ℕ
 

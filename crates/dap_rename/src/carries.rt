@@ -1,4 +1,4 @@
-//! Whether pairs carry one list of messages to another, told without memory.
+//! Whether pairs map one list of messages to another, decided without allocating.
 ghost use Rattle.std.specs.Prelude.{◌≡◌, ◌+◌, ◌<◌, ◌^◌, map};
 ghost use Rattle.dap_tree.specs.View.{view, items_view, members_view};
 ghost use Rattle.dap_message.specs.Message.{sent};
@@ -39,7 +39,7 @@ pub(crate) fn carries_list(
     rest.is_empty()
 }
 
-// How many stops are behind the message, where there are so many before it.
+// Returns the number of stops after the message, given the number before it.
 fn stops_behind(stops: u64, mode: Mode, message: &Message) -> u64
     requires { stops < 2 ^ 63 }
     ensures { result ≡ stops + stop_in mode (sent message.now) }
@@ -81,7 +81,7 @@ fn carries_tree(renaming: &Renaming, stops: u64, from: &Tree, to: &Tree) -> bool
     }
 }
 
-// The number of the class that an id of the sort has behind so many stops.
+// Returns the stop of the class that an id of this kind has after `stops` stops.
 fn class_behind(stops: u64, sort: Sort) -> u64
     ensures { result ≡ (class_after stops sort).1 }
 {

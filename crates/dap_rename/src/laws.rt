@@ -1,5 +1,8 @@
-//! Theorems on renamings and on the normal form, which hold of all lists of messages. Each function
-//! does nothing: a call of it gives its clauses to a proof.
+//! Theorems about renamings and the normal form, for all lists of messages. Each function is empty:
+//! calling it makes its `ensures` clauses available to the caller's proof.
+//!
+//! Two lists are *the same* if some renaming maps one to the other. A *proper* list has no
+//! variables reference of 0.
 ghost use Rattle.dap_rename.specs.Laws.{WholeIsTold, ModeIsTold, SameAsItself, SameBothWays};
 ghost use Rattle.dap_rename.specs.Laws.{SameAlong, SameIsProper, SameFronts, SameCounts};
 ghost use Rattle.dap_rename.specs.Laws.{FrontHasFewIds, SameInEachMode};
@@ -8,7 +11,7 @@ ghost use Rattle.dap_rename.specs.Laws.{NamedIsNormal, SomeNormal, NormalIsItsOw
 ghost use Rattle.dap_rename.specs.Laws.{NormalOfNext, NamesAreCounted, NamesAreSmall};
 ghost use Rattle.dap_rename.specs.Laws.{EqualPlacesRename, EqualPlacesCarry, SameByParts};
 
-/// Being the same is an equivalence on the lists without a variables reference of 0.
+/// States that being the same is an equivalence relation on proper lists.
 pub fn same_is_equivalence()
     ensures itself { SameAsItself }
     ensures both_ways { SameBothWays }
@@ -16,24 +19,27 @@ pub fn same_is_equivalence()
     ensures proper { SameIsProper }
 {}
 
-/// What lists that are the same share.
+/// States what lists that are the same have in common: prefixes of equal length are the same, and
+/// their classes have equally many distinct numbers. A prefix of a list has no more ids than the
+/// list.
 pub fn same_share()
     ensures fronts { SameFronts }
     ensures counts { SameCounts }
     ensures few { FrontHasFewIds }
 {}
 
-/// Lists that are the same stay so with further ids that are equal, of other sorts.
+/// States that lists that are the same remain the same with additional ids of other kinds that are
+/// equal in both.
 pub fn same_with_other_ids()
     ensures { SameByParts }
 {}
 
-/// Lists that are the same in the whole of a recording are the same where names begin again.
+/// States that lists that are the same in the mode `Whole` are the same in every mode.
 pub fn same_in_each_mode()
     ensures { SameInEachMode }
 {}
 
-/// Lists have one normal form exactly where they are the same.
+/// States that lists have the same normal form if and only if they are the same.
 pub fn one_normal_form()
     ensures fresh { FreshIsUnique }
     ensures unique { NormalIsUnique }
@@ -41,7 +47,8 @@ pub fn one_normal_form()
     ensures own { NormalIsItsOwn }
 {}
 
-/// Every list has a normal form: the messages with the names of their ids.
+/// States that every proper list has a normal form: the messages with the canonical numbers of
+/// their ids.
 pub fn some_normal_form()
     ensures named { NamedIsNormal }
     ensures some { SomeNormal }
@@ -49,19 +56,21 @@ pub fn some_normal_form()
     ensures told_in_mode { ModeIsTold }
 {}
 
-/// The normal form grows message by message.
+/// States that the normal form can be computed message by message.
 pub fn normal_form_grows()
     ensures front { NormalOfFront }
     ensures next { NormalOfNext }
 {}
 
-/// Names are counted from 1, up to the count of the distinct numbers of their class.
+/// States that canonical numbers are counted from 1 to the number of distinct numbers of their
+/// class.
 pub fn names_are_small()
     ensures counted { NamesAreCounted }
     ensures small { NamesAreSmall }
 {}
 
-/// The pairs of equal places are a renaming, which carries a list to each list that is the same.
+/// States that pairing the distinct numbers of two proper lists by position is a renaming, which
+/// maps one list to the other if they are the same.
 pub fn equal_places_carry()
     ensures renaming { EqualPlacesRename }
     ensures carry { EqualPlacesCarry }

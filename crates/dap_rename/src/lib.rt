@@ -1,10 +1,10 @@
-//! Names for ids by first appearance, and renamings of ids.
+//! Canonical numbers of ids by first appearance, and renamings of ids.
 //!
-//! [`Names`] gives each id of the messages that it is shown the place of its number among the
-//! distinct numbers of its class, counted from 1. A class is a sort, and where the [`Mode`] says so
-//! those of frames and references begin again behind each stop. `specs/` says what it is that one
-//! list of messages is a renaming of another, and what the normal form of a list is; [`laws`] has
-//! the theorems.
+//! [`Names`] assigns each id of the messages that it receives its canonical number: the position of
+//! its number among the distinct numbers of its class, counted from 1. A class is a kind of id. If
+//! the [`Mode`] is `PerStop`, frame ids and variables references have a new class after each stop.
+//! `specs/` defines when one list of messages is a renaming of another, and what the normal form of
+//! a list is. [`laws`] contains the theorems.
 #![tactic(auto)]
 
 mod carries;

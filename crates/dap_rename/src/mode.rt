@@ -1,23 +1,24 @@
-//! Where names begin again.
+//! When canonical numbers restart.
 ghost use Rattle.std.specs.Prelude.{◌≡◌, cond};
 ghost use Rattle.dap_rename.specs.Modes.{is_stopped, stop_in};
 
 use dap_message::{AnyMessage, Kind};
 
-/// What the name of an id is fixed to.
+/// When the canonical numbers of ids restart.
 ///
-/// The ids of frames and the variables references are good until the debuggee goes on, and many
-/// adapters count them from the start again at each stop. The other ids are those of the whole
-/// recording in both modes.
+/// Frame ids and variables references are valid until the debuggee continues, and many adapters
+/// restart them at each stop. In both modes, all other ids have one numbering for the recording.
 #[derive(Clone, Copy, Debug, PartialEq, Eq, Drop)]
 pub enum Mode {
-    /// A number has one name in the whole recording.
+    /// A number has one canonical number in the entire recording.
     Whole,
-    /// The names of frames and variables references begin again behind each `stopped` event.
+    /// The canonical numbers of frame ids and variables references restart after each `stopped`
+    /// event.
     PerStop,
 }
 
-/// Whether the names of frames and references begin again behind the message.
+/// Returns whether the canonical numbers of frame ids and variables references restart after the
+/// message.
 pub(crate) fn begin_again_behind<M: AnyMessage>(mode: Mode, message: &M) -> bool
     ensures { stop_in mode (M.sent message.now) ≡ cond result 1 0 }
 {

@@ -1,4 +1,4 @@
-//! The names of the ids of messages, in the order in which they come.
+//! The canonical numbers of the ids of messages, in the order in which they are received.
 ghost use Rattle.std.specs.Prelude.{◌≡◌, ◌+◌, ◌<◌, ◌≤◌, List, [], ◌∷◌, ◌++◌, pos, length, true};
 ghost use Rattle.std.specs.Prelude.{Err, IfOk, OnOk, OnErr, MatchOption, slice_index_or};
 ghost use Rattle.dap_tree.specs.Ids as documents;
@@ -17,13 +17,15 @@ use dap_names::{NameFault, NameTable};
 use dap_tree::Sort;
 use std::alloc::{AllocError, Global};
 
-/// The names of the ids of the messages so far, each sort in a table of its own.
+/// The canonical numbers of the ids of the messages so far, with one interning table for each kind
+/// of id.
 #[derive(Drop)]
 pub struct Names<T> {
-    // Those of frames and references are of the present class.
+    // The tables of frame ids and variables references contain the present class.
     tables: Tables<T>,
     mode: Mode,
-    // A class of frames and one of references for each stop; none in `Whole`.
+    // One ended class of frame ids and one of variables references for each stop. Empty with
+    // `Whole`.
     past: Vec<PastClasses>,
     alloc: Global,
 }
@@ -34,7 +36,7 @@ impl<T: NameTable> Names<T> {
     ghost use Rattle.dap_rename.specs.Names.{past_lists};
     ghost use Rattle.dap_rename.specs.Tables.{table_of};
 
-    /// Names of no message yet. Takes no memory.
+    /// Returns the canonical numbers of no messages. Does not allocate.
     pub fn new(alloc: Global, tables: Tables<T>, mode: Mode) -> Names<T>
         requires { AreEmpty T.numbers tables }
         ensures stand { StandFor T.numbers T.limit result [] }
@@ -49,11 +51,15 @@ impl<T: NameTable> Names<T> {
         }
     }
 
-    /// The message with the names of its ids in their place, where its new ids are given the next
-    /// names of their classes. Behind a stop the names of the next classes begin again.
+    /// Replaces each id of the message by its canonical number. A new id is assigned the next
+    /// number of its class. After a stop, the next classes start at 1.
     ///
-    /// `Full` is answered only where some class would have more names than its table's limit. On
-    /// every fault the names are as before, and the message is dropped.
+    /// # Errors
+    ///
+    /// - `Full`: a class would have more ids than the limit of its table.
+    /// - `Memory`: an allocation failed.
+    ///
+    /// On an error the canonical numbers are unchanged, and the message is dropped.
     pub fn rename(&mut self, message: Message) -> Result<Message, NameFault>
         ensures renamed { IfOk result (λ new. (ms : List Sent)
             → StandFor T.numbers T.limit self.old ms
@@ -75,23 +81,23 @@ impl<T: NameTable> Names<T> {
         Ok(message.replace_ids(names.as_slice()))
     }
 
-    /// Returns the names of the ids of a message, in the order of its ids, whatever form its
-    /// document is held in. A new id gets the next name of its class. After a stop the names of the
-    /// next classes begin again.
+    /// Returns the canonical numbers of the ids of a message, in the order of its ids. The message
+    /// may represent its document in any way. A new id is assigned the next number of its class.
+    /// After a stop, the next classes start at 1.
     ///
     /// # Errors
     ///
-    /// - `Full`: some class would have more names than the limit of its table.
+    /// - `Full`: a class would have more ids than the limit of its table.
     /// - `Memory`: an allocation failed.
     ///
-    /// On an error the names are as before.
+    /// On an error the canonical numbers are unchanged.
     pub fn name_message<M: AnyMessage>(&mut self, message: &M) -> Result<Vec<i64>, NameFault>
         ensures renamed { IfOk result (λ names. (ms : List Sent)
             → StandFor T.numbers T.limit self.old ms
             → IsRenamed (stop_in (mode_of self.old)) ms (M.sent message.now)
             (with_numbers (M.sent message.now) names.items)) }
 
-        // Each id has one name, and no name of a variables reference is 0.
+        // Each id has one canonical number, and that of a variables reference is not 0.
         ensures count { IfOk result
             (λ names. length names.items ≡ length (documents.ids (M.sent message.now).doc)) }
         ensures proper { IfOk result
@@ -117,22 +123,22 @@ impl<T: NameTable> Names<T> {
         self.name_ids(ids.as_slice(), stops)
     }
 
-    /// Where the names begin again. Takes no memory.
+    /// Returns the mode, which decides when canonical numbers restart. Does not allocate.
     pub fn mode(&self) -> Mode
         ensures { result ≡ mode_of self.now }
     {
         self.mode
     }
 
-    /// How many stops were renamed, behind each of which names began again: none in `Whole`. Takes
-    /// no memory.
+    /// Returns the number of stops so far, after each of which canonical numbers restarted; always
+    /// 0 with `Whole`. Does not allocate.
     pub fn stops(&self) -> u64
         ensures { result ≡ stops_of self.now }
     {
         self.past.len() as u64
     }
 
-    /// How many ids of the sort have names in its present class. Takes no memory.
+    /// Returns the number of ids of this kind in its present class. Does not allocate.
     pub fn len(&self, sort: Sort) -> usize
         ensures { result ≡ length (numbers_at T.numbers self.now
             (class_after (stops_of self.now) sort)) }
@@ -140,9 +146,9 @@ impl<T: NameTable> Names<T> {
         self.tables.table(sort).len()
     }
 
-    /// How many ids of the sort had names in its class behind so many stops: 0 for a class that is
-    /// not reached, and where a sort other than frames and references has no class behind a stop.
-    /// Takes no memory.
+    /// Returns the number of ids of this kind in the class after `stop` stops. Returns 0 if that
+    /// class is not reached yet or does not exist: only frame ids and variables references have a
+    /// class after a stop. Does not allocate.
     pub fn len_at(&self, sort: Sort, stop: u64) -> usize
         ensures { result ≡ length (numbers_at T.numbers self.now (sort, stop)) }
     {
@@ -153,7 +159,7 @@ impl<T: NameTable> Names<T> {
         }
     }
 
-    /// The number that has this place, from 0, in a class.
+    /// Returns the number at this index, from 0, of a class.
     pub(crate) fn number_at(&self, sort: Sort, stop: u64, index: usize) -> i64
         requires { index < length (numbers_at T.numbers self.now (sort, stop)) }
         ensures { result ≡ slice_index_or (numbers_at T.numbers self.now (sort, stop))
@@ -165,7 +171,7 @@ impl<T: NameTable> Names<T> {
         }
     }
 
-    /// The number of the present class of the sort, from 0.
+    /// Returns the stop of the present class of this kind.
     pub(crate) fn last(&self, sort: Sort) -> u64
         ensures { result ≡ (class_after (stops_of self.now) sort).1 }
     {
@@ -175,7 +181,8 @@ impl<T: NameTable> Names<T> {
         }
     }
 
-    // The numbers of a class that was put by.
+    // Returns the numbers of an ended class, or `None` if the class has not ended or does not
+    // exist.
     fn put_by(&self, sort: Sort, stop: u64) -> Option<&[i64]>
         ensures { MatchOption result
             (length (past_lists self.now.past.items sort) ≤ stop)
@@ -190,8 +197,8 @@ impl<T: NameTable> Names<T> {
         }
     }
 
-    // The name of each id; where there is a stop, names begin again behind them. On a fault the
-    // names are as before.
+    // Returns the canonical number of each id. If `stops` is true, restarts canonical numbers after
+    // them. On an error, the canonical numbers are unchanged.
     fn name_ids(&mut self, ids: &[(Sort, i64)], stops: bool) -> Result<Vec<i64>, NameFault>
         ensures named { IfOk result (λ v. v.items
             ≡ names_from (lists T.numbers self.old.tables) ids.now) }
@@ -213,8 +220,8 @@ impl<T: NameTable> Names<T> {
         Ok(names)
     }
 
-    // Puts by the present classes of frames and of references, and begins the next ones. On an
-    // error the names are as before.
+    // Saves the present classes of frame ids and variables references and starts the next ones. On
+    // an error, the canonical numbers are unchanged.
     fn begin_again(&mut self) -> Result<(), AllocError>
         ensures begun { OnOk result (BeginAgain T.numbers self.old self.new) }
         ensures past { OnErr result (self.new.past.items ≡ self.old.past.items) }

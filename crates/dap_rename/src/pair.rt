@@ -1,38 +1,39 @@
-//! The pairs of a renaming, and why pairs are none.
+//! The pairs of a renaming, and why pairs are not a renaming.
 use dap_tree::Sort;
 use thiserror::Error;
 
-/// A number of a class, and the number that is put in its place.
+/// A number of a class, and the number that replaces it.
 ///
-/// A class is a sort, and of frames and references how many stops there are before it.
+/// A class is a kind of id. For frame ids and variables references it also has the number of stops
+/// before it.
 #[derive(Clone, Copy, Debug, PartialEq, Eq)]
 pub struct Pair {
     pub sort: Sort,
-    /// 0 where names do not begin again, and for sorts other than frames and references.
+    /// The number of stops before the class. It is 0 if canonical numbers do not restart, and for
+    /// all kinds except frame ids and variables references.
     pub stop: u64,
     pub from: i64,
     pub to: i64,
 }
 
-/// Why pairs are no renaming: the place, from 1, of the first pair that may not stand behind those
-/// before it.
+/// Why pairs are not a renaming, with the position, from 1, of the first pair that has an error.
 ///
-/// Of several reasons at that place the first is told, in the order of the variants.
+/// If a pair has several errors, the first one in the order of the variants is reported.
 #[derive(Clone, Copy, Debug, PartialEq, Eq, Drop, Error)]
 pub enum PairFault {
-    /// Its stop is not 0, and its sort is none that begins again.
+    /// Its `stop` is not 0, and its kind does not restart at stops.
     #[error("BadStop {0}")]
     BadStop(usize),
-    /// It takes or gives the variables reference 0, which refers to nothing.
+    /// Its `from` or its `to` is a variables reference of 0, which refers to nothing.
     #[error("ZeroReference {0}")]
     ZeroReference(usize),
-    /// An earlier pair of its class takes the same number.
+    /// An earlier pair of its class has the same `from`.
     #[error("FromTwice {0}")]
     FromTwice(usize),
-    /// An earlier pair of its class gives the same number.
+    /// An earlier pair of its class has the same `to`.
     #[error("ToTwice {0}")]
     ToTwice(usize),
-    /// A growth of memory was refused.
+    /// An allocation failed.
     #[error("Memory")]
     Memory,
 }

@@ -1,4 +1,4 @@
-//! The check that pairs are a renaming, and an index that finds pairs by class and both numbers.
+//! The test whether pairs are a renaming, and an index that finds pairs by class and both numbers.
 ghost use Rattle.std.specs.Prelude.{◌≡◌, suc, List, [], ◌∷◌, ◌++◌, length, MatchOption, IfOk};
 ghost use Rattle.std.specs.Prelude.{IsOk};
 ghost use Rattle.std.specs.List.{range_with_len};
@@ -12,11 +12,10 @@ use dap_tree::Sort;
 use std::alloc::{AllocError, Global};
 use std::collections::BTreeSet;
 
-// A number of a class.
+// The sort key of a number of a class.
 type Key = ((u8, u64), i64);
 
-/// The places of pairs, in the order of the pairs there: by class, then by the number that is
-/// taken, then by the one that is given.
+/// The positions of pairs, sorted by the class of the pair, then by `from`, then by `to`.
 #[derive(Drop)]
 pub(crate) struct PairIndex {
     places: Vec<usize>,
@@ -25,8 +24,8 @@ pub(crate) struct PairIndex {
 impl PairIndex {
     ghost use Rattle.dap_rename.specs.PairIndex.{IsIndexOf};
 
-    /// The index of the pairs, which takes 8 bytes a pair. Where they ascend it takes n steps, and
-    /// else n log n.
+    /// Returns the index of the pairs, which occupies 8 bytes per pair. Takes O(n) time if the
+    /// pairs are in ascending order, and O(n log n) otherwise.
     pub(crate) fn new(alloc: Global, pairs: &[Pair]) -> Result<PairIndex, AllocError>
         ensures index { IfOk result (IsIndexOf pairs.now) }
         ensures empty { pairs.now ≡ [] → IsOk result }
@@ -36,7 +35,7 @@ impl PairIndex {
         Ok(PairIndex { places })
     }
 
-    /// Whether some pair is equal to this one, where the index is that of the pairs.
+    /// Returns whether some pair is equal to this one. The index must be that of the pairs.
     pub(crate) fn has(&self, pairs: &[Pair], pair: &Pair) -> bool
         requires { IsIndexOf pairs.now self.now }
         ensures { result ≡ has_pair pairs.now (class_of pair.now) pair.now.from pair.now.to }
@@ -49,7 +48,7 @@ impl PairIndex {
     }
 }
 
-// The places below the count, in ascending order.
+// Returns the positions below the count, in ascending order.
 fn places_below(alloc: Global, count: usize) -> Result<Vec<usize>, AllocError>
     ensures places { IfOk result (λ places. places.items ≡ range_with_len 0 count) }
     ensures empty { count ≡ 0 → IsOk result }
@@ -60,7 +59,7 @@ fn places_below(alloc: Global, count: usize) -> Result<Vec<usize>, AllocError>
     (0..count).collect(alloc)
 }
 
-// What the pair at the place is found by.
+// Returns the key of the pair at this position.
 fn key_at(pairs: &[Pair], place: usize) -> (Key, i64)
     ensures { result ≡ key_at pairs.now place }
 {
@@ -70,21 +69,21 @@ fn key_at(pairs: &[Pair], place: usize) -> (Key, i64)
     }
 }
 
-// What a pair is found by.
+// Returns the key by which a pair is found.
 fn pair_key(pair: &Pair) -> (Key, i64)
     ensures { result ≡ pair_key (class_of pair.now) pair.now.from pair.now.to }
 {
     (key(pair, pair.from), pair.to)
 }
 
-// A number of the class of a pair.
+// Returns the key of a number in the class of a pair.
 fn key(pair: &Pair, number: i64) -> Key
     ensures { result ≡ key (class_of pair.now) number }
 {
     ((pair.sort as u8, pair.stop), number)
 }
 
-// The numbers that the pairs so far take, and those that they give.
+// The `from` and `to` numbers of the pairs so far.
 #[derive(Drop)]
 struct SeenPairs {
     taken: BTreeSet<Key>,
@@ -94,7 +93,7 @@ struct SeenPairs {
 impl SeenPairs {
     ghost use Rattle.dap_rename.specs.PairIndex.{HasSeen};
 
-    // Why the pair at this place may not stand behind those seen, or it is seen too.
+    // Returns why the pair at this position cannot follow the pairs so far, or adds it to them.
     fn add(&mut self, place: usize, pair: &Pair) -> Result<Option<PairFault>, AllocError>
         ensures { IfOk result (λ fault. (before : List Pair) → HasSeen self.old before
             → place ≡ suc (length before)
@@ -120,8 +119,8 @@ impl SeenPairs {
     }
 }
 
-/// The fault of the first of the pairs that fails, or none where they are a renaming. That no
-/// memory was to be had says nothing of them.
+/// Returns the error of the first pair that has one, or `None` if the pairs are a renaming. If an
+/// allocation fails, nothing is known about the pairs.
 pub(crate) fn seen_fault(alloc: Global, pairs: &[Pair]) -> Result<Option<PairFault>, AllocError>
     ensures told { IfOk result (λ told. MatchOption told
         (AreRenaming pairs.now) (FailsFirst pairs.now)) }
@@ -140,7 +139,8 @@ pub(crate) fn seen_fault(alloc: Global, pairs: &[Pair]) -> Result<Option<PairFau
     Ok(None)
 }
 
-/// Whether there is the class of the pair: only frames and references have one behind a stop.
+/// Returns whether the class of the pair exists: only frame ids and variables references have a
+/// class after a stop.
 pub(crate) fn has_class(pair: &Pair) -> bool
     ensures { result ≡ has_class pair.now }
 {
@@ -150,7 +150,7 @@ pub(crate) fn has_class(pair: &Pair) -> bool
     }
 }
 
-/// Whether neither number of the pair is a variables reference of 0.
+/// Returns whether neither number of the pair is a variables reference of 0.
 pub(crate) fn is_proper(pair: &Pair) -> bool
     ensures { result ≡ is_proper_pair pair.now }
 {

@@ -1,17 +1,17 @@
-//! The classes that a stop has ended.
+//! The classes that ended at a stop.
 ghost use Rattle.std.specs.Prelude.{◌≡◌, IfOk};
 
 use dap_names::NameTable;
 use std::alloc::{AllocError, Global};
 
-/// The numbers that had names between two stops, each list in the order of the names.
+/// The numbers of the classes between two stops, in the order of their canonical numbers.
 #[derive(Drop)]
 pub(crate) struct PastClasses {
     pub(crate) frames: Vec<i64>,
     pub(crate) references: Vec<i64>,
 }
 
-/// The numbers of the table, in the order of their names.
+/// Returns the numbers of the table, in the order of their canonical numbers.
 pub(crate) fn numbers_of<T: NameTable>(alloc: Global, table: &T) -> Result<Vec<i64>, AllocError>
     ensures { IfOk result (λ v. v.items ≡ T.numbers table.now) }
 {

@@ -1,4 +1,5 @@
-//! Renamings: made of pairs or between two tables, and asked whether they carry messages.
+//! Renamings, constructed from pairs or from two sets of canonical numbers, and whether they map
+//! messages to others.
 ghost use Rattle.std.specs.Prelude.{◌≡◌, ◌++◌, ◌↔◌, List, [], length, map, IsTrue, MatchOption};
 ghost use Rattle.std.specs.Prelude.{IfErr, IfOk, IsOk, OnOk};
 ghost use Rattle.dap_message.specs.Message.{Sent, sent};
@@ -23,7 +24,7 @@ use dap_names::{NameFault, NameTable};
 use dap_tree::{SORTS, Sort};
 use std::alloc::{AllocError, Global};
 
-/// Pairs of numbers that put other ids in the place of the ids of messages, class by class.
+/// Pairs of numbers that replace the ids of messages, class by class.
 #[derive(Drop)]
 pub struct Renaming {
     pairs: Vec<Pair>,
@@ -34,10 +35,16 @@ pub struct Renaming {
 impl Renaming {
     ghost use Rattle.dap_rename.specs.Renaming.{pairs_of};
 
-    /// The renaming of these pairs. It is refused if they are none: if there is no such class, or
-    /// some class has one number twice on either side, or a variables reference is 0.
+    /// Returns the renaming of these pairs. An empty list of pairs does not allocate.
     ///
-    /// An empty list of pairs takes no memory.
+    /// # Errors
+    ///
+    /// The first pair with an error is reported, at its position from 1:
+    ///
+    /// - `BadStop`: its class does not exist.
+    /// - `ZeroReference`: one of its numbers is a variables reference of 0.
+    /// - `FromTwice`, `ToTwice`: an earlier pair of its class has the same `from` or `to`.
+    /// - `Memory`: an allocation failed. The pairs are a renaming.
     pub fn new(alloc: Global, pairs: &[Pair]) -> Result<Renaming, PairFault>
         ensures pairs { IfOk result (λ r. pairs_of r ≡ pairs.now) }
         ensures renaming { OnOk result (AreRenaming pairs.now) }
@@ -54,7 +61,7 @@ impl Renaming {
         }
     }
 
-    // A copy of the pairs, with its index.
+    // Returns a copy of the pairs with its index.
     fn copied(alloc: Global, pairs: &[Pair]) -> Result<Renaming, AllocError>
         ensures pairs { IfOk result (λ r. pairs_of r ≡ pairs.now) }
         ensures empty { pairs.now ≡ [] → IsOk result }
@@ -64,7 +71,7 @@ impl Renaming {
         Renaming::indexed(alloc, copy)
     }
 
-    // The pairs, with their index.
+    // Returns the pairs with their index.
     fn indexed(alloc: Global, pairs: Vec<Pair>) -> Result<Renaming, AllocError>
         ensures pairs { IfOk result (λ r. pairs_of r ≡ pairs.items) }
         ensures empty { pairs.items ≡ [] → IsOk result }
@@ -73,19 +80,22 @@ impl Renaming {
         Ok(Renaming { pairs, index })
     }
 
-    /// The pairs, in their order. Takes no memory.
+    /// Returns the pairs in their order. Does not allocate.
     pub fn pairs(&self) -> &[Pair]
         ensures { result.now ≡ pairs_of self.now }
     {
         self.pairs.as_slice()
     }
 
-    /// The pairs of numbers with equal names, in the order of the sorts, then of the stops, and
-    /// then of the names.
+    /// Returns the pairs of numbers with equal canonical numbers, ordered by kind of id, then by
+    /// stop, then by canonical number.
     ///
-    /// The only fault is `Memory`. Beside the pairs it takes 8 bytes a pair, for the index by which
-    /// [`carries`](Renaming::carries) looks each id up. If no number has a name, it takes no
-    /// memory.
+    /// Allocates 8 bytes per pair in addition to the pairs, for the index that
+    /// [`carries`](Renaming::carries) uses. Does not allocate if there are no numbers.
+    ///
+    /// # Errors
+    ///
+    /// - `Memory`: an allocation failed.
     pub fn between<T: NameTable>(
         alloc: Global,
         from: &Names<T>,
@@ -107,9 +117,10 @@ impl Renaming {
         Ok(Renaming::indexed(alloc, pairs)?)
     }
 
-    /// Whether the pairs carry the one list to the other: the messages are equal but for the
-    /// numbers of their ids, and for each id there is a pair of its class, which the mode tells,
-    /// with its number in the one and in the other. Takes no memory.
+    /// Returns whether the renaming maps the first list to the second. The messages must be equal
+    /// except for the numbers of their ids. For each id, a pair of its class must map its number in
+    /// the first list to its number in the second; the mode determines the class. Does not
+    /// allocate.
     pub fn carries(&self, from: &[Message], to: &[Message], mode: Mode) -> bool
         ensures { IsTrue result ↔ Carries (stop_in mode) (entries (pairs_of self.now))
             (map sent from.now) (map sent to.now) }
@@ -117,7 +128,7 @@ impl Renaming {
         carries_list(self, from, to, mode)
     }
 
-    /// Whether some pair is equal to this one.
+    /// Returns whether some pair is equal to this one.
     pub(crate) fn has(&self, pair: &Pair) -> bool
         ensures { result
             ≡ has_pair (pairs_of self.now) (class_of pair.now) pair.now.from pair.now.to }
@@ -126,15 +137,15 @@ impl Renaming {
     }
 }
 
-// Whether the two are of one class.
+// Returns whether the two pairs have the same class.
 fn is_of_class(pair: &Pair, other: &Pair) -> bool
     ensures { result ≡ same_class (class_of pair.now) (class_of other.now) }
 {
     pair.sort == other.sort && pair.stop == other.stop
 }
 
-// The fault of the first pair that fails, found without memory and so by going through the earlier
-// pairs for each, or else that memory was refused.
+// Returns the error of the first pair that has one, or `Memory` if the pairs are a renaming. Does
+// not allocate: compares each pair with all earlier pairs.
 fn fault_or_memory(pairs: &[Pair]) -> PairFault
     ensures { RefusesPairs pairs.now result }
 {
@@ -186,7 +197,7 @@ fn is_given(before: &[Pair], pair: &Pair) -> bool
     before.iter().any(|earlier| is_of_class(earlier, pair) && earlier.to == pair.to)
 }
 
-// Adds the pairs of each class of the sort.
+// Appends the pairs of each class of the kind.
 fn add_sort<T: NameTable>(
     pairs: &mut Vec<Pair>,
     sort: Sort,

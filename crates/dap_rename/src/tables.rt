@@ -1,4 +1,4 @@
-//! A table of names for each sort of ids.
+//! One interning table for each kind of id.
 ghost use Rattle.std.specs.Prelude.{◌≡◌, ◌<◌, ◌≤◌, ◌^◌, false, Err, IfOk, OnOk, OnErr, length};
 ghost use Rattle.std.specs.Prelude.{take};
 ghost use Rattle.dap_names.specs.IndexNames.{index_limit, index_numbers};
@@ -14,7 +14,7 @@ use dap_tree::Sort;
 use std::alloc::Global;
 use std::hash::BuildHasher;
 
-/// A table for each sort of ids.
+/// A table for each kind of id.
 #[derive(Drop)]
 pub struct Tables<T> {
     pub client_seq: T,
@@ -26,7 +26,7 @@ pub struct Tables<T> {
 }
 
 impl<T> Tables<T> {
-    /// The table of the sort.
+    /// Returns the table of the kind.
     pub(crate) fn table(&self, sort: Sort) -> &T
         ensures { result.now ≡ table_of self.now sort }
     {
@@ -42,8 +42,8 @@ impl<T> Tables<T> {
 }
 
 impl Tables<PlainNames> {
-    /// Empty tables that look for a number from their front, each for at most `limit` names. Takes
-    /// no memory.
+    /// Returns empty tables that search linearly, each for at most `limit` numbers. Does not
+    /// allocate.
     pub fn plain(alloc: Global, limit: usize) -> Tables<PlainNames>
         requires { limit < 2 ^ 31 }
         ensures empty { AreEmpty plain_numbers result }
@@ -61,8 +61,8 @@ impl Tables<PlainNames> {
 }
 
 impl<S: BuildHasher + Copy + Drop> Tables<IndexNames<S>> {
-    /// Empty tables that look for a number by its hash, each for at most `limit` names. Takes no
-    /// memory.
+    /// Returns empty tables that look numbers up by hash, each for at most `limit` numbers. Does
+    /// not allocate.
     pub fn indexed(alloc: Global, limit: usize, hasher: S) -> Tables<IndexNames<S>>
         requires { limit < 2 ^ 31 }
         ensures empty { AreEmpty index_numbers result }
@@ -80,7 +80,7 @@ impl<S: BuildHasher + Copy + Drop> Tables<IndexNames<S>> {
 }
 
 impl<T: NameTable> Tables<T> {
-    // The name of each id. On a fault every table is as before.
+    // Returns the canonical number of each id. On an error, all tables are unchanged.
     pub(crate) fn name_ids(
         &mut self,
         alloc: Global,
@@ -147,7 +147,7 @@ impl<T: NameTable> Tables<T> {
         }
     }
 
-    /// How many names each table has.
+    /// Returns the length of each table.
     pub(crate) fn lengths(&self) -> Tables<usize>
         ensures { result ≡ counts T.numbers self.now }
     {
@@ -161,7 +161,7 @@ impl<T: NameTable> Tables<T> {
         }
     }
 
-    /// Each table with its first names, so many as are said.
+    /// Truncates each table to the given length.
     pub(crate) fn cut(&mut self, lengths: Tables<usize>)
         requires { EachSort (λ s. table_of lengths s ≤ length (T.numbers (table_of self.old s))) }
         ensures cut { EachSort (λ s. T.numbers (table_of self.new s)

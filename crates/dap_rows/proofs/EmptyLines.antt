@@ -1,4 +1,4 @@
--- If the lines of all rows are empty, no row is asked for.
+-- If the lines of all rows are empty, no row is requested.
 use Rattle.std.proofs.Common.{◌≡◌, ◌<◌, ◌∙◌, ◌++◌, ◌∷◌, ℕ, Bool, true, false, cond, List, []}
 use Rattle.std.proofs.Common.{Option, ap, codes, decimal, drop, get_or, length, map, refl, suc, sym}
 use Rattle.std.proofs.Math.Seq.{drop-cons}
@@ -17,7 +17,7 @@ right_nil : (a b : List ℕ) → a ++ b ≡ [] → b ≡ []
 right_nil [] b h = h
 right_nil (x ∷ a) b h = cc
 
--- the line of a row ends in a line feed
+-- The line of a row ends with LF, so it is not empty.
 row_line_some : (row : ProfileRow) → row_line row ≡ [] → ⊥
 row_line_some row h =
     let before = decimal row.number ++ codes " " ++ messages_words row ++ codes " "

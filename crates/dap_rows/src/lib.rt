@@ -1,4 +1,4 @@
-//! The rows of the profile in lines, for people.
+//! Prints the rows of the profile as lines, for people.
 #![tactic(auto)]
 
 mod row_text;

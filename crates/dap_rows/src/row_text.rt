@@ -1,4 +1,4 @@
-//! The lines of the profile's rows.
+//! Formats the rows of the profile.
 ghost use Rattle.std.specs.Prelude.{◌≡◌, ◌++◌, [], false, IfOk, IsOk, OnOk, codes, option_map};
 ghost use Rattle.std.specs.Prelude.{string_bytes};
 ghost use Rattle.dap_profile.specs.PlaceSteps.{steps_of};
@@ -11,7 +11,7 @@ use dap_profile::{Kind, Place, Row, profile_rows};
 use itoa::Buffer;
 use std::alloc::{AllocError, Global};
 
-/// The word for a kind of message.
+/// Returns the word for a kind of message.
 fn kind_word(kind: Option<Kind>) -> &'static str
     ensures { result.now ≡ kind_word kind }
 {
@@ -23,14 +23,14 @@ fn kind_word(kind: Option<Kind>) -> &'static str
     }
 }
 
-/// Whether the place may be absent, between spaces.
+/// Returns whether the member is required (`needed`) or may be absent (`optional`), between spaces.
 fn need_word(needed: bool) -> &'static str
     ensures { result.now ≡ need_word needed }
 {
     if needed { " needed " } else { " optional " }
 }
 
-/// Appends two names of members, the way into an object.
+/// Appends the names of a member and of a member inside it, separated by a dot.
 fn push_inner(out: &mut String, outer: &str, member: &str) -> Result<(), AllocError>
     ensures { OnOk result (string_bytes out.new
         ≡ string_bytes out.old ++ outer.now ++ codes "." ++ member.now) }
@@ -40,7 +40,7 @@ fn push_inner(out: &mut String, outer: &str, member: &str) -> Result<(), AllocEr
     out.push_str(member)
 }
 
-/// Appends a place, as `body.stackFrames[].id`.
+/// Appends a path, such as `body.stackFrames[].id`.
 fn push_place(out: &mut String, place: Place) -> Result<(), AllocError>
     ensures { OnOk result (string_bytes out.new
         ≡ string_bytes out.old ++ place_words (steps_of place)) }
@@ -65,7 +65,7 @@ fn push_place(out: &mut String, place: Place) -> Result<(), AllocError>
     }
 }
 
-/// Appends the messages that a row is asked of.
+/// Appends the kind and the name of the messages to which a row applies.
 fn push_messages(out: &mut String, row: &Row) -> Result<(), AllocError>
     ensures { OnOk result (string_bytes out.new
         ≡ string_bytes out.old ++ messages_words (row_of row.now)) }
@@ -91,7 +91,7 @@ fn push_row(out: &mut String, row: &Row) -> Result<(), AllocError>
     out.push_str("\n")
 }
 
-/// Whether a row has the number that this text writes, or any number is asked for.
+/// Returns whether a row has the number that this argument writes, or no number is given.
 fn has_number(row: &Row, number: Option<&str>) -> bool
     ensures { result ≡ has_number (option_map (λ s. s.now) number.entry) (row_of row.now) }
 {
@@ -101,7 +101,7 @@ fn has_number(row: &Row, number: Option<&str>) -> bool
     }
 }
 
-/// Appends the line of a row that is asked for.
+/// Appends the line of a row if it is requested.
 fn push_asked(out: &mut String, row: &Row, number: Option<&str>) -> Result<(), AllocError>
     ensures line { OnOk result (string_bytes out.new
         ≡ string_bytes out.old
@@ -116,11 +116,12 @@ fn push_asked(out: &mut String, row: &Row, number: Option<&str>) -> Result<(), A
     }
 }
 
-/// The rows of the profile in lines, or the one with the number that the text writes.
+/// Returns the rows of the profile as lines, or only the row with the number that the argument
+/// writes.
 ///
-/// A line is the row's number, the kind and the name of the messages that it is asked of (`*` is
-/// any), its place, whether it is needed, and what is to stand there. If no row has the number, the
-/// result is empty and nothing is allocated.
+/// A line contains the number of the row and the kind and name of the messages to which it applies
+/// (`*` for any). Its path follows, whether the member is required, and the expected type. If no
+/// row has the number, the result is empty and nothing is allocated.
 ///
 /// # Errors
 ///

@@ -1,4 +1,4 @@
--- What applying rules returns for bytes in memory.
+-- The result of applying rules to bytes in memory.
 use Rattle.std.proofs.Common.{◌≡◌, ℕ, false, List, [], ◌∷◌, length, nat_eq, Result, Ok, Err, Vec, Global}
 use Rattle.std.proofs.Common.{refl, true≢false}
 use Rattle.std.specs.Prelude.{IfErr}
@@ -15,7 +15,7 @@ use Rattle.dap_rules_input.specs.Applying.{IsRefusedByRules, OrdersBy}
 use Rattle.dap_rules_input.specs.Applying.{RefusesOrderBy, RefusesToMask}
 use Rattle.dap_rules_input.specs.ApplyingSteps.{mask_refusal, order_refusal}
 
--- There are rules for the order.
+-- Some of the rules are for the order.
 pub not_empty : (ss : List ReadSwapRule) → nat_eq (length ss) 0 ≡ false → swaps_of ss ≡ [] → ⊥
 not_empty [] some none = true≢false some
 not_empty (s ∷ ss) some none = absurd (let e = none in cc)

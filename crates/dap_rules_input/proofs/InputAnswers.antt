@@ -1,4 +1,4 @@
--- What applying rules to an input returns.
+-- The result of applying rules to an input.
 use Rattle.std.proofs.Common.{◌≡◌, inl, inr, ℕ, ◌+◌, List, length, Result, Ok, Err, refl, sym}
 use Rattle.std.proofs.Common.{ap, subst, arith, length-append}
 use Rattle.std.specs.Prelude.{IfErr, IfOk, Vec}
@@ -27,7 +27,7 @@ module _ {R : Type 0} (source : Source R) (limits : Limits) (mode : Mode) (mask 
   abbrev Returns : Result (Vec ℕ Global) ApplyRefused → Type 0
   Returns = ReadsByRules source limits mode mask old new
 
-  -- An input that passes its limit is not cut.
+  -- An input that exceeds its limit is not incomplete.
   not_cut : (n : ℕ) → IsRefusedByRules limits mode mask bytes (because.Mask (Record n Cut))
       → length bytes ≡ limits.input + 1 → ⊥
   not_cut n first long =
@@ -65,7 +65,7 @@ module _ {R : Type 0} (source : Source R) (limits : Limits) (mode : Mode) (mask 
   returned (Err because.ReadFault) stop came none is = absurd is
   returned (Err because.Memory) stop came none is = tt
 
-  -- What is returned, if it is what the result of the bytes gives.
+  -- The result, if it follows from the result for the bytes.
   pub answers : (made given : Result (Vec ℕ Global) ApplyRefused) (stop : Stop) → Came stop
       → IfOk made (λ written. AppliesRules limits mode mask bytes written.items)
       → IfErr made (IsRefusedByRules limits mode mask bytes)

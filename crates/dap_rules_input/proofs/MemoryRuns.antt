@@ -1,4 +1,4 @@
--- Masking over bytes in memory: what it promises of a reader and a writer is true of the bytes.
+-- Masking over bytes in memory: the guarantees for a reader and a writer hold for the bytes.
 use Rattle.std.proofs.Common.{◌≡◌, ℕ, List, [], ◌++◌, Some, Result, Ok, Err, ◌∙◌, sym, ap, subst}
 use Rattle.dap_device.specs.declared.device.Sink.{Ghosts as Sink}
 use Rattle.dap_device.specs.Memory.{GivenBytes}
@@ -17,7 +17,7 @@ use Rattle.dap_order_input.proofs.MemoryInputs.{all_came, refused_whole}
 use Rattle.dap_rules_input.specs.Applying.{RefusesToMask}
 use Rattle.dap_rules_input.specs.Memory.{IsOutOfMemory, WrittenBytes}
 
--- memory that grows, as a sink
+-- A growing buffer in memory, as a sink.
 abbrev pub text_sink : Sink WrittenBytes
 text_sink = record {
   out = λ sink. Some sink.out;
@@ -25,7 +25,7 @@ text_sink = record {
   failures = λ sink. sink.failures;
 }
 
--- What was sent is all that the sink holds.
+-- The bytes that were sent are all bytes of the sink.
 pub all_sent : (before after : WrittenBytes) (text : List ℕ) → before.out ≡ []
     → AllSent text_sink before after text → after.out ≡ text
 all_sent before after text none sent = sent.appended ∙ ap (λ bytes. bytes ++ text) none

@@ -1,4 +1,4 @@
--- Rules make at most one text of a recording. If they make one, there is no error.
+-- Rules turn a recording into at most one text. If they do, there is no error.
 use Rattle.std.proofs.Common.{◌≡◌, ℕ, List, [], ◌∷◌, refl, sym, ◌∙◌, ap, subst}
 use Rattle.dap_recording.proofs.Records.{readable}
 use Rattle.dap_mask.specs.Mask.{Mask}

@@ -1,4 +1,4 @@
--- The text that the rules of a file make of a recording, and the errors for which they make none.
+-- The text into which the rules of a file turn a recording, and the errors for which they cannot.
 -- Source: own, over masks and the order of messages.
 use Rattle.std.specs.Prelude.{◌≡◌, ℕ, List, [], ◌∷◌}
 use Rattle.dap_mask.specs.Mask.{Mask}
@@ -16,13 +16,13 @@ use Rattle.dap_rules_input.specs.declared.fault.ApplyRefused.TheVariants as beca
 
 -- ---- the text
 
--- The rules for the order put the recording in order. Without any it is unchanged.
+-- The rules for the order put the recording in order. Without such rules it is unchanged.
 abbrev pub OrdersBy : Limits → Mode → List SwapRule → List ℕ → List ℕ → Type 0
 OrdersBy limits mode [] recording written = written ≡ recording
 OrdersBy limits mode (rule ∷ rules) recording written =
     Orders limits mode (rule ∷ rules) recording written
 
--- The recording is masked, and the masked recording is put in order: this is its text.
+-- The recording is masked, and the masked recording is put in order: `written` is its text.
 pub record AppliesRules (limits : Limits) (mode : Mode) (mask : Mask)
     (recording written : List ℕ) : Type 0 where
   pub masked : List ℕ
@@ -31,13 +31,14 @@ pub record AppliesRules (limits : Limits) (mode : Mode) (mask : Mask)
 
 -- ---- errors
 
--- There are rules for the order, and they cannot put the recording in order, for this.
+-- There are rules for the order, and they cannot put the recording in order for this reason.
 abbrev pub IsNotOrderedBy : Limits → Mode → List SwapRule → List ℕ → Refused → Type 0
 IsNotOrderedBy limits mode [] recording refused = ⊥
 IsNotOrderedBy limits mode (rule ∷ rules) recording refused =
     IsNotOrdered limits mode (rule ∷ rules) recording refused
 
--- The rules make no text of the recording. Ordering was reached only if masking succeeded.
+-- The rules cannot be applied to the recording, for this reason. Ordering was reached only if
+-- masking succeeded.
 abbrev pub IsRefusedByRules : Limits → Mode → Mask → List ℕ → ApplyRefused → Type 0
 IsRefusedByRules limits mode mask recording (because.Mask refused) =
     IsRefused (masking limits mask) recording refused
@@ -47,12 +48,12 @@ IsRefusedByRules limits mode mask recording (because.Order refused) =
 IsRefusedByRules limits mode mask recording because.ReadFault = ⊥
 IsRefusedByRules limits mode mask recording because.Memory = Unit {0}
 
--- The recording cannot be masked for this, or an allocation failed.
+-- The recording cannot be masked for this reason, or an allocation failed.
 abbrev pub RefusesToMask : Limits → Mask → List ℕ → Refused → Type 0
 RefusesToMask limits mask recording Memory = Unit {0}
 RefusesToMask limits mask recording refused = IsRefused (masking limits mask) recording refused
 
--- The recording cannot be put in order by the rules for this, or an allocation failed.
+-- The recording cannot be put in order by the rules for this reason, or an allocation failed.
 abbrev pub RefusesOrderBy : Limits → Mode → List SwapRule → List ℕ → Refused → Type 0
 RefusesOrderBy limits mode rules recording Memory = Unit {0}
 RefusesOrderBy limits mode rules recording refused =

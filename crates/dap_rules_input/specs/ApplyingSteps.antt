@@ -9,18 +9,18 @@ use Rattle.dap_recording.specs.declared.record_fault.RecordCause.TheVariants.{Cu
 use Rattle.dap_rules_input.specs.declared.fault.ApplyRefused.{ApplyRefused}
 use Rattle.dap_rules_input.specs.declared.fault.ApplyRefused.TheVariants as because
 
--- the error of masking, with its step
+-- The error of masking, with its step.
 abbrev pub mask_refusal : Refused → ApplyRefused
 mask_refusal Memory = because.Memory
 mask_refusal refused = because.Mask refused
 
--- the error of putting in order, with its step
+-- The error of putting in order, with its step.
 abbrev pub order_refusal : Refused → ApplyRefused
 order_refusal Memory = because.Memory
 order_refusal refused = because.Order refused
 
--- What `read_by_rules` returns for an input whose reader stopped for this reason, if applying the
--- rules to the bytes that came gave this result.
+-- The result of `read_by_rules` for an input whose reader stopped for this reason, given the result
+-- of applying the rules to the bytes read.
 abbrev pub result_of_input : Result (Vec ℕ Global) ApplyRefused → Stop
     → Result (Vec ℕ Global) ApplyRefused
 result_of_input (Ok text) Failed = Err because.ReadFault

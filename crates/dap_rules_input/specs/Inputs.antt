@@ -1,4 +1,4 @@
--- What `read_by_rules` returns. Source: own.
+-- The result of `read_by_rules`. Source: own.
 use Rattle.std.specs.Prelude.{ℕ, List, Result, Ok, Err, Vec}
 use Rattle.std.specs.declared.alloc.Global.{Global}
 use Rattle.dap_device.specs.declared.device.Source.{Ghosts as Source}
@@ -13,23 +13,24 @@ use Rattle.dap_rules_input.specs.Applying.{AppliesRules, IsRefusedByRules}
 use Rattle.dap_rules_input.specs.declared.fault.ApplyRefused.{ApplyRefused}
 use Rattle.dap_rules_input.specs.declared.fault.ApplyRefused.TheVariants as because
 
--- A reader, by what is known of its bytes and its failures, and rules.
+-- A reader, given by its model, and rules.
 module _ {R : Type 0} (source : Source R) (limits : Limits) (mode : Mode) (mask : Mask) where
-  -- The rules cannot mask the recording, for this.
+  -- The rules cannot mask the recording, for this reason.
   abbrev pub CannotMask : List ℕ → Refused → Type 0
   CannotMask recording refused =
       IsRefusedByRules limits mode mask recording (because.Mask refused)
 
-  -- These bytes came. The rules mask them, and cannot put them in order, for this.
+  -- These bytes were read. The rules mask them, and cannot put them in order for this reason.
   pub record CannotOrder (old new : R) (refused : Refused) : Type 0 where
     pub bytes : List ℕ
     pub stop : Stop
     pub came : HasCome source old new limits.input bytes stop
     pub is_refused : IsRefusedByRules limits mode mask bytes (because.Order refused)
 
-  -- The whole input gives the text; or the first step that fails is named. An input that cannot be
-  -- masked because it ends too early is reported only if the reader came to its end. If the reader
-  -- failed, the bytes that came have no error but that they may end too early to be masked.
+  -- The text is that of the whole input; or the first step that fails is reported. An input that
+  -- cannot be masked because it is incomplete is reported only if the reader reached its end. If
+  -- the reader failed, the bytes read contain no error, except that they may be too incomplete to
+  -- be masked.
   abbrev pub ReadsByRules : R → R → Result (Vec ℕ Global) ApplyRefused → Type 0
   ReadsByRules old new (Ok text) =
       Accepts source limits.input (AppliesRules limits mode mask) old new text.items

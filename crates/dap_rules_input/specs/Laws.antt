@@ -1,4 +1,4 @@
--- The laws that the functions of `laws` state.
+-- The statements of the functions in `laws`.
 use Rattle.std.specs.Prelude.{◌≡◌, ℕ, List}
 use Rattle.dap_mask.specs.Mask.{Mask}
 use Rattle.dap_rename.specs.declared.mode.Mode.{Mode}
@@ -7,13 +7,13 @@ use Rattle.dap_rules_input.specs.Applying.{AppliesRules, IsRefusedByRules}
 use Rattle.dap_rules_input.specs.declared.fault.ApplyRefused.{ApplyRefused}
 use Rattle.dap_rules_input.specs.declared.fault.ApplyRefused.TheVariants.{Memory}
 
--- Rules make at most one text of a recording.
+-- Rules turn a recording into at most one text.
 abbrev pub OneTextByRules : Type 0
 OneTextByRules = (limits : Limits) (mode : Mode) (mask : Mask) (recording written other : List ℕ)
     → AppliesRules limits mode mask recording written
     → AppliesRules limits mode mask recording other → written ≡ other
 
--- If rules make a text of a recording, there is no error, unless an allocation fails.
+-- If rules turn a recording into a text, there is no error, unless an allocation fails.
 abbrev pub AppliedHasNoError : Type 0
 AppliedHasNoError = (limits : Limits) (mode : Mode) (mask : Mask) (recording written : List ℕ)
     (because : ApplyRefused) → AppliesRules limits mode mask recording written

@@ -14,8 +14,8 @@ use dap_order_input::order_bytes;
 use dap_rename::Mode;
 use std::alloc::Global;
 
-/// Puts a masked recording in order, as [`order_bytes`] does. Without rules for the order the
-/// recording is returned unchanged, and is not checked.
+/// Puts a masked recording in order, as [`order_bytes`] does. If no rules are for the order,
+/// returns the recording unchanged and does not check it.
 ///
 /// # Errors
 ///
@@ -40,7 +40,7 @@ pub fn order_masked(
     order_bytes(alloc, swaps, masked.as_slice(), limits, mode)
 }
 
-/// Names the step that cannot mask a recording.
+/// Returns the error of the step that masks a recording.
 fn mask_refusal(refused: Refused) -> ApplyRefused
     ensures { result ≡ mask_refusal refused }
 {
@@ -50,7 +50,7 @@ fn mask_refusal(refused: Refused) -> ApplyRefused
     }
 }
 
-/// Names the step that cannot put a recording in order.
+/// Returns the error of the step that puts a recording in order.
 fn order_refusal(refused: Refused) -> ApplyRefused
     ensures { result ≡ order_refusal refused }
 {
@@ -60,15 +60,15 @@ fn order_refusal(refused: Refused) -> ApplyRefused
     }
 }
 
-/// Masks a recording, and then puts it in order if there are rules for the order.
+/// Masks a recording, and then puts it in order if some of the rules are for the order.
 ///
-/// Without rules for the order the masked text is returned, and its session is not checked.
-/// Otherwise the masked recording is checked as [`check`](dap_normal::check) checks it in this
-/// mode, and so is the text that is returned.
+/// If no rules are for the order, returns the masked text and does not check its session. Otherwise
+/// the masked recording and the returned text are both checked in the same way as by
+/// [`check`](dap_normal::check) in this mode.
 ///
 /// # Errors
 ///
-/// The first step that fails, with its first error:
+/// The error of the first step that fails:
 ///
 /// - `Mask`: the rules cannot mask a record of the recording.
 /// - `Order`: the masked recording, or its text in order, was rejected.
@@ -82,8 +82,8 @@ pub fn apply_rules(
 ) -> Result<Vec<u8>, ApplyRefused>
     requires limits { AreSound limits }
 
-    // The text is that of the recording and the rules, and an error names the first step that
-    // fails. It is never `ReadFault`.
+    // The text is that of the recording and the rules. An error names the first step that fails. It
+    // is never `ReadFault`.
     ensures ok { IfOk result
         (λ text. AppliesRules limits mode (mask_of rules.now) recording.now text.items) }
     ensures err { IfErr result (IsRefusedByRules limits mode (mask_of rules.now) recording.now) }

@@ -1,15 +1,15 @@
-//! Why rules cannot be applied to a recording.
+//! Defines why rules cannot be applied to a recording.
 use dap_input::Refused;
 use thiserror::Error;
 
 /// Why rules cannot be applied to a recording. The variants are in the order of the steps.
 #[derive(Clone, Copy, Debug, PartialEq, Eq, Error)]
 pub enum ApplyRefused {
-    /// The rules cannot mask the recording. Records count from 1 in the recording.
+    /// The rules cannot mask the recording. Records are numbered from 1 in the recording.
     #[error("{0}")]
     Mask(Refused),
-    /// The masked recording was rejected, and its records count from 1; or its text in order was,
-    /// and the records of that text count from 1.
+    /// The masked recording was rejected, and its records are numbered from 1; or its text in order
+    /// was rejected, and the records of that text are numbered from 1.
     #[error("{0}")]
     Order(Refused),
     /// A read of the recording failed.

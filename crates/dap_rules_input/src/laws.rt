@@ -1,8 +1,8 @@
-//! Theorems on recordings to which rules are applied, for all byte strings. Each function does
-//! nothing: a call of it gives its clauses to a proof.
+//! Theorems about recordings to which rules are applied, for all byte strings. Each function is
+//! empty: calling it makes its clauses available to the caller's proof.
 ghost use Rattle.dap_rules_input.specs.Laws.{AppliedHasNoError, OneTextByRules};
 
-/// Rules make at most one text of a recording. If they make one, there is no error.
+/// States that rules turn a recording into at most one text, and that there is then no error.
 pub fn rules_have_one_outcome()
     ensures text { OneTextByRules }
     ensures not_both { AppliedHasNoError }

@@ -1,8 +1,8 @@
-//! Recordings to which the rules of a file are applied.
+//! Applies the rules of a file to recordings.
 //!
-//! [`apply_rules`] masks a recording and then puts it in order, if there are rules for the order.
-//! [`read_by_rules`] does this with a whole input. `specs/` defines the terms, and [`laws`] has the
-//! theorems.
+//! [`apply_rules`] masks a recording and then puts it in order, if some of the rules are for the
+//! order. [`read_by_rules`] does this for a complete input. `specs/` defines the terms, and
+//! [`laws`] contains the theorems.
 #![tactic(auto)]
 
 mod applying;

@@ -16,7 +16,7 @@ use std::alloc::Global;
 ///
 /// # Errors
 ///
-/// The first error of the recording, or `Memory`. Records count from 1 in the recording.
+/// The first error of the recording, or `Memory`. Records are numbered from 1 in the recording.
 pub fn mask_bytes(
     alloc: Global,
     rules: &MaskRules,

@@ -1,4 +1,4 @@
-//! Applies the rules of a file to a whole input.
+//! Applies the rules of a file to a complete input.
 ghost use Rattle.std.specs.Prelude.{◌≡◌, ◌+◌, ◌<◌, ◌≤◌, ◌^◌};
 ghost use Rattle.dap_input.specs.Limits.{AreSound};
 ghost use Rattle.dap_mask.specs.KeptRules.{mask_of};
@@ -16,15 +16,15 @@ use std::alloc::Global;
 
 /// Reads a recording and applies the rules to it, as [`apply_rules`] does.
 ///
-/// It reads its whole input, at most one byte past `limits.input`. The input is held in memory
-/// while the rules are applied to it.
+/// Reads the whole input, at most one byte past `limits.input`. Buffers the input while the rules
+/// are applied to it.
 ///
 /// # Errors
 ///
 /// Those of [`apply_rules`].
 ///
 /// `ReadFault`: the reader failed, and [`apply_rules`] finds no error in the bytes read before,
-/// other than that the recording to be masked is incomplete.
+/// except that the recording to be masked may be incomplete.
 pub fn read_by_rules<R: Source>(
     alloc: Global,
     rules: &MaskRules,
@@ -41,7 +41,7 @@ pub fn read_by_rules<R: Source>(
     ensures answer { ReadsByRules R.Source limits mode (mask_of rules.now) reader.old reader.new
         result }
 
-    // It reads at most one byte past the limit.
+    // At most one byte past the limit is read.
     ensures taken { R.given reader.new ≤ R.given reader.old + limits.input + 1 }
 {
     let Ok(input) = read_all(alloc, reader, limits.input) else {
@@ -53,8 +53,8 @@ pub fn read_by_rules<R: Source>(
     )
 }
 
-/// Returns what the rules made of the bytes of an input, or `ReadFault` if the reader failed after
-/// them and they contain no error other than being incomplete.
+/// Returns the result of applying the rules to the bytes of an input. If the reader failed after
+/// them and they contain no error other than being incomplete, returns `ReadFault`.
 fn text_of_input(
     applied: Result<Vec<u8>, ApplyRefused>,
     stop: Stop,

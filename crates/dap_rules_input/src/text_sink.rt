@@ -1,4 +1,4 @@
-//! Writes into memory that grows.
+//! Writes into a growing buffer in memory.
 ghost use Rattle.std.specs.Prelude.{◌≡◌, ◌↔◌, [], IsTrue, false};
 ghost use Rattle.dap_rules_input.specs.Memory.{IsOutOfMemory};
 
@@ -7,7 +7,7 @@ use dap_input::Refused;
 use std::alloc::Global;
 use std::marker::Model;
 
-/// Collects the bytes that are written. A write fails only if an allocation fails.
+/// Stores the bytes that are written. A write fails only if an allocation fails.
 #[derive(Drop)]
 pub struct TextSink {
     bytes: Vec<u8>,
@@ -28,7 +28,7 @@ impl Model for TextSink {
 }
 
 impl TextSink {
-    /// Creates a sink that holds no bytes. Does not allocate.
+    /// Returns an empty sink. Does not allocate.
     pub fn new(alloc: Global) -> TextSink
         ensures { result ≡ record { out = []; unflushed = false; failures = 0 } }
     {
@@ -77,7 +77,8 @@ impl Sink for TextSink {
     }
 }
 
-/// Returns whether an engine that writes into a [`TextSink`] failed because an allocation failed.
+/// Returns whether a command function that writes into a [`TextSink`] failed because an allocation
+/// failed.
 pub fn is_out_of_memory(refused: Refused) -> bool
     ensures { IsTrue result ↔ IsOutOfMemory refused }
 {

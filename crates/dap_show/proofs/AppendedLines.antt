@@ -1,14 +1,14 @@
--- Texts that are appended one behind the other.
+-- Strings that are appended one after the other.
 use Rattle.std.proofs.Common.{◌≡◌, ℕ, List, ◌++◌, Result, Ok, Err, ◌∙◌, ap, append_assoc}
 use Rattle.std.specs.Prelude.{OnOk}
 
--- a word and what stands behind it
+-- A word and the string after it.
 pub regrouped : {U E : Type 0} (r : Result U E) (old x y after line : List ℕ)
     → OnOk r (after ≡ (old ++ x) ++ y) → x ++ y ≡ line → OnOk r (after ≡ old ++ line)
 regrouped (Ok v) old x y after line is whole = is ∙ append_assoc old x y ∙ ap (λ t. old ++ t) whole
 regrouped (Err e) old x y after line is whole = tt
 
--- a word and what stands behind it, behind others
+-- A word and the string after it, appended to others.
 pub then_after : (old x w y first second : List ℕ) → first ≡ old ++ x → second ≡ (first ++ w) ++ y
     → second ≡ old ++ ((x ++ w) ++ y)
 then_after old x w y first second is then =

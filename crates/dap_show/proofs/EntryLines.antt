@@ -1,4 +1,5 @@
--- The lines of entries, the messages that they keep, and their first refusal, with one entry more.
+-- The lines of entries, the messages that obey the rules among them, and their first rejection,
+-- after one more entry.
 use Rattle.std.proofs.Common.{◌≡◌, ◌≢◌, ℕ, ◌+◌, ◌<◌, ◌≤◌, Bool, true, false, List, [], ◌∷◌, ◌++◌}
 use Rattle.std.proofs.Common.{length, Option, Some, None, refl, sym, ◌∙◌, ap, subst}
 use Rattle.std.proofs.Common.{arith, append_assoc, append-nil, length-append}
@@ -59,21 +60,21 @@ pub kept_push : (entries : List Entry) (e : Entry)
 kept_push entries e =
     flat_map-append kept_of entries (e ∷ []) ∙ ap (λ t. kept entries ++ t) (append-nil (kept_of e))
 
--- ---- what fits
+-- ---- the limit
 
--- a text that is longer than the limit does not fit
+-- An output longer than the limit does not fit.
 pub not_within : (limit n : ℕ) → limit < n → fits_in Leaves limit n ≡ false
 not_within limit n past = grind (arith, nat_tests)
 
--- a part of a text that fits, fits
+-- If a part of an output does not fit, the output does not fit.
 pub part_fits : (detail : Detail) (limit m n : ℕ) → m ≤ n → fits_in detail limit m ≡ false
     → fits_in detail limit n ≡ false
 part_fits Lists limit m n le past = past
 part_fits Leaves limit m n le past = grind (arith, nat_tests)
 
--- ---- what a record is refused for
+-- ---- why a record is rejected
 
--- A record that holds no message is refused for that.
+-- A record that does not contain a message, and the rejection for that reason.
 pub record Untyped (held : Held) (n : ℕ) (refused : Refused) : Type 0 where
   pub why : Refusal
   pub has : HasRefusal held.1 why
@@ -102,7 +103,7 @@ untyped_for held n (because.TooManyIds m) h other = absurd h.1
 untyped_for held n (because.Grew m) h other = absurd h.1
 untyped_for held n refused h other = absurd h
 
--- If faults are not marked, that refuses the record.
+-- If errors are not marked, that reason rejects the record.
 pub refused_strictly : (detail : Detail) (limits : Limits) (before : List Entry) (held : Held)
     (n : ℕ) (refused : Refused) → RefusesHeld (HoldsNoMessage held) n refused
     → RefusesHeld (Objects false detail limits before held) n refused
@@ -120,7 +121,7 @@ refused_strictly detail limits before held n (because.TooManyIds m) h = absurd h
 refused_strictly detail limits before held n (because.Grew m) h = absurd h.1
 refused_strictly detail limits before held n refused h = h
 
--- ---- one entry more
+-- ---- one more entry
 
 module _ (detail : Detail) (limits : Limits) (before : List Entry) (number : ℕ)
     (number_is : number ≡ length before + 1) (old : List ℕ)
@@ -146,7 +147,7 @@ module _ (detail : Detail) (limits : Limits) (before : List Entry) (number : ℕ
   fitting marks_faults e new is fits =
       sym (ap (λ t. fits_in detail limits.input (length t)) (entered_lines e new is)) ∙ fits
 
-  -- a record that holds no message
+  -- A record that does not contain a message.
   module _ (held : Held) (refused : Refused)
       (told : RefusesHeld (HoldsNoMessage held) number refused) (other : refused ≢ because.Memory)
       (new : List ℕ)
@@ -183,7 +184,7 @@ module _ (detail : Detail) (limits : Limits) (before : List Entry) (number : ℕ
         (entry, (refl, refl, here.has), not_fitting true entry new lines_are past),
       )
 
-  -- a record that holds a message
+  -- A record that contains a message.
   module _ (marks_faults : Bool) (held : Held) (message : Sent) (d : Doc) (rule : Option Rule)
       (session : Kept) (is : IsMessage held message) (reads : IsRead held.1 d)
       (judged : IsJudged marks_faults (kept before) message rule session) (mid : List ℕ)
@@ -221,7 +222,7 @@ module _ (detail : Detail) (limits : Limits) (before : List Entry) (number : ℕ
       (this, is_entry, not_fitting marks_faults this new (message_lines_are new new_is) past),
     )
 
-    -- the lines under the first one were not appended to their end
+    -- The detail lines were not appended completely.
     pub grown_detail : fits_in detail limits.input
         (length mid + length (detail_lines detail message d)) ≡ false
         → (number ≡ number) × ((e : Entry) × IsEntry marks_faults detail limits before held e

@@ -1,4 +1,4 @@
--- Recordings of which only the framing is asked, and the search for one of their records.
+-- Recordings of which only the framing is checked, and the search for one of their records.
 use Rattle.std.proofs.Common.{◌≡◌, ◌≢◌, ◌⊎◌, inl, inr, ℕ, zero, suc, ◌+◌, ◌-◌, ◌<◌, ◌≤◌, ◌^◌, List}
 use Rattle.std.proofs.Common.{[], ◌∷◌, ◌++◌, length, Option, Some, None, Result, Ok, Err, refl, sym}
 use Rattle.std.proofs.Common.{◌∙◌, ap, subst, arith, append_assoc, length-append}
@@ -85,7 +85,7 @@ module _ (limits : Limits) where
     open_of = λ bytes is_open. is_open;
   }
 
--- The records before the next one are framed, and the one that is sought is not among them.
+-- The records before the next one are framed, and the requested record is not among them.
 pub record Sought {R : Type 0} (limits : Limits) (source : Source R) (number : ℕ)
     (start reader : R) (records : Records RecordReading) : Type 0 where
   pub values : List Held

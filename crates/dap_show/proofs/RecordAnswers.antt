@@ -1,4 +1,4 @@
--- What `show_record` answers of a record that is not shown.
+-- The result of `show_record` if it writes no record.
 use Rattle.std.proofs.Common.{◌≡◌, ◌≢◌, ℕ, List, Option, Some, Err, refl, sym, ◌∙◌, ap}
 use Rattle.std.proofs.Common.{subst}
 use Rattle.std.specs.Option.{option_map_or}
@@ -16,7 +16,7 @@ use Rattle.dap_show.specs.OneRecord.{HasRecord, ShowsRecord, StopsBefore, framin
 use Rattle.dap_show.specs.OneRecordSteps.{TextIsMade}
 
 module _ (limits : Limits) where
-  -- No record is refused for its content, since only the framing is asked.
+  -- No record is rejected for its content, because only the framing is checked.
   not_held : (why_not : Refused) (input : Input) (number n : ℕ) (why : Objection)
       → reason_of why_not ≡ Some (n, objected why) → why_not ≢ because.ReadFault
       → RefusesAt (framing limits) input number why_not → ⊥

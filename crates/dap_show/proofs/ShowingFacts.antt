@@ -1,4 +1,5 @@
--- Records of messages, judged by `show`: what their runs owe, and that they are what it accepts.
+-- The records that `show` accepts satisfy the laws of runs, and the accepted recordings are the
+-- accepted runs.
 use Rattle.std.proofs.Common.{◌≡◌, inl, inr, ℕ, ◌+◌, ◌≤◌, List, [], ◌∷◌, ◌++◌, length, refl, sym}
 use Rattle.std.proofs.Common.{◌∙◌, ap, arith, append_assoc, append-nil, length-append}
 use Rattle.dap_message.specs.Message.{Sent}
@@ -11,7 +12,7 @@ use Rattle.dap_show.specs.Showing.{lines_from, message_lines, showing}
 use Rattle.dap_normal.proofs.AcceptingFacts.{message_once}
 use Rattle.dap_input.proofs.Runs.{Run, run_within, ValueLaws, ValueFacts, AcceptedFacts}
 
--- the lines of one more message stand behind the others
+-- The lines of one more message follow the others.
 pub lines_push : (n k : ℕ) (messages : List Sent) (m : Sent) → k ≡ length messages + n
     → lines_from n (messages ++ m ∷ []) ≡ lines_from n messages ++ message_lines k m
 lines_push n k [] m is =
@@ -78,7 +79,7 @@ module _ (limits : Limits) where
             (omega (arith, ap length split, length-append front more)),
       )
 
-  -- the records of a run, and that they hold its messages
+  -- The records of a run contain its messages.
   records_of : (before messages : List Sent) (used : ℕ) (bytes : List ℕ)
       → Run (showing limits) before used bytes messages
       → (records : List Held) × IsRecording limits.frame bytes records

@@ -1,4 +1,4 @@
--- What the loop of `show` over the records of its input keeps, and what it may answer.
+-- The invariant of the loop of `show` over the records of its input, and its possible results.
 use Rattle.std.proofs.Common.{◌≡◌, ℕ, ◌+◌, ◌-◌, ◌<◌, ◌≤◌, ◌^◌, List, [], ◌∷◌, ◌++◌, length, Option}
 use Rattle.std.proofs.Common.{Some, None, Result, Ok, Err, sym, ◌∙◌, ap}
 use Rattle.dap_device.specs.declared.device.Source.{Ghosts as Source}
@@ -19,7 +19,7 @@ use Rattle.dap_show.specs.Showing.{lines_from, message_lines, showing}
 use Rattle.dap_show.specs.ShowingSteps.{Appended, held_of}
 use Rattle.dap_show.proofs.ShowingFacts.{accepted_facts, lines_push, value_laws}
 
--- A reader of records gives the records that are judged.
+-- A reader of records returns the records that are checked.
 pub reads_records : (limits : Limits)
     → ReadsAs (showing limits) (record_items limits.frame) held_of
 reads_records limits = record {
@@ -31,7 +31,7 @@ reads_records limits = record {
   open_of = λ bytes is_open. is_open;
 }
 
--- The records before the next one are messages, and their lines are made.
+-- The records before the next one are messages, and their lines have been appended.
 pub record Showing {R : Type 0} (limits : Limits) (source : Source R) (start reader : R)
     (records : Records RecordReading)
     (out : List ℕ) : Type 0 where

@@ -1,4 +1,5 @@
--- What `show` answers of an input whose records are judged, and what it took of its reader.
+-- The result of `show` after the records of its input were checked, and the number of bytes that it
+-- read.
 use Rattle.std.proofs.Common.{◌≡◌, ℕ, ◌+◌, ◌-◌, ◌<◌, ◌≤◌, ◌^◌, false, List, length}
 use Rattle.std.proofs.Common.{Some, None, refl, sym, ◌∙◌, subst, arith}
 use Rattle.dap_device.specs.declared.device.Sink.{Ghosts as Sink}
@@ -61,7 +62,7 @@ module _ {R : Type 0} (limits : Limits) (source : Source R)
         written = subst (FrontWritten sink before after) text_is front;
       }
 
-  -- ---- it is refused
+  -- ---- the input is rejected
 
   at_most : (bytes : List ℕ) (stop : Stop) → IsWithin (length bytes) limits.input (Some stop)
       → length bytes ≤ limits.input + 1
@@ -76,7 +77,7 @@ module _ {R : Type 0} (limits : Limits) (source : Source R)
       let counted = read.came.counted in
       let most = at_most read.bytes read.stop read.within in omega (arith, counted, most)
 
-  -- Where the source has not stopped, the rest may be read.
+  -- If the source has not stopped, the rest of the input can be read.
   module _ {I : Type 0} (mid : R) (records : Records I) (because : Refused)
       (one : RefusesOne (showing limits) source old mid records because)
       (goes_on : records.is_over ≡ false) where

@@ -1,4 +1,4 @@
--- Where an engine stops that reads an input no further than it has to.
+-- The state in which a command function stops that reads no more of its input than it requires.
 use Rattle.std.proofs.Common.{◌≡◌, ℕ, ◌+◌, ◌≤◌, List, ◌++◌, length, Option, Some, None, Result, Ok}
 use Rattle.std.proofs.Common.{Err, ◌∙◌, ap, arith, append_assoc}
 use Rattle.dap_device.specs.declared.device.Source.{Ghosts as Source}
@@ -27,7 +27,7 @@ module _ {I A R : Type 0} (j : Judging) (g : Items A RecordCause) (held_of : A �
   abbrev pub Reads : Result (Option A) Refused → Type 0
   Reads answer = ReadsNext g stands source records new reader after answer
 
-  -- It stops at the next record, of which this is said.
+  -- It stops at the next record, for which this statement holds.
   abbrev pub stops : (answer : Result (Option A) Refused) (read : Reads answer) (because : Refused)
       → Says j (was.bytes ++ read.more) read.stop records.number because
       × ((n : ℕ) → because ≡ Record n Cut → read.stop ≡ Some End)
@@ -60,7 +60,7 @@ module _ {I A R : Type 0} (j : Judging) (g : Items A RecordCause) (held_of : A �
       (steps.refused_read j g held_of facts stands source was.bytes records values was.behind new
       reader after because read)
 
-  -- It is refused for what it holds.
+  -- The next record is rejected for its content.
   abbrev pub stops_held : (whole : A) → Reads (Ok (Some whole)) → (because : Refused)
       → RefusesHeld (j.Objects values (held_of whole)) records.number because
       → StopsAt j source start after because
@@ -75,7 +75,7 @@ within_one taken limit (Some End) le = omega (arith, le)
 within_one taken limit (Some Failed) le = omega (arith, le)
 within_one taken limit (Some Full) is = omega (arith, is)
 
--- At most one byte past the limit was taken.
+-- At most one byte past the limit was read.
 pub stopped_taken : {R : Type 0} (j : Judging) (source : Source R) (old new : R)
     (because : Refused) → StopsAt j source old new because
     → source.given new ≤ source.given old + j.input + 1

@@ -1,4 +1,4 @@
--- The lines of trees with parts, and what one part leaves of them.
+-- The lines of trees with parts, and the lines that remain after one part.
 use Rattle.std.proofs.Common.{◌≡◌, ℕ, zero, suc, ◌+◌, ◌<◌, Bool, true, false, nat_eq, List, []}
 use Rattle.std.proofs.Common.{◌∷◌, ◌++◌, length, codes, String, refl, sym, ◌∙◌, ap, arith}
 use Rattle.std.proofs.Common.{append_assoc, append-nil, length-append, ap₂, drop, ◌≤◌, ◌↔◌, IsTrue}
@@ -16,7 +16,7 @@ use Rattle.dap_difference.specs.declared.difference.Step.TheVariants.{Member, It
 use Rattle.dap_show.specs.Indented.{indented, inner, item_texts, member_texts, next_line}
 use Rattle.dap_show.specs.Leaves.{item_lines, leaf_lines, member_lines}
 
--- what is not empty has some length
+-- A nonempty list has a positive length.
 pub not_none : (b : Bool) (m n : ℕ) → b ≡ nat_eq m 0 → b ≡ false → m ≡ n → 0 < n
 not_none b zero n is other same = absurd (let e : true ≡ false = sym is ∙ other in cc)
 not_none b (suc m) n is other same = omega arith
@@ -25,7 +25,7 @@ pub not_none_if : (b : Bool) (n : ℕ) → IsTrue b ↔ (n ≡ 0) → b ≡ fals
 not_none_if b zero iff other = absurd (let e : false ≡ true = sym other ∙ iff.1 refl in cc)
 not_none_if b (suc n) iff other = omega arith
 
--- a list with items has the lines of its items
+-- A nonempty array has the lines of its elements.
 pub list_lines : (p : List Step) (xs : List Tree) → 0 < length xs
     → leaf_lines p (list (items_view xs)) ≡ item_lines p 0 (items_view xs)
 list_lines p [] some = absurd (omega arith)
@@ -41,13 +41,13 @@ pub longer_path : (steps root : List CodeStep) (s : CodeStep) → steps ≡ root
 longer_path steps root s same =
     map-append step_of steps (s ∷ []) ∙ ap (λ r. path_of r ++ step_of s ∷ []) same
 
--- the text of one part was appended to what was before, and the rest is left
+-- The text of one part was appended to the text before it, and the rest remains.
 pub one_part : (before after part rest left all : List ℕ) → after ≡ before ++ part
     → left ≡ part ++ rest → before ++ left ≡ all → after ++ rest ≡ all
 one_part before after part rest left all is split was =
     ap (λ t. t ++ rest) is ∙ append_assoc before part rest ∙ ap (λ t. before ++ t) (sym split) ∙ was
 
--- what passes the limit with one part, passes it with all
+-- An output that exceeds the limit with one part exceeds it with all parts.
 pub full_part : (limit : ℕ) (before part rest left old all : List ℕ)
     → limit < length before + length part → left ≡ part ++ rest → before ++ left ≡ old ++ all
     → limit < length old + length all
@@ -62,7 +62,8 @@ full_part limit before part rest left old all full split was =
       length-append old all,
     )
 
--- what passes the limit with the lines of an item, passes it with those of all items
+-- An output that exceeds the limit with the lines of one element exceeds it with those of all
+-- elements.
 pub items_full : (limit : ℕ) (root steps pushed : List CodeStep) (xs : List Tree) (i : ℕ) (t : Tree)
     (before old : List ℕ) → steps ≡ root → pushed ≡ steps ++ Item i ∷ []
     → drop i xs ≡ t ∷ drop (suc i) xs
@@ -99,7 +100,7 @@ members_full limit root steps pushed s key t all left more before old same is na
 
 -- ---- indented texts
 
--- all items were appended
+-- All elements were appended.
 pub filled_items : (before margin inside : List ℕ) (xs ys : List Tree) (i : ℕ)
     (out begun : List ℕ) → length xs ≤ i → margin ≡ inside → xs ≡ ys
     → out ++ item_texts before margin (items_view (drop i xs))
@@ -120,7 +121,7 @@ filled_members before margin inside left all out begun none same was =
     ∙ ap (λ ms. out ++ member_texts before margin (members_view ms)) (sym none) ∙ was
     ∙ ap (λ m. begun ++ member_texts [] m (members_view all)) same
 
--- four texts that were appended, the last two at once
+-- Four strings that were appended, the last two together.
 regrouped : (old a b c d begun filled ended : List ℕ) → begun ≡ old ++ a → filled ≡ begun ++ b
     → ended ≡ filled ++ (c ++ d) → ended ≡ old ++ (((a ++ b) ++ c) ++ d)
 regrouped old a b c d begun filled ended one two three =

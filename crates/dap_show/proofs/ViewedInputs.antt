@@ -1,4 +1,4 @@
--- What `show_with` and `show_faulty` answer of an input whose records were shown.
+-- The result of `show_with` and `show_faulty` after the records of an input were formatted.
 use Rattle.std.proofs.Common.{◌≡◌, inl, inr, ℕ, ◌+◌, ◌≤◌, Bool, true, false, List, ◌++◌}
 use Rattle.std.proofs.Common.{Option, Some, Result, Ok, Err, refl, sym, ◌∙◌, ap, subst, arith}
 use Rattle.dap_device.specs.declared.device.Sink.{Ghosts as Sink}
@@ -49,7 +49,7 @@ module _ {R : Type 0} (marks_faults : Bool) (detail : Detail) (limits : Limits) 
       })
 
   module _ {W : Type 0} (sink : Sink W) (writer : W) where
-    -- a writer has not failed before it is written to
+    -- A writer has not failed before it is used.
     no_write_fault : StopsAt (viewing marks_faults detail limits) source old new because.WriteFault
         → ⊥
     no_write_fault stops =

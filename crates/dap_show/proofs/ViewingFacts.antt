@@ -1,5 +1,5 @@
--- Records with their entries, as they are judged: what their runs owe, and that they are what is
--- accepted.
+-- The entries of records satisfy the laws of runs, and the accepted recordings are the accepted
+-- runs.
 use Rattle.std.proofs.Common.{◌≡◌, ◌⊎◌, inl, inr, ℕ, ◌+◌, ◌≤◌, Bool, true, false, List, [], ◌∷◌}
 use Rattle.std.proofs.Common.{◌++◌, length, refl, sym, ◌∙◌, ap, subst, arith, length-append}
 use Rattle.dap_message.proofs.Contents.{one_refusal, some_message, typed_not_refused}
@@ -23,7 +23,7 @@ module _ (marks_faults : Bool) (detail : Detail) (limits : Limits) where
   abbrev Holds : List Entry → Held → Entry → Type 0
   Holds = IsEntry marks_faults detail limits
 
-  -- ---- a record has one entry, or one objection
+  -- ---- a record has at most one entry, or one rejection
 
   entry_once : (before : List Entry) (held : Held) (e f : Entry) → Holds before held e
       → Holds before held f → e ≡ f
@@ -105,7 +105,7 @@ module _ (marks_faults : Bool) (detail : Detail) (limits : Limits) where
             (omega (arith, ap length split, length-append front more)),
       )
 
-  -- the records of a run, and that they hold its entries
+  -- The records of a run have its entries.
   records_of : (before entries : List Entry) (used : ℕ) (bytes : List ℕ)
       → Run (viewing marks_faults detail limits) before used bytes entries
       → (records : List Held) × IsRecording limits.frame bytes records
@@ -134,7 +134,7 @@ module _ (marks_faults : Bool) (detail : Detail) (limits : Limits) where
         };
   }
 
-  -- A reader of records gives the records that are judged.
+  -- A reader of records returns the records that are checked.
   pub reads_entries : ReadsAs (viewing marks_faults detail limits) (record_items limits.frame)
       held_of
   reads_entries = record {
@@ -146,7 +146,7 @@ module _ (marks_faults : Bool) (detail : Detail) (limits : Limits) where
     open_of = λ bytes is_open. is_open;
   }
 
-  -- ---- each record is judged
+  -- ---- each record is accepted or rejected
 
   abbrev Judgement : List Entry → Held → Type 0
   Judgement before held =

@@ -1,5 +1,5 @@
--- What the loop of `show_with` and `show_faulty` over the records of their input keeps, and what it
--- may answer.
+-- The invariant of the loop of `show_with` and `show_faulty` over the records of their input, and
+-- its possible results.
 use Rattle.std.proofs.Common.{◌≡◌, ℕ, ◌+◌, ◌-◌, ◌<◌, ◌≤◌, ◌^◌, Bool, List, [], ◌∷◌, ◌++◌, length}
 use Rattle.std.proofs.Common.{Option, Some, None, Result, Ok, Err, sym, ◌∙◌, ap₂}
 use Rattle.dap_device.specs.declared.device.Source.{Ghosts as Source}
@@ -27,7 +27,7 @@ use Rattle.dap_show.proofs.EntryLines.{refusal_push}
 use Rattle.dap_show.proofs.Stopping.{stops_held, stops_read}
 use Rattle.dap_show.proofs.ViewingFacts.{reads_entries}
 
--- The records before the next one have entries, and their lines are made.
+-- The records before the next one have entries, and their lines have been appended.
 pub record Viewed {R : Type 0} (marks_faults : Bool) (detail : Detail) (limits : Limits)
     (source : Source R) (start reader : R) (records : Records RecordReading) (session : Kept)
     (lines : List ℕ) (first : Option Refused) : Type 0 where
@@ -37,7 +37,7 @@ pub record Viewed {R : Type 0} (marks_faults : Bool) (detail : Detail) (limits :
   pub session_is : StandsIf marks_faults session (kept entries)
   pub shown : AreShown marks_faults detail limits entries lines first
 
--- what is refused for what a record holds is no fault of the framing
+-- The rejection of a record for its content is not an error of the framing.
 held_not_framing : (Objects : Objection → Type 0) (n : ℕ) (refused : Refused)
     → RefusesHeld Objects n refused → IsFraming refused → ⊥
 held_not_framing Objects n (because.Record m cause.Cut) h framing = h.1

@@ -1,20 +1,20 @@
--- The indented text of a document: JSON with one line for each scalar and each bracket.
--- Source: own.
+-- The indented text of a document: JSON with one line for each scalar and each bracket. Source:
+-- own.
 use Rattle.std.specs.Prelude.{ℕ, cond, List, [], ◌++◌, codes}
 use Rattle.dap_tree.specs.Doc.{Doc, text, list, object, Items, no_items, item, Members, no_members}
 use Rattle.dap_tree.specs.Doc.{member}
 use Rattle.dap_tree.specs.Json.{text_of}
 use Rattle.dap_show.specs.Leaves.{has_items, has_members}
 
--- the margin of the parts of an array or object that has this margin: two spaces more
+-- The margin of the parts of an array or object with this margin: two more spaces.
 abbrev pub inner : List ℕ → List ℕ
 inner margin = margin ++ codes "  "
 
--- the end of a line and the margin of the next one
+-- The end of a line and the margin of the next one.
 abbrev pub next_line : List ℕ → List ℕ
 next_line margin = codes "\n" ++ margin
 
--- A part in lines of its own: what stands before it, a new line, and its text.
+-- A part on its own lines: the text before it, a new line, and its own text.
 abbrev pub part_text : List ℕ → List ℕ → List ℕ → List ℕ
 part_text before margin part = before ++ next_line margin ++ part
 
@@ -32,7 +32,7 @@ abbrev mutual
       (codes "{}")
   indented margin d = text_of d
 
-  -- the items, with this before the first and a comma before each later one
+  -- The elements, with `before` before the first one and a comma before each later one.
   pub item_texts : List ℕ → List ℕ → Items → List ℕ
   item_texts before margin no_items = []
   item_texts before margin (item d ds) =

@@ -14,24 +14,24 @@ abbrev pub has_members : Members → Bool
 has_members no_members = false
 has_members (member k d ms) = true
 
--- A leaf has no parts: it is a scalar, or an empty array or object.
+-- A document has parts unless it is a leaf: a scalar, or an empty array or object.
 abbrev pub has_parts : Doc → Bool
 has_parts (list ds) = has_items ds
 has_parts (object ms) = has_members ms
 has_parts d = false
 
--- The line of a leaf: two spaces, its path, a space, and its whole value as canonical JSON.
+-- The line of a leaf: two spaces, its path, a space, and its complete value as canonical JSON.
 abbrev pub leaf_line : List Step → Doc → List ℕ
 leaf_line p d = codes "  " ++ path_text p ++ codes " " ++ text_of d ++ codes "\n"
 
--- The lines of all leaves of a document that is at this path, in order.
+-- The lines of all leaves of a document at this path, in order.
 abbrev mutual
   pub leaf_lines : List Step → Doc → List ℕ
   leaf_lines p (list ds) = cond (has_items ds) (item_lines p 0 ds) (leaf_line p (list ds))
   leaf_lines p (object ms) = cond (has_members ms) (member_lines p ms) (leaf_line p (object ms))
   leaf_lines p d = leaf_line p d
 
-  -- of items, the first of which has the place n
+  -- The lines of elements, the first of which has index n.
   pub item_lines : List Step → ℕ → Items → List ℕ
   item_lines p n no_items = []
   item_lines p n (item d ds) = leaf_lines (p ++ place n ∷ []) d ++ item_lines p (suc n) ds

@@ -22,11 +22,11 @@ use Rattle.dap_show.specs.Stopping.{StopsAt}
 use Rattle.dap_show.specs.declared.one_record.RecordShown.{RecordShown}
 use Rattle.dap_show.specs.declared.one_record.RecordShown.TheVariants.{Shown, Missing}
 
--- the indented text of a content, with the LF at its end
+-- The indented text of a content, with the final LF.
 abbrev pub content_text : Doc → List ℕ
 content_text d = indented [] d ++ codes "\n"
 
--- The bytes are a recording of these records, of whose contents nothing is asked.
+-- The bytes are a recording of these records, whose contents are not checked.
 pub record IsFramed (limits : Limits) (bytes : List ℕ) (values : List Held) : Type 0 where
   pub short : length bytes ≤ limits.input
   pub recording : IsRecording limits.frame bytes values
@@ -42,13 +42,13 @@ framing limits = record {
   IsAccepted = IsFramed limits;
 }
 
--- Records are read to the one that is sought, and to the end if none is: no record has the number
--- 0.
+-- Records are read up to the one with the number `sought`. All records are read if it does not
+-- exist; no record has the number 0.
 abbrev pub IsSought : ℕ → ℕ → Type 0
 IsSought sought number = (sought ≡ 0) ⊎ (number ≤ sought)
 
 module _ {R : Type 0} (limits : Limits) (source : Source R) where
-  -- So much has come, and it has the record of this number with this content, after whole records.
+  -- The bytes read contain the record with this number and this content, after complete records.
   pub record HasRecord (old new : R) (number : ℕ) (content : List ℕ) : Type 0 where
     pub bytes : List ℕ
     pub came : HasComeSoFar source old new bytes None
@@ -60,21 +60,22 @@ module _ {R : Type 0} (limits : Limits) (source : Source R) where
     pub side : Side
     pub is_record : IsRecord limits.frame record_bytes side content
 
-  -- The recording has so many records, and none of them has the number.
+  -- The recording has `count` records, and none of them has this number.
   pub record HasNoRecord (old new : R) (number count : ℕ) : Type 0 where
     pub values : List Held
     pub all : AcceptsAll (framing limits) source old new values
     pub count_is : count ≡ length values
     pub missing : (number ≡ 0) ⊎ (count < number)
 
-  -- The framing of a record up to the one that is sought is faulty, or the reader fails at it.
+  -- The framing of the requested record or of an earlier one is invalid, or the reader failed
+  -- before the end of the requested record.
   pub record StopsBefore (old new : R) (number : ℕ) (refused : Refused) : Type 0 where
     pub stops : StopsAt (framing limits) source old new refused
     pub early : IsSought number stops.number
 
   module _ {W : Type 0} (sink : Sink W) (number : ℕ) where
-    -- The content is JSON of this document, whose text went out or, with a failure of the writer, a
-    -- prefix of it.
+    -- The content is JSON of this document. Its text was written, or if the writer failed, a prefix
+    -- of it.
     abbrev pub Writes : R → R → (List ℕ → Type 0) → Type 0
     Writes old new Written = (content : List ℕ) × (d : Doc) × HasRecord old new number content
         × IsRead content d × Written (content_text d)

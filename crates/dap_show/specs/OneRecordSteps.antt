@@ -12,7 +12,7 @@ use Rattle.dap_show.specs.OneRecord.{HasNoRecord, HasRecord, StopsBefore, conten
 use Rattle.dap_show.specs.declared.one_record.Found.{Found}
 use Rattle.dap_show.specs.declared.one_record.Found.TheVariants.{Whole, Missing}
 
--- The record is found, or it is missing, or one before it stops.
+-- The record is found, or it does not exist, or reading stops at it or before it.
 abbrev pub Finds : {R : Type 0} → Limits → Source R → R → R → ℕ → Result Found Refused → Type 0
 Finds limits source old new number (Ok (Whole whole)) =
     HasRecord limits source old new number whole.content
@@ -21,7 +21,7 @@ Finds limits source old new number (Ok (Missing count)) =
 Finds limits source old new number (Err refused) =
     StopsBefore limits source old new number refused
 
--- The text of a content is made, or the content is refused.
+-- The text of a content is returned, or the content is rejected.
 abbrev pub TextIsMade : ℕ → List ℕ → Result (Vec ℕ Global) Refused → Type 0
 TextIsMade number content (Ok text) =
     (d : Doc) × IsRead content d × (text.items ≡ content_text d)

@@ -1,5 +1,5 @@
--- What `show` prints of a recording, and what it refuses. Source: own, over recordings and the
--- messages of the DAP specification.
+-- What `show` prints of a recording, and which inputs it rejects. Source: own, over recordings and
+-- the messages of the DAP specification.
 use Rattle.std.specs.Prelude.{◌≡◌, ℕ, ◌+◌, ◌≤◌, ℤ, Bool, cond, List, [], ◌∷◌, ◌++◌, length, Option}
 use Rattle.std.specs.Prelude.{codes, decimal}
 use Rattle.std.specs.Fmt.{signed_decimal}
@@ -23,17 +23,17 @@ use Rattle.dap_input.specs.Refusals.{HasOneOutcome, RefusalStays}
 
 -- ---- the lines
 
--- a text as JSON, in quotes
+-- A string as JSON, in quotes.
 abbrev pub in_quotes : List ℕ → List ℕ
 in_quotes s = text_of (text s)
 
--- the id of a stack frame and where it stands
+-- The id, line and column of a stack frame.
 abbrev pub place_words : StackFrame → List ℕ
 place_words f =
     codes "  frame " ++ signed_decimal f.id ++ codes " " ++ signed_decimal f.line ++ codes ":"
     ++ signed_decimal f.column
 
--- a stack frame, a scope and a variable, each in a line
+-- The lines of a stack frame, a scope and a variable.
 abbrev pub frame_line : StackFrame → List ℕ
 frame_line f = place_words f ++ codes " " ++ in_quotes f.name ++ codes "\n"
 
@@ -46,7 +46,7 @@ variable_line v =
     codes "  variable " ++ signed_decimal v.reference ++ codes " " ++ in_quotes v.name ++ codes " "
     ++ in_quotes v.value ++ codes "\n"
 
--- the marker of a side, and the word for a kind
+-- The marker of a side, and the word for a kind.
 abbrev pub side_words : Side → List ℕ
 side_words Client = codes " > "
 side_words Adapter = codes " < "
@@ -56,7 +56,7 @@ kind_word Request = codes "request "
 kind_word Response = codes "response "
 kind_word Event = codes "event "
 
--- what a response answers, and whether it tells success; nothing but for a response
+-- The `request_seq` and the success of a response. Empty for any other message.
 abbrev pub answered_words : Option ℤ → List ℕ
 answered_words answered = option_map_or (λ n. codes " request_seq=" ++ signed_decimal n) answered []
 
@@ -64,7 +64,7 @@ abbrev pub success_words : Option Bool → List ℕ
 success_words success = option_map_or (λ ok. cond ok (codes " ok") (codes " failed")) success []
 
 -- The number of a record and the marker of its side; the kind, the name and the sequence number of
--- its message, and every message has the two; the outcome of a response.
+-- its message, which every message has; the outcome of a response.
 abbrev pub start_words : ℕ → Side → List ℕ
 start_words n side = decimal n ++ side_words side
 
@@ -76,12 +76,12 @@ title_words d =
 abbrev pub outcome_words : Doc → List ℕ
 outcome_words d = answered_words (request_seq_of d) ++ success_words (success_of d)
 
--- the line of a record's message
+-- The line of a record's message.
 abbrev pub message_line : ℕ → Sent → List ℕ
 message_line n message =
     start_words n message.side ++ title_words message.doc ++ outcome_words message.doc ++ codes "\n"
 
--- the lines of what a message lists
+-- The lines of the frames, scopes and variables that a message lists.
 abbrev pub listed_lines : Doc → List ℕ
 listed_lines d =
     flat_map frame_line (frames_of d) ++ flat_map scope_line (scopes_of d)
@@ -90,21 +90,21 @@ listed_lines d =
 abbrev pub message_lines : ℕ → Sent → List ℕ
 message_lines n message = message_line n message ++ listed_lines message.doc
 
--- the lines of messages, whose records are counted from n
+-- The lines of messages whose records are numbered from n.
 abbrev pub lines_from : ℕ → List Sent → List ℕ
 lines_from n [] = []
 lines_from n (message ∷ messages) = message_lines n message ++ lines_from (n + 1) messages
 
--- ---- what is shown
+-- ---- accepted recordings
 
--- The bytes are a recording of these messages, and no more of them than are taken.
+-- The bytes are a recording of these messages, within the input limit.
 pub record IsShowable (limits : Limits) (bytes : List ℕ) (messages : List Sent) : Type 0 where
   pub short : length bytes ≤ limits.input
   pub records : List Held
   pub recording : IsRecording limits.frame bytes records
   pub typed : AreMessages records messages
 
--- recordings of messages, of which no session is asked
+-- Recordings of messages, without the session rules.
 abbrev pub showing : Limits → Judging
 showing limits = record {
   Held = Held;
@@ -116,15 +116,16 @@ showing limits = record {
   IsAccepted = IsShowable limits;
 }
 
--- The input is shown by these lines.
+-- These are the lines of the input.
 abbrev pub IsShownBy : Limits → List ℕ → List ℕ → Type 0
 IsShownBy limits whole written = (messages : List Sent) × IsShowable limits whole messages
     × (written ≡ lines_from 1 messages)
 
--- An input is accepted as one list of messages, or has one refusal, and not both.
+-- An input is accepted as exactly one list of messages, or rejected for exactly one reason, never
+-- both.
 abbrev pub ShowHasOneOutcome : Type 0
 ShowHasOneOutcome = (limits : Limits) → AreSound limits → HasOneOutcome (showing limits)
 
--- A refusal stays when more bytes come, unless the record was only cut.
+-- A rejection remains when more bytes follow, unless the record was only incomplete.
 abbrev pub ShowRefusalStays : Type 0
 ShowRefusalStays = (limits : Limits) → AreSound limits → RefusalStays (showing limits)

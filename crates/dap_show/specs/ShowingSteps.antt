@@ -16,16 +16,16 @@ use Rattle.dap_input.specs.Refusals.{RefusesHeld}
 use Rattle.dap_normal.specs.Accepting.{Held, HoldsNoMessage, IsMessage}
 use Rattle.dap_show.specs.Showing.{lines_from, message_lines, showing}
 
--- what a record holds
+-- The side and the content of a record.
 abbrev pub held_of : WholeRecord → Held
 held_of whole = (whole.side, whole.content)
 
--- The record holds a message, and its lines behind this number were appended.
+-- The record contains a message, and its lines, which start with this number, were appended.
 abbrev pub IsAppended : Held → ℕ → List ℕ → List ℕ → Type 0
 IsAppended held n old new = (message : Sent) × IsMessage held message
     × (new ≡ old ++ message_lines n message)
 
--- The lines of record n, which holds this, are appended, or it is refused.
+-- The lines of record n are appended, or the record is rejected.
 abbrev pub Appended : {U : Type 0} → ℕ → Held → List ℕ → List ℕ → Result U Refused → Type 0
 Appended n held old new (Ok done) = IsAppended held n old new
 Appended n held old new (Err because) = RefusesHeld (HoldsNoMessage held) n because
@@ -35,7 +35,7 @@ abbrev pub AreReady : Records RecordReading → Type 0
 AreReady records = (limits : Limits) × AreSound limits
     × IsAtStart (StandsForRecord limits.frame) limits.input records
 
--- The lines of all records are made, or one is refused.
+-- The lines of all records are returned, or a record is rejected.
 module _ {R : Type 0} (limits : Limits) (source : Source R) where
   abbrev pub JudgesInput : R → R → Records RecordReading → Result (String Global) Refused → Type 0
   JudgesInput =

@@ -1,4 +1,5 @@
--- Where an engine stops that reads an input no further than it has to. Source: own.
+-- The state in which a command function stops that reads no more of its input than it requires.
+-- Source: own.
 use Rattle.std.specs.Prelude.{◌≡◌, ℕ, List, length, Option, Some}
 use Rattle.dap_device.specs.Pieces.{HasComeSoFar}
 use Rattle.dap_device.specs.declared.device.Source.{Ghosts as Source}
@@ -13,9 +14,9 @@ use Rattle.dap_input.specs.RecordSteps.{IsWithin}
 use Rattle.dap_input.specs.declared.refused.Refused.{Refused}
 use Rattle.dap_input.specs.declared.refused.Refused.TheVariants.{Record}
 
--- These bytes of the input have come, the records before this one are accepted, and this one is
--- refused, or the reader fails at it. It is refused as cut only if the reader came to its end. A
--- failed allocation says nothing about the record.
+-- These bytes of the input were read, and the records before this one are accepted. This record is
+-- rejected, or the reader failed at it. It is rejected as `Cut` only if the reader reached its end.
+-- A failed allocation says nothing about the record.
 pub record StopsAt {R : Type 0} (j : Judging) (source : Source R) (old new : R)
     (refused : Refused) : Type 0 where
   pub bytes : List ℕ

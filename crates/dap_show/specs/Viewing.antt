@@ -1,5 +1,5 @@
 -- What `show_with` and `show_faulty` print of a recording, and where they stop. Source: own, over
--- recordings, the messages of the DAP specification, and the rules of its sessions.
+-- recordings, the messages of the DAP specification, and its session rules.
 use Rattle.std.specs.Prelude.{◌≡◌, ◌⊎◌, ℕ, ◌+◌, ◌≤◌, Bool, true, false, nat_le, List, [], ◌∷◌}
 use Rattle.std.specs.Prelude.{◌++◌, length, Option, Some, None, Result, Ok, Err, codes, decimal}
 use Rattle.std.specs.List.{flat_map}
@@ -33,13 +33,13 @@ use Rattle.dap_show.specs.declared.detail.Detail.TheVariants.{Lists, Leaves}
 
 -- ---- entries
 
--- What is printed of a record: its message, the document of its content, and the rule that the
--- message breaks, if it breaks one; or that a record of this side holds no message, and why.
+-- The printed data of a record: its message, the document of its content, and the rule that the
+-- message violates, if any. Or its side and the reason why it does not contain a message.
 pub data Entry : Type 0 where
   typed : Sent → Doc → Option Rule → Entry
   untyped : Side → Refusal → Entry
 
--- the messages among which a later one is judged: those that break no rule
+-- The messages against which a later one is checked: those that violate no rule.
 abbrev pub kept_if : Option Rule → Sent → List Sent
 kept_if None message = message ∷ []
 kept_if (Some rule) message = []
@@ -51,15 +51,15 @@ kept_of (untyped side why) = []
 abbrev pub kept : List Entry → List Sent
 kept entries = flat_map kept_of entries
 
--- ---- refusals
+-- ---- rejections
 
--- the refusal of record n whose content is no message
+-- The rejection of record n, whose content is not a message.
 abbrev pub refusal_of : ℕ → Refusal → Refused
 refusal_of n no_reading = because.Json n
 refusal_of n fraction = because.Fraction n
 refusal_of n (faulty fault) = because.Message n fault
 
--- the refusal of record n, if there is one
+-- The rejection of record n, if it has one.
 abbrev pub rule_refusal : ℕ → Option Rule → Option Refused
 rule_refusal n None = None
 rule_refusal n (Some rule) = Some (because.Rule n rule)
@@ -72,12 +72,12 @@ abbrev pub or_else : Option Refused → Option Refused → Option Refused
 or_else None later = later
 or_else (Some refused) later = Some refused
 
--- the first refusal of entries, the first of which is of record n
+-- The first rejection among entries, the first of which is record n.
 abbrev pub first_refusal : ℕ → List Entry → Option Refused
 first_refusal n [] = None
 first_refusal n (entry ∷ entries) = or_else (refusal_at n entry) (first_refusal (n + 1) entries)
 
--- A fault of the framing: the start of the next record is not known.
+-- An error of the framing: the start of the next record is unknown.
 abbrev pub IsFraming : Refused → Type 0
 IsFraming (because.Record n cause) = Unit {0}
 IsFraming (because.InputTooLong n) = Unit {0}
@@ -92,7 +92,7 @@ message_fault_words (message_fault.Missing row) = codes "Missing row " ++ decima
 message_fault_words (message_fault.WrongType row) = codes "WrongType row " ++ decimal row
 message_fault_words message_fault.Memory = codes "Memory"
 
--- why a record is refused, in the words of the line of its refusal
+-- Why a record is rejected: the name of its error.
 abbrev pub refused_words : Refused → List ℕ
 refused_words (because.InputTooLong n) = codes "InputTooLong"
 refused_words (because.Record n cause) = cause_name cause
@@ -105,13 +105,14 @@ refused_words refused = []
 abbrev pub fault_words : List ℕ → List ℕ
 fault_words words = codes "fault: " ++ words ++ codes "\n"
 
--- the lines of a message, with the rule that it breaks
+-- The lines of a message, with the rule that it violates.
 abbrev pub head_lines : ℕ → Sent → Option Rule → List ℕ
 head_lines n message None = message_line n message
 head_lines n message (Some rule) =
     message_line n message ++ (codes "  " ++ fault_words (refused_words (because.Rule n rule)))
 
--- the lines under them: of what the message lists, or of the leaves of the content
+-- The lines under them: the frames, scopes and variables that the message lists, or the leaves of
+-- the content.
 abbrev pub detail_lines : Detail → Sent → Doc → List ℕ
 detail_lines Lists message d = listed_lines message.doc
 detail_lines Leaves message d = leaf_lines [] d
@@ -122,13 +123,13 @@ entry_lines detail n (typed message d rule) =
 entry_lines detail n (untyped side why) =
     start_words n side ++ fault_words (refused_words (refusal_of n why))
 
--- the lines of entries, the first of which is of record n
+-- The lines of entries, the first of which is record n.
 abbrev pub lines_of : Detail → ℕ → List Entry → List ℕ
 lines_of detail n [] = []
 lines_of detail n (entry ∷ entries) =
     entry_lines detail n entry ++ lines_of detail (n + 1) entries
 
--- the line of a fault of the framing, whose side may be unknown
+-- The line of an error of the framing, whose side may be unknown.
 abbrev pub stop_line : Refused → List ℕ
 stop_line (because.Record n cause) =
     decimal n ++ codes " " ++ fault_words (refused_words (because.Record n cause))
@@ -136,21 +137,22 @@ stop_line (because.InputTooLong n) =
     decimal n ++ codes " " ++ fault_words (refused_words (because.InputTooLong n))
 stop_line refused = []
 
--- The lines of leaves repeat their paths, so they have a limit: that of the input.
+-- The lines of leaves repeat their paths, so their total length is limited: by the limit of the
+-- input.
 abbrev pub fits_in : Detail → ℕ → ℕ → Bool
 fits_in Lists limit n = true
 fits_in Leaves limit n = nat_le n limit
 
--- ---- what is shown
+-- ---- accepted recordings
 
--- the rule that a message breaks after these messages, if rules are asked
+-- The rule that a message violates after these messages, if rules are checked.
 abbrev pub broken_rule : Bool → List Sent → Sent → Option Rule
 broken_rule false before message = None
 broken_rule true before message = first_broken before message
 
 module _ (marks_faults : Bool) (detail : Detail) (limits : Limits) where
-  -- A record holds this entry after these. Records that hold no message are entries only if faults
-  -- are marked.
+  -- A record has this entry after these entries. Records that do not contain a message are entries
+  -- only if errors are marked.
   abbrev pub IsEntry : List Entry → Held → Entry → Type 0
   IsEntry before held (typed message d rule) = IsMessage held message × IsRead held.1 d
       × (rule ≡ broken_rule marks_faults (kept before) message)
@@ -163,15 +165,15 @@ module _ (marks_faults : Bool) (detail : Detail) (limits : Limits) where
   abbrev pub IsNext : List Entry → Held → Entry → Type 0
   IsNext before held entry = IsEntry before held entry × Fits (before ++ entry ∷ [])
 
-  -- A record is refused because it holds no message, if faults are not marked, or because the lines
-  -- with its own pass the limit.
+  -- A record is rejected because it does not contain a message and errors are not marked, or
+  -- because the output including its lines exceeds the limit.
   abbrev pub Objects : List Entry → Held → Objection → Type 0
   Objects before held (no_message why) = (marks_faults ≡ false) × HasRefusal held.1 why
   Objects before held grew =
       (entry : Entry) × IsEntry before held entry × (Fits (before ++ entry ∷ []) → ⊥)
   Objects before held why = ⊥
 
-  -- The records hold these entries, each after those before it.
+  -- The records have these entries, each checked after those before it.
   abbrev pub AreEntries : List Entry → List Held → List Entry → Type 0
   AreEntries before [] [] = Unit {0}
   AreEntries before [] (entry ∷ entries) = ⊥
@@ -198,14 +200,15 @@ module _ (marks_faults : Bool) (detail : Detail) (limits : Limits) where
   }
 
   module _ {R : Type 0} (source : Source R) where
-    -- All records have entries; these are their lines, and this is the first refusal among them.
+    -- All records have entries; `text` is their lines, and `first` is the first rejection among
+    -- them.
     pub record ShowsAll (old new : R) (text : List ℕ) (first : Option Refused) : Type 0 where
       pub entries : List Entry
       pub all : AcceptsAll viewing source old new entries
       pub text_is : text ≡ lines_of detail 1 entries
       pub first_is : first ≡ first_refusal 1 entries
 
-    -- Faults are marked, and the framing of a record is faulty. These are the lines of the records
+    -- Errors are marked, and the framing of a record is invalid. `text` is the lines of the records
     -- before it, and its own line.
     pub record ShowsFront (old new : R) (text : List ℕ) (first : Option Refused) : Type 0 where
       pub marked : marks_faults ≡ true
@@ -219,8 +222,8 @@ module _ (marks_faults : Bool) (detail : Detail) (limits : Limits) where
     Shows old new text first = ShowsAll old new text first ⊎ ShowsFront old new text first
 
     module _ {W : Type 0} (sink : Sink W) where
-      -- The lines went out and were flushed, or a prefix of them went out and the writer failed; or
-      -- the input is refused, and nothing went out.
+      -- The lines were written and flushed; or a prefix of them was written and the writer failed;
+      -- or the input is rejected, and nothing was written.
       abbrev pub ViewsInput : R → R → W → W → Result (Option Refused) Refused → Type 0
       ViewsInput old new before after (Ok first) =
           (text : List ℕ) × Shows old new text first × AllSent sink before after text
@@ -231,7 +234,8 @@ module _ (marks_faults : Bool) (detail : Detail) (limits : Limits) where
       ViewsInput old new before after (Err refused) = StopsAt viewing source old new refused
           × (marks_faults ≡ true → IsFraming refused → ⊥) × (after ≡ before)
 
--- What `show_with` answers: all lines went out, or the first refusal is answered and nothing did.
+-- Outcome of `show_with`: all lines were written and flushed, or a prefix of them was written and
+-- the writer failed, or the first error is returned and nothing was written.
 abbrev pub ShowsInput : {U R W : Type 0} → Detail → Limits → Source R → Sink W → R → R → W → W
     → Result U Refused → Type 0
 ShowsInput detail limits source sink old new before after (Ok done) =
@@ -244,12 +248,13 @@ ShowsInput detail limits source sink old new before after (Err because.Memory) =
 ShowsInput detail limits source sink old new before after (Err refused) =
     StopsAt (viewing false detail limits) source old new refused × (after ≡ before)
 
--- An input is accepted as one list of entries, or has one refusal, and not both.
+-- An input is accepted as exactly one list of entries, or rejected for exactly one reason, never
+-- both.
 abbrev pub ViewHasOneOutcome : Type 0
 ViewHasOneOutcome = (marks_faults : Bool) (detail : Detail) (limits : Limits) → AreSound limits
     → HasOneOutcome (viewing marks_faults detail limits)
 
--- A refusal stays when more bytes come, unless the record was only cut.
+-- A rejection remains when more bytes follow, unless the record was only incomplete.
 abbrev pub ViewRefusalStays : Type 0
 ViewRefusalStays = (marks_faults : Bool) (detail : Detail) (limits : Limits) → AreSound limits
     → RefusalStays (viewing marks_faults detail limits)

@@ -18,18 +18,18 @@ use Rattle.dap_show.specs.Viewing.{kept_if, lines_of, or_else, refusal_at, broke
 use Rattle.dap_show.specs.Viewing.{viewing}
 use Rattle.dap_show.specs.declared.detail.Detail.{Detail}
 
--- If rules are asked, the session represents these messages.
+-- If rules are checked, the session represents these messages.
 abbrev pub StandsIf : Bool → Kept → List Sent → Type 0
 StandsIf marks_faults session messages = marks_faults ≡ true → Stands session messages
 
--- The rule that a message breaks, if rules are asked; the session then has the message if it breaks
--- none.
+-- The rule that a message violates, if rules are checked. The session then contains the message if
+-- it violates no rule.
 abbrev pub IsJudged : Bool → List Sent → Sent → Option Rule → Kept → Type 0
 IsJudged marks_faults before message rule session = (rule ≡ broken_rule marks_faults before message)
     × StandsIf marks_faults session (before ++ kept_if rule message)
 
 module _ (marks_faults : Bool) (detail : Detail) (limits : Limits) where
-  -- Record n holds this entry, whose lines were appended.
+  -- Record n has this entry, whose lines were appended.
   pub record IsEntered (before : List Entry) (n : ℕ) (held : Held) (session : Kept)
       (lines : List ℕ) (refusal : Option Refused) : Type 0 where
     pub entry : Entry
@@ -38,7 +38,7 @@ module _ (marks_faults : Bool) (detail : Detail) (limits : Limits) where
     pub lines_are : lines ≡ lines_of detail 1 (before ++ entry ∷ [])
     pub refusal_is : refusal ≡ refusal_at n entry
 
-  -- The lines of record n are appended, or it is refused.
+  -- The lines of record n are appended, or the record is rejected.
   abbrev pub Enters : List Entry → ℕ → Held → Kept → List ℕ → Result (Option Refused) Refused
       → Type 0
   Enters before n held session lines (Ok refusal) =
@@ -46,14 +46,15 @@ module _ (marks_faults : Bool) (detail : Detail) (limits : Limits) where
   Enters before n held session lines (Err refused) =
       RefusesHeld (Objects marks_faults detail limits before held) n refused
 
-  -- These are the lines of entries, and this is the first refusal among them.
+  -- These are the lines of the entries, and this is the first rejection among them.
   pub record AreShown (entries : List Entry) (lines : List ℕ) (first : Option Refused) : Type 0
     where
       pub lines_are : lines ≡ lines_of detail 1 entries
       pub first_is : first ≡ first_refusal 1 entries
 
   module _ {R : Type 0} (source : Source R) where
-    -- All records are shown; or one stops, and if its framing is faulty those before it are.
+    -- All records have lines; or reading stops at a record, and if the framing of that record is
+    -- invalid, the records before it have lines.
     abbrev pub ShowsRecords : {U : Type 0} → R → R → List ℕ → Option Refused → Result U Refused
         → Type 0
     ShowsRecords old new lines first (Ok done) =
@@ -64,7 +65,8 @@ module _ (marks_faults : Bool) (detail : Detail) (limits : Limits) where
         (stops : StopsAt (viewing marks_faults detail limits) source old new refused)
         × (IsFraming refused → AreShown stops.before.values lines first)
 
--- The line of a fault of the framing is appended, if faults are marked; all else is answered.
+-- The line of an error of the framing is appended, if errors are marked; any other rejection is
+-- returned.
 abbrev pub Finishes : {U V : Type 0} → Bool → Result U Refused → List ℕ → List ℕ → Option Refused
     → Option Refused → Result V Refused → Type 0
 Finishes marks_faults (Ok done) old new first last (Ok over) = (new ≡ old) × (last ≡ first)

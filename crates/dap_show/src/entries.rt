@@ -1,4 +1,4 @@
-//! The lines of a record, and the fault that it is marked with.
+//! Formats one record, and returns the error that it is marked with.
 ghost use Rattle.std.specs.Prelude.{◌≡◌, ◌≢◌, ◌+◌, ◌<◌, ◌++◌, List, [], true, false};
 ghost use Rattle.std.specs.Prelude.{IfOk, IsErrOf, OnOk, length};
 ghost use Rattle.dap_input.specs.Refusals.{RefusesHeld};
@@ -26,8 +26,8 @@ use dap_session::{Rule, Session, SessionFault};
 use dap_tree::{Scratch, TreeFault, read_tree_with};
 use std::alloc::{AllocError, Global};
 
-/// The rule that a message breaks, if rules are asked. The session takes a message that breaks
-/// none.
+/// Returns the rule that a message violates, if rules are checked. A message that violates no rule
+/// is added to the session.
 fn judge(
     marks_faults: bool,
     session: &mut Session,
@@ -46,7 +46,7 @@ fn judge(
     }
 }
 
-/// Appends the line of a message, and the line of the rule that it breaks.
+/// Appends the line of a message, and the line of the rule that it violates.
 fn push_head(
     alloc: Global,
     number: u64,
@@ -91,7 +91,7 @@ fn push_content(
     }
 }
 
-/// Appends the lines of what a message lists.
+/// Appends the lines of the frames, scopes and variables that a message lists.
 fn push_lists(alloc: Global, message: &Message, lines: &mut Vec<u8>) -> Result<(), AllocError>
     ensures { OnOk result
         (lines.new.items ≡ lines.old.items ++ listed_lines (doc_of message.now)) }
@@ -101,7 +101,8 @@ fn push_lists(alloc: Global, message: &Message, lines: &mut Vec<u8>) -> Result<(
     lines.extend_from_slice(text.as_bytes())
 }
 
-/// Appends the lines of a record under those of its message, if they stay within the limit.
+/// Appends the detail lines of a record. With `Detail::Leaves`, returns `Full` if the output
+/// exceeds the limit.
 fn push_detail(
     alloc: Global,
     detail: Detail,
@@ -127,7 +128,8 @@ fn push_detail(
     }
 }
 
-/// Whether lines of this length are within the limit.
+/// Returns whether an output of this length is within the limit. Only the lines of leaves have a
+/// limit.
 fn fits(detail: Detail, limit: u64, lines: &Vec<u8>) -> bool
     ensures { result ≡ fits_in detail limit (length lines.now.items) }
 {
@@ -137,7 +139,7 @@ fn fits(detail: Detail, limit: u64, lines: &Vec<u8>) -> bool
     }
 }
 
-/// The refusal of a message that breaks a rule.
+/// Returns the rejection of a message that violates a rule.
 fn rule_refusal(number: u64, rule: Option<Rule>) -> Option<Refused>
     ensures { result ≡ rule_refusal number rule }
 {
@@ -147,7 +149,7 @@ fn rule_refusal(number: u64, rule: Option<Rule>) -> Option<Refused>
     }
 }
 
-/// Appends the lines of a record that holds this message.
+/// Appends the lines of a record that contains this message.
 fn append_message(
     alloc: Global,
     view: View,
@@ -192,7 +194,7 @@ fn append_message(
     Ok(rule_refusal(number, rule))
 }
 
-/// Appends the line of a record that holds no message.
+/// Appends the line of a record that does not contain a message.
 fn push_no_message(
     alloc: Global,
     number: u64,
@@ -208,7 +210,7 @@ fn push_no_message(
     lines.extend_from_slice(text.as_bytes())
 }
 
-/// Appends the line of a record that holds no message, for this reason.
+/// Appends the line of a record that does not contain a message, for the reason `refused`.
 fn append_no_message(
     alloc: Global,
     detail: Detail,
@@ -235,14 +237,15 @@ fn append_no_message(
     Ok(Some(refused))
 }
 
-/// Appends the lines of a record to those of the records before it. Returns the refusal that marks
-/// the record.
+/// Appends the lines of a record to those of the records before it. Returns the error that the
+/// record is marked with.
 ///
 /// # Errors
 ///
-/// `Json`, `Fraction` or `Message`: the record holds no message, and faults are not marked.
-/// `Grew`: the lines are longer than the limit.
-/// `Memory`: an allocation failed.
+/// - `Json`, `Fraction` or `Message`: the record does not contain a message, and errors are not
+///   marked.
+/// - `Grew`: the output exceeds the limit.
+/// - `Memory`: an allocation failed.
 pub fn append_entry(
     alloc: Global,
     view: View,

@@ -1,4 +1,4 @@
-//! The words of faults, in the lines that mark them.
+//! Formats errors for the lines that mark them.
 ghost use Rattle.std.specs.Prelude.{◌≡◌, ◌++◌, OnOk, codes, decimal, string_bytes};
 ghost use Rattle.dap_show.specs.Showing.{start_words};
 ghost use Rattle.dap_show.specs.Viewing.{fault_words, message_fault_words, refused_words};
@@ -9,7 +9,7 @@ use dap_input::Refused;
 use dap_message::{MessageFault, Side};
 use std::alloc::AllocError;
 
-/// Appends why a content is no message.
+/// Appends why a content is not a message.
 fn push_message_fault(out: &mut String, fault: MessageFault) -> Result<(), AllocError>
     ensures { OnOk result
         (string_bytes out.new ≡ string_bytes out.old ++ message_fault_words fault) }
@@ -23,7 +23,7 @@ fn push_message_fault(out: &mut String, fault: MessageFault) -> Result<(), Alloc
     }
 }
 
-/// Appends why a record is refused.
+/// Appends why a record is rejected.
 fn push_refused(out: &mut String, refused: Refused) -> Result<(), AllocError>
     ensures { OnOk result
         (string_bytes out.new ≡ string_bytes out.old ++ refused_words refused) }
@@ -39,7 +39,7 @@ fn push_refused(out: &mut String, refused: Refused) -> Result<(), AllocError>
     }
 }
 
-/// Appends the fault of a record, to the end of its line.
+/// Appends the error of a record and ends its line.
 pub fn push_fault(out: &mut String, refused: Refused) -> Result<(), AllocError>
     ensures { OnOk result
         (string_bytes out.new ≡ string_bytes out.old ++ fault_words (refused_words refused)) }
@@ -49,7 +49,7 @@ pub fn push_fault(out: &mut String, refused: Refused) -> Result<(), AllocError>
     out.push_str("\n")
 }
 
-/// Appends the line of a record that holds no message.
+/// Appends the line of a record that does not contain a message.
 pub fn push_untyped(
     out: &mut String,
     number: u64,
@@ -63,7 +63,7 @@ pub fn push_untyped(
     push_fault(out, refused)
 }
 
-/// Appends the line of a fault that is of no side.
+/// Appends the line of an error without a side.
 fn push_numbered(out: &mut String, number: u64, refused: Refused) -> Result<(), AllocError>
     ensures { OnOk result (string_bytes out.new ≡ string_bytes out.old
         ++ (decimal number ++ codes " " ++ fault_words (refused_words refused))) }
@@ -73,7 +73,8 @@ fn push_numbered(out: &mut String, number: u64, refused: Refused) -> Result<(), 
     push_fault(out, refused)
 }
 
-/// Appends the line of a record whose framing is faulty; nothing for another refusal.
+/// Appends the line of a record with an error in its framing. Appends nothing for any other
+/// rejection.
 pub fn push_stop(out: &mut String, refused: Refused) -> Result<(), AllocError>
     ensures { OnOk result (string_bytes out.new ≡ string_bytes out.old ++ stop_line refused) }
 {

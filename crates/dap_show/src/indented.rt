@@ -1,4 +1,4 @@
-//! Trees as indented JSON.
+//! Formats trees as indented JSON.
 ghost use Rattle.std.specs.Prelude.{◌≡◌, ℕ, ◌≤◌, ◌++◌, List, true, false, OnOk, codes, vec_len};
 ghost use Rattle.dap_show.specs.Indented.{indented, inner, next_line};
 ghost use Rattle.dap_show.specs.Leaves.{has_parts};
@@ -24,7 +24,7 @@ fn push_name(alloc: Global, name: &str, out: &mut Vec<u8>) -> Result<(), AllocEr
     out.extend_from_slice(b": ")
 }
 
-/// Appends what stands before a new line, and the margin of that line.
+/// Appends `before`, a line end and the margin of the next line.
 fn push_line_start(before: &[u8], margin: &[u8], out: &mut Vec<u8>) -> Result<(), AllocError>
     ensures { OnOk result (out.new.items ≡ out.old.items ++ (before.now ++ next_line margin.now)) }
 {
@@ -33,7 +33,7 @@ fn push_line_start(before: &[u8], margin: &[u8], out: &mut Vec<u8>) -> Result<()
     out.extend_from_slice(margin)
 }
 
-/// Appends an opening bracket, and makes the margin that of the parts.
+/// Appends an opening bracket, and extends the margin to that of the parts.
 fn begin(bracket: &str, margin: &mut Vec<u8>, out: &mut Vec<u8>) -> Result<(), AllocError>
     ensures text { OnOk result (out.new.items ≡ out.old.items ++ bracket.now) }
     ensures margin { OnOk result (margin.new.items ≡ inner margin.old.items) }
@@ -42,7 +42,7 @@ fn begin(bracket: &str, margin: &mut Vec<u8>, out: &mut Vec<u8>) -> Result<(), A
     margin.extend_from_slice(b"  ")
 }
 
-/// Makes the margin what it was before the parts, and appends a line with the closing bracket.
+/// Restores the margin to that before the parts, and appends a line with the closing bracket.
 fn end(bracket: &str, margin: &mut Vec<u8>, out: &mut Vec<u8>) -> Result<(), AllocError>
     requires { 2 ≤ vec_len margin.old }
     ensures { (outer : List ℕ) → margin.old.items ≡ inner outer → OnOk result
@@ -55,8 +55,8 @@ fn end(bracket: &str, margin: &mut Vec<u8>, out: &mut Vec<u8>) -> Result<(), All
     out.extend_from_slice(bracket.as_bytes())
 }
 
-/// Appends the indented text of a tree whose first line has this margin. The margin is the same
-/// afterwards.
+/// Appends the indented text of a tree whose first line has this margin. Leaves the margin
+/// unchanged.
 #[cycle(push_indented)]
 pub fn push_indented(
     alloc: Global,

@@ -1,4 +1,4 @@
-//! The lines of the leaves of a tree.
+//! Formats the leaves of a tree, one line each.
 ghost use Rattle.std.specs.Prelude.{◌≡◌, ◌+◌, ◌<◌, ◌∷◌, ◌++◌, [], true, false, length};
 ghost use Rattle.std.specs.Prelude.{IfErr, IsErrOf, OnOk};
 ghost use Rattle.dap_difference.specs.Shown.{path_of};
@@ -14,7 +14,7 @@ use std::collections::BTreeMap;
 /// Why lines were not appended.
 #[derive(Clone, Copy, Debug, PartialEq, Eq, Drop)]
 pub enum LeafFault {
-    /// The text would be longer than its limit.
+    /// The output would exceed its limit.
     Full,
     /// An allocation failed.
     Memory,
@@ -41,7 +41,7 @@ fn push_line(
     out.extend_from_slice(b"\n")
 }
 
-/// Appends the line of a leaf, if the text stays within the limit.
+/// Appends the line of a leaf, or returns `Full` if the output exceeds the limit.
 fn push_leaf(
     alloc: Global,
     path: &[Step<'_>],
@@ -65,7 +65,7 @@ fn push_leaf(
     Ok(())
 }
 
-/// Adds a step to a path.
+/// Appends a step to a path.
 fn push_step<'t>(path: &mut Vec<Step<'t>>, step: Step<'t>) -> Result<(), LeafFault>
     ensures pushed { OnOk result (path.new.items ≡ path.old.items ++ step.entry ∷ []) }
     ensures memory { IfErr result (λ fault. fault ≡ LeafFault.Memory) }
@@ -76,8 +76,8 @@ fn push_step<'t>(path: &mut Vec<Step<'t>>, step: Step<'t>) -> Result<(), LeafFau
     }
 }
 
-/// Appends the lines of the leaves of a tree that is at a path, unless the text would be longer
-/// than the limit. The path is the same afterwards.
+/// Appends the lines of the leaves of a tree at `path`, unless the output would exceed the limit.
+/// On success, leaves the path unchanged.
 #[cycle(push_leaves)]
 pub fn push_leaves<'t>(
     alloc: Global,

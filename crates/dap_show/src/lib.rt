@@ -1,7 +1,7 @@
-//! Recordings printed for a reader: in lines, with their faults, or one content as indented JSON.
+//! Prints recordings for people: in lines, with their errors, or one content as indented JSON.
 //!
-//! [`show`] and [`show_with`] print the lines of a recording, [`show_faulty`] those of one with
-//! faults, and [`show_record`] one content. `specs/` says what they print.
+//! [`show`] and [`show_with`] print the lines of a recording, [`show_faulty`] also those of a
+//! recording with errors, and [`show_record`] one content. `specs/` defines the output.
 #![tactic(auto)]
 
 mod detail;

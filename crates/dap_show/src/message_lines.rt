@@ -1,4 +1,4 @@
-//! The lines that `show` prints of a message.
+//! Formats a message as lines.
 ghost use Rattle.std.specs.Prelude.{◌≡◌, ◌++◌, OnOk, string_bytes};
 ghost use Rattle.std.specs.List.{flat_map};
 ghost use Rattle.dap_message.specs.Message.{doc_of, sent};
@@ -31,7 +31,7 @@ pub(crate) fn push_number<I: Integer>(
     out.push_str(digits.format(number))
 }
 
-/// Appends a word and a text as JSON, in quotes.
+/// Appends a word and a string as JSON, in quotes.
 fn push_quoted(alloc: Global, out: &mut String, word: &str, text: &str) -> Result<(), AllocError>
     ensures { OnOk result (string_bytes out.new
         ≡ string_bytes out.old ++ word.now ++ in_quotes text.now) }
@@ -44,7 +44,7 @@ fn push_quoted(alloc: Global, out: &mut String, word: &str, text: &str) -> Resul
     out.push_str(quoted.as_str())
 }
 
-/// Appends the id of a stack frame and where it stands.
+/// Appends the id, line and column of a stack frame.
 fn push_place(out: &mut String, frame: FrameView<'_>) -> Result<(), AllocError>
     ensures { OnOk result (string_bytes out.new
         ≡ string_bytes out.old ++ place_words (frame_shown frame.entry)) }
@@ -123,7 +123,7 @@ fn push_variables(
     Ok(())
 }
 
-/// The marker of a side between spaces.
+/// Returns the marker of a side between spaces.
 fn marker(side: Side) -> &'static str
     ensures { result.now ≡ side_words side }
 {
@@ -133,7 +133,7 @@ fn marker(side: Side) -> &'static str
     }
 }
 
-/// The word for a kind, with a space behind it.
+/// Returns the word for a kind, followed by a space.
 fn word(kind: Kind) -> &'static str
     ensures { result.now ≡ kind_word kind }
 {
@@ -144,7 +144,7 @@ fn word(kind: Kind) -> &'static str
     }
 }
 
-/// Appends what a response answers; nothing for another message.
+/// Appends the `request_seq` of a response. Appends nothing for any other message.
 fn push_answered(out: &mut String, answered: Option<i64>) -> Result<(), AllocError>
     ensures { OnOk result (string_bytes out.new ≡ string_bytes out.old ++ answered_words answered) }
 {
@@ -154,7 +154,7 @@ fn push_answered(out: &mut String, answered: Option<i64>) -> Result<(), AllocErr
     }
 }
 
-/// Appends whether a response tells success; nothing for another message.
+/// Appends whether a response reports success. Appends nothing for any other message.
 fn push_success(out: &mut String, success: Option<bool>) -> Result<(), AllocError>
     ensures { OnOk result (string_bytes out.new ≡ string_bytes out.old ++ success_words success) }
 {
@@ -191,7 +191,7 @@ fn push_outcome(out: &mut String, message: &Message) -> Result<(), AllocError>
     push_success(out, message.success())
 }
 
-/// Appends the line of a message behind the number of its record.
+/// Appends the line of a message, which starts with the number of its record.
 pub(crate) fn push_message(
     alloc: Global,
     out: &mut String,
@@ -207,7 +207,8 @@ pub(crate) fn push_message(
     out.push_str("\n")
 }
 
-/// Appends the lines of a message and of what it lists, behind the number of its record.
+/// Appends the line of a message, which starts with the number of its record, and the lines of the
+/// frames, scopes and variables that it lists.
 pub fn push_lines(
     alloc: Global,
     out: &mut String,
@@ -221,7 +222,7 @@ pub fn push_lines(
     push_listed(alloc, out, message)
 }
 
-/// Appends the lines of what a message lists.
+/// Appends the lines of the frames, scopes and variables that a message lists.
 pub(crate) fn push_listed(
     alloc: Global,
     out: &mut String,

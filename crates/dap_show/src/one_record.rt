@@ -15,23 +15,23 @@ use dap_recording::{Record, RecordReader};
 use dap_tree::{Tree, TreeFault, read_tree};
 use std::alloc::{AllocError, Global};
 
-/// Whether the record was there.
+/// Whether the record exists.
 #[derive(Clone, Copy, Debug, PartialEq, Eq)]
 pub enum RecordShown {
     /// Its content was written.
     Shown,
-    /// The recording has only so many records. The number 0 is missing in every recording.
+    /// The recording has only this many records. No recording has a record 0.
     Missing(u64),
 }
 
-/// The record that was sought, or how many records there are.
+/// The record with the requested number, or the number of records.
 #[derive(Drop)]
 enum Found {
     Whole(Record),
     Missing(u64),
 }
 
-/// Reads records to the one of this number.
+/// Reads records up to the one with this number.
 fn find_record<R: Source>(
     records: &mut Records<RecordReader>,
     reader: &mut R,
@@ -56,7 +56,7 @@ fn find_record<R: Source>(
     }
 }
 
-/// The indented text of a tree, with the LF at its end.
+/// Returns the indented text of a tree, with the final LF.
 fn indented_text(alloc: Global, tree: &Tree) -> Result<Vec<u8>, AllocError>
     requires { all_in_range (view tree.now) ≡ true }
     ensures { IfOk result (λ text. text.items ≡ content_text (view tree.now)) }
@@ -68,7 +68,7 @@ fn indented_text(alloc: Global, tree: &Tree) -> Result<Vec<u8>, AllocError>
     Ok(text)
 }
 
-/// The indented text of the content of the record of that number.
+/// Returns the indented text of the content of the record with this number.
 fn text_of(alloc: Global, number: u64, content: &[u8]) -> Result<Vec<u8>, Refused>
     ensures { TextIsMade number content.now result }
 {
@@ -84,21 +84,21 @@ fn text_of(alloc: Global, number: u64, content: &[u8]) -> Result<Vec<u8>, Refuse
     }
 }
 
-/// Writes the content of the record of that number as indented JSON, counted from 1.
+/// Writes the content of the record with this number, counted from 1, as indented JSON.
 ///
-/// The text has two spaces for each level, and a line for each scalar and for each bracket of an
-/// array or object with parts; members are in the byte order of their names. LF ends it. Records
-/// before this one need only be framed, and what comes after it is not looked at: at most 65,536
-/// bytes past it are read.
+/// The output is indented by two spaces per level. It has one line for each scalar, for each empty
+/// array or object, and for each bracket of any other array or object. Members are in the byte
+/// order of their names. The output ends with LF. The contents of earlier records are not checked,
+/// and the input after this record is ignored: at most 65,536 bytes past it are read.
 ///
 /// # Errors
 ///
-/// `InputTooLong` or `Record`: this record or one before it is not framed.
-/// `Json` or `Fraction`: the content of this record is no JSON, or has a number that is not an
-/// integer from -2^63 to 2^64 - 1.
-/// `ReadFault`: the reader failed before the end of this record.
-/// `WriteFault`: the writer failed.
-/// `Memory`: an allocation failed.
+/// - `InputTooLong` or `Record`: the framing of this record or of an earlier one is invalid.
+/// - `Json` or `Fraction`: the content of this record is not JSON, or contains a number that is not
+///   an integer from -2^63 to 2^64 - 1.
+/// - `ReadFault`: the reader failed before the end of this record.
+/// - `WriteFault`: the writer failed.
+/// - `Memory`: an allocation failed.
 pub fn show_record<R: Source, W: Sink>(
     alloc: Global,
     reader: &mut R,
@@ -111,12 +111,12 @@ pub fn show_record<R: Source, W: Sink>(
     requires read_failures { R.failures reader.old < 2 ^ 62 }
     requires write_failures { W.failures writer.old < 2 ^ 62 }
 
-    // The text of the record's content goes out and is flushed. If there is no such record, or a
-    // refusal, nothing goes out.
+    // The text of the record's content is written and flushed. If the record does not exist or the
+    // input is rejected, nothing is written.
     ensures answer { ShowsRecord limits R.Source W.Sink number reader.old reader.new writer.old
         writer.new result }
 
-    // It takes at most one byte past the limit.
+    // At most one byte past the limit is read.
     ensures taken { R.given reader.new ≤ R.given reader.old + limits.input + 1 }
 {
     let record_reader = RecordReader::new(alloc, limits.frame);

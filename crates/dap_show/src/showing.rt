@@ -1,4 +1,4 @@
-//! Shows recordings in lines.
+//! Prints recordings as lines.
 ghost use Rattle.std.specs.Prelude.{◌+◌, ◌<◌, ◌≤◌, ◌^◌, IsErrOf, string_bytes};
 ghost use Rattle.dap_input.specs.Engine.{Answers, ReadsNoneOrAll};
 ghost use Rattle.dap_input.specs.ItemReading.{StandsForRecord};
@@ -35,7 +35,7 @@ fn append_lines(
     }
 }
 
-/// The lines of all records, or why there are none.
+/// Returns the lines of all records, or why the input is rejected.
 fn show_records<R: Source>(
     alloc: Global,
     records: &mut Records<RecordReader>,
@@ -60,23 +60,29 @@ fn show_records<R: Source>(
     }
 }
 
-/// Reads a recording and writes it in lines, for a reader.
+/// Reads a recording and writes it as lines, for people.
 ///
-/// Record N of the side with the marker M gives `N M request NAME seq=S`, `N M event NAME seq=S`,
-/// or `N M response NAME seq=S request_seq=Q ok` (or `failed`). Behind it stands a line for each
-/// stack frame, scope and variable that the message lists: `  frame ID LINE:COLUMN NAME`, `  scope
-/// REFERENCE NAME`, `  variable REFERENCE NAME VALUE`. Names and values are JSON texts in quotes;
-/// ids are shown as they came. The rules of a session are not asked.
+/// Record N, whose side has the marker M, produces `N M request NAME seq=S`,
+/// `N M event NAME seq=S`, or `N M response NAME seq=S request_seq=Q ok` (or `failed`). It is
+/// followed by one line for each stack frame, scope and variable that the message lists:
 ///
-/// It reads its whole input, at most one byte past `limits.input`, judges it, and writes and
-/// flushes last: nothing is written where it is refused. One record is held at a time, and the
-/// lines that are made. Records are counted from 1 in the order of the input.
+/// - `  frame ID LINE:COLUMN NAME`
+/// - `  scope REFERENCE NAME`
+/// - `  variable REFERENCE NAME VALUE`
+///
+/// Names and values are JSON strings in quotes; ids are printed unchanged. The session rules are
+/// not checked.
+///
+/// Reads and checks the whole input, at most one byte past `limits.input`, and writes and flushes
+/// last. Nothing is written if the input is rejected. Buffers one record and the output. Records
+/// are numbered from 1 in the order of the input.
 ///
 /// # Errors
 ///
-/// - `InputTooLong`, `Record`, `Json`, `Fraction`, `Message`: the first refusal of the input. The
-///   rest of the input is read and dropped then, and a read of it that fails is not reported.
-/// - `ReadFault`: the reader failed, and what came before is refused for nothing but its end.
+/// - `InputTooLong`, `Record`, `Json`, `Fraction`, `Message`: the first error of the input. The
+///   rest of the input is then read and discarded; if a read then fails, that is not reported.
+/// - `ReadFault`: the reader failed, and the bytes read so far contain no error other than being
+///   incomplete.
 /// - `WriteFault`: the writer failed.
 /// - `Memory`: an allocation failed.
 pub fn show<R: Source, W: Sink>(
@@ -90,17 +96,17 @@ pub fn show<R: Source, W: Sink>(
     requires read_failures { R.failures reader.old < 2 ^ 62 }
     requires write_failures { W.failures writer.old < 2 ^ 62 }
 
-    // The lines of the input's messages go out and are flushed, or its first refusal is returned
-    // and nothing goes out. `WriteFault` is returned if and only if the writer failed, `ReadFault`
-    // only if the reader failed: a read that fails after a refusal is not reported.
+    // The lines of the input's messages are written and flushed, or its first error is returned and
+    // nothing is written. `WriteFault` is returned if and only if the writer failed, `ReadFault`
+    // only if the reader failed: a read that fails after a rejection is not reported.
     ensures answer { Answers R.Source W.Sink limits.input (IsShownBy limits)
         (IsRefused (showing limits)) reader.old reader.new writer.old writer.new result }
 
-    // If memory was refused, nothing was read of the input, or all of it was.
+    // After a failed allocation, either nothing or the whole input was read.
     ensures memory { IsErrOf result Refused.Memory
         → ReadsNoneOrAll R.Source limits.input reader.old reader.new }
 
-    // It takes at most one byte past the limit.
+    // At most one byte past the limit is read.
     ensures taken { R.given reader.new ≤ R.given reader.old + limits.input + 1 }
 {
     let record_reader = RecordReader::new(alloc, limits.frame);

@@ -1,4 +1,4 @@
-//! Prints recordings with the leaves of their contents, and with their faults.
+//! Prints recordings with the leaves of their contents, and with their errors.
 ghost use Rattle.std.specs.Prelude.{◌≡◌, ◌+◌, ◌<◌, ◌≤◌, ◌^◌, ◌++◌, ◌↔◌, [], None, true};
 ghost use Rattle.std.specs.Prelude.{IsTrue, OnOk};
 ghost use Rattle.dap_input.specs.ItemReading.{StandsForRecord};
@@ -17,7 +17,7 @@ use dap_session::Session;
 use dap_tree::Scratch;
 use std::alloc::{AllocError, Global};
 
-/// Notes a refusal, if none is noted.
+/// Stores a rejection in `first`, unless `first` already has one.
 fn note(first: &mut Option<Refused>, refusal: Option<Refused>)
     ensures { first.new ≡ or_else first.old refusal }
 {
@@ -26,7 +26,7 @@ fn note(first: &mut Option<Refused>, refusal: Option<Refused>)
     }
 }
 
-/// Appends the lines of all records, and notes the first refusal that marks one.
+/// Appends the lines of all records, and stores the first error that marks a record.
 fn view_records<R: Source>(
     alloc: Global,
     view: View,
@@ -67,14 +67,14 @@ fn view_records<R: Source>(
     }
 }
 
-/// Whether a refusal is a fault of the framing.
+/// Returns whether a rejection is an error of the framing.
 fn is_framing(refused: Refused) -> bool
     ensures { IsTrue result ↔ IsFraming refused }
 {
     matches!(refused, Refused::Record(..) | Refused::InputTooLong(_))
 }
 
-/// Appends the line of a fault of the framing.
+/// Appends the line of an error of the framing.
 fn append_stop(alloc: Global, refused: Refused, lines: &mut Vec<u8>) -> Result<(), AllocError>
     ensures { OnOk result (lines.new.items ≡ lines.old.items ++ stop_line refused) }
 {
@@ -83,8 +83,7 @@ fn append_stop(alloc: Global, refused: Refused, lines: &mut Vec<u8>) -> Result<(
     lines.extend_from_slice(text.as_bytes())
 }
 
-/// Appends the line of a fault of the framing, if faults are marked. All other refusals are
-/// returned.
+/// Appends the line of an error of the framing, if errors are marked. Returns any other rejection.
 fn finish(
     alloc: Global,
     marks_faults: bool,
@@ -108,7 +107,7 @@ fn finish(
     Ok(())
 }
 
-/// Prints an input.
+/// Reads an input and writes its lines.
 fn view_input<R: Source, W: Sink>(
     alloc: Global,
     reader: &mut R,
@@ -148,24 +147,24 @@ fn view_input<R: Source, W: Sink>(
     }
 }
 
-/// Reads a recording and writes it in lines, for a reader.
+/// Reads a recording and writes it as lines, for people.
 ///
-/// With [`Detail::Lists`] the lines are those of [`show`](crate::show). With [`Detail::Leaves`]
-/// there is, in the place of the lines of frames, scopes and variables, a line for each leaf of the
-/// content: two spaces, the path as `diff` writes it, a space, and the whole value as canonical
-/// JSON. The rules of a session are not asked.
+/// With [`Detail::Lists`] the lines are those of [`show`](crate::show). With [`Detail::Leaves`] the
+/// lines of frames, scopes and variables are replaced by one line for each leaf of the content: two
+/// spaces, the path as `diff` writes it, a space, and the complete value as canonical JSON. The
+/// session rules are not checked.
 ///
-/// It reads its input up to its end or its first refusal, then writes, and flushes last: nothing is
-/// written if the input is refused. One record is held at a time, and the lines that are made.
-/// Records are counted from 1.
+/// Reads the input up to its end or its first error, then writes, and flushes last. Nothing is
+/// written if the input is rejected. Buffers one record and the output. Records are numbered from
+/// 1.
 ///
 /// # Errors
 ///
-/// The first refusal of the input: `InputTooLong`, `Record`, `Json`, `Fraction`, `Message`; or
-/// `Grew`: the lines of leaves are longer than `limits.input`.
-/// `ReadFault`: the reader failed before a refusal.
-/// `WriteFault`: the writer failed.
-/// `Memory`: an allocation failed.
+/// - `InputTooLong`, `Record`, `Json`, `Fraction`, `Message`: the first error of the input.
+/// - `Grew`: the lines of the leaves are longer than `limits.input`.
+/// - `ReadFault`: the reader failed before an error in the input.
+/// - `WriteFault`: the writer failed.
+/// - `Memory`: an allocation failed.
 pub fn show_with<R: Source, W: Sink>(
     alloc: Global,
     reader: &mut R,
@@ -178,13 +177,13 @@ pub fn show_with<R: Source, W: Sink>(
     requires read_failures { R.failures reader.old < 2 ^ 62 }
     requires write_failures { W.failures writer.old < 2 ^ 62 }
 
-    // The lines of all records go out and are flushed, or the first refusal is returned and nothing
-    // goes out. `WriteFault` is returned if and only if the writer failed, `ReadFault` only if the
-    // reader failed.
+    // The lines of all records are written and flushed, or the first error is returned and nothing
+    // is written. `WriteFault` is returned if and only if the writer failed, `ReadFault` only if
+    // the reader failed.
     ensures answer { ShowsInput detail limits R.Source W.Sink reader.old reader.new writer.old
         writer.new result }
 
-    // It takes at most one byte past the limit.
+    // At most one byte past the limit is read.
     ensures taken { R.given reader.new ≤ R.given reader.old + limits.input + 1 }
 {
     let view = View {
@@ -197,18 +196,18 @@ pub fn show_with<R: Source, W: Sink>(
     }
 }
 
-/// Does what [`show_with`] does, and goes on after records with faults, which it marks. Returns the
-/// first of their refusals.
+/// Does the same as [`show_with`], but marks records with errors and continues after them. Returns
+/// the first of their errors.
 ///
-/// A message that breaks a rule of the session has the line `  fault: RULE` under its first line.
-/// Each message is judged after the messages before it that break none. A record that holds no
-/// message has the line `N < fault: FAULT` alone, in the words of the line of its refusal. After a
-/// fault of the framing the start of the next record is not known, so the line `N fault: FAULT` of
-/// that record is the last one.
+/// A message that violates a session rule has the line `  fault: RULE` under its first line. Each
+/// message is checked against the earlier messages that violate no rule. A record that does not
+/// contain a message has only the line `N M fault: FAULT`: M is the marker of its side, and FAULT
+/// the name of its error. After an error of the framing the start of the next record is unknown, so
+/// the line `N fault: FAULT` of that record is the last one.
 ///
 /// # Errors
 ///
-/// `Grew`, `ReadFault`, `WriteFault` and `Memory`, as [`show_with`].
+/// - `Grew`, `ReadFault`, `WriteFault` and `Memory`, as for [`show_with`].
 pub fn show_faulty<R: Source, W: Sink>(
     alloc: Global,
     reader: &mut R,
@@ -221,13 +220,13 @@ pub fn show_faulty<R: Source, W: Sink>(
     requires read_failures { R.failures reader.old < 2 ^ 62 }
     requires write_failures { W.failures writer.old < 2 ^ 62 }
 
-    // The lines of all records, or of those before a fault of the framing and its own line, go out
-    // and are flushed. Else nothing goes out. `WriteFault` is returned if and only if the writer
-    // failed, `ReadFault` only if the reader failed.
+    // The lines of all records, or those before an error of the framing and the line of that error,
+    // are written and flushed. Otherwise nothing is written. `WriteFault` is returned if and only
+    // if the writer failed, `ReadFault` only if the reader failed.
     ensures answer { ViewsInput true detail limits R.Source W.Sink reader.old reader.new
         writer.old writer.new result }
 
-    // It takes at most one byte past the limit.
+    // At most one byte past the limit is read.
     ensures taken { R.given reader.new ≤ R.given reader.old + limits.input + 1 }
 {
     let view = View {

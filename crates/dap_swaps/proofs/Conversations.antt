@@ -169,7 +169,7 @@ talk_key x y h = elim (or_cases (answers x y) (answers y x) h) [
   | inr b ↦ sym (answer_key y x b).1
 ]
 
--- A message that is no response is only answered.
+-- If one of two messages is a response to the other and the second is not a response, the first is.
 pub talk_response : (x y : Sent) → talk x y ≡ true → is_numbered_response y ≡ false
     → is_numbered_response x ≡ true
 talk_response x y h plain = elim (or_cases (answers x y) (answers y x) h) [
@@ -193,7 +193,7 @@ code_of y e = elim (cases_Bool (is_request y)) [
   ]
 ]
 
--- What is found by the key of a response is a response.
+-- A message found by the key of a response is a response.
 pub response_found : (x y : Sent) → response_key x ≡ conversation_key y
     → (is_numbered_response x ≡ true) × (conversation_key x ≡ conversation_key y)
 response_found x y e = elim (cases_Bool (is_numbered_response x)) [

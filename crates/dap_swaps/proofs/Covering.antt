@@ -1,4 +1,4 @@
--- Which earlier places a place has to follow.
+-- The earlier places that a place must follow.
 use Rattle.std.proofs.Common.{◌≡◌, ℕ, ◌<◌, Bool, true, false, ◌⊎◌, inl, inr, List, [], ◌∷◌}
 use Rattle.std.proofs.Common.{◌++◌, map, Option, Some, None, refl, sym, ap, ◌∙◌, arith, subst}
 use Rattle.std.specs.Prelude.{slice_get, Contains}
@@ -35,7 +35,7 @@ module _ (ms : List Sent) where
       × (p x y ≡ true)
   passed_at p i j h = passed p (slice_get ms i) (slice_get ms j) h
 
-  -- The message at the place with this key.
+  -- The message with this key at the place.
   keyed : (f : Sent → Key) (k : Key) (i : ℕ) → IsKeyAt (map f ms) k i
       → (x : Sent) × (slice_get ms i ≡ Some x) × (f x ≡ k)
   keyed f k i at = get_mapped f ms i k at
@@ -46,7 +46,7 @@ module _ (ms : List Sent) where
 
   -- ---- conversations
 
-  -- Two places of one conversation, of which the second has a response.
+  -- Two places of one conversation, of which the second one has a response.
   tied_at : (k : Key) (i a : ℕ) (x z : Sent) → slice_get ms i ≡ Some x → slice_get ms a ≡ Some z
       → conversation_key x ≡ k → conversation_key z ≡ k → is_numbered_response z ≡ true
       → at_both are_tied ms i a ≡ true
@@ -83,7 +83,7 @@ module _ (ms : List Sent) where
         ];
   }
 
-  -- Another message follows the last response of its conversation.
+  -- Any other message follows the last response of its conversation.
   pub covers_none : (j : ℕ) (y : Sent) → slice_get ms j ≡ Some y
       → is_numbered_response y ≡ false
       → IsLastBelow (IsKeyAt (map response_key ms) (conversation_key y)) j None

@@ -1,4 +1,4 @@
--- Groups of keys, as a list of keys is read.
+-- Groups of keys, while a list of keys is read.
 use Rattle.std.proofs.Common.{◌≡◌, ℕ, zero, suc, ◌+◌, ◌<◌, ◌≤◌, ◌⊎◌, inl, inr, List, [], ◌∷◌, ◌++◌}
 use Rattle.std.proofs.Common.{length, refl, sym, ap, ◌∙◌, arith, get_or}
 use Rattle.std.proofs.Common.{length-append}
@@ -52,7 +52,7 @@ module _ (ks : List Key) (n : ℕ) (groups firsts : List ℕ) (are : AreGroups k
           ap (λ g. slice_get ks (get_or firsts g 0)) (new j at) ∙ are.same p low ∙ same
           ∙ ap (slice_get ks) (sym at)
 
-  -- The next place begins a group.
+  -- The next place starts a group.
   pub group_begun : (g : ℕ) → g ≡ length firsts
       → AreGroups ks (n + 1) (groups ++ g ∷ []) (firsts ++ n ∷ [])
   group_begun g e = record {

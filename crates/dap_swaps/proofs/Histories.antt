@@ -1,4 +1,4 @@
--- Lists of messages with the same history, as far as the rules depend on it.
+-- Lists of messages with the same history, to the extent that the rules depend on it.
 use Rattle.std.proofs.Common.{◌≡◌, ℤ, Bool, true, false, cond, not, ◌&&◌, List, [], ◌∷◌, ◌++◌}
 use Rattle.std.proofs.Common.{Option, Some, None, inl, inr, sym, ap, ◌∙◌, refl, subst}
 use Rattle.std.specs.Prelude.{◌||◌, ◌⊎◌}
@@ -25,7 +25,7 @@ use Rattle.dap_session.specs.Rules.{first_of, first_broken}
 use Rattle.dap_session.proofs.RuleTests.{none_each}
 use Rattle.dap_swaps.proofs.Independence.{Apart, turned, no_answer_next_to}
 
--- ---- tests of some message of a list
+-- ---- tests of messages in a list
 
 or_three : (a b c : Bool) → (a || (b || c)) ≡ (b || (a || c))
 or_three true true c = refl
@@ -190,7 +190,7 @@ initializing_new (f ∷ front) y h =
 
 -- ---- histories
 
--- The rules cannot tell the two lists apart.
+-- The rules cannot distinguish the two lists.
 pub record SameHistory (ms ns : List Sent) : Type 0 where
   pub any : (p : Sent → Bool) → list_any p ms ≡ list_any p ns
   pub initializing : is_initializing ms ≡ is_initializing ns
@@ -242,7 +242,7 @@ same_broken OtherCommand ms ns m s =
 
 -- ---- no rule is violated
 
--- The message violates no rule after these, unless it is an `output`.
+-- The message violates no rule after these messages, unless it is an `output` event.
 abbrev pub Fine : List Sent → Sent → Type 0
 Fine ms m = is_output m ≡ false → (r : Rule) → is_broken r ms m ≡ false
 

@@ -99,7 +99,8 @@ free_both_ways rules x y f =
 
 -- ---- fixed orders
 
--- Only an `output` changes places with the client's `initialize` request or the response to it.
+-- Only an `output` event can be swapped with the client's `initialize` request or the response to
+-- it.
 pub next_to_initialize : (x y : Sent) → Apart x y
     → (is_client_initialize x || is_initialize_response x) ≡ true → is_output y ≡ true
 next_to_initialize x y a h =
@@ -112,7 +113,7 @@ output_event true true c h = refl
 output_event true false c h = absurd (cc)
 output_event false b c h = absurd (cc)
 
--- So a response does not.
+-- Therefore a response cannot.
 pub no_answer_next_to : (x y : Sent) (n : ℤ) → Apart x y → is_client_initialize x ≡ true
     → is_response_to Client n y ≡ false
 no_answer_next_to x y n a h =

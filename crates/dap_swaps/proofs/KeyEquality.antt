@@ -1,4 +1,4 @@
--- Keys are equal if and only if they compare so.
+-- Keys are equal if and only if they compare as equal.
 use Rattle.std.proofs.Common.{◌≡◌, ℕ, ℤ, true, List, Option, sym, ap, ◌∙◌}
 use Rattle.std.specs.Option.{option_cmp}
 use Rattle.std.specs.Cmp.Lexicographic.{slice_cmp}

@@ -33,7 +33,7 @@ module _ {A : Type 0} where
   get_new (x ∷ xs) y zero e = absurd (omega (arith, e))
   get_new (x ∷ xs) y (suc i) e = get_new xs y i (omega (arith, e))
 
-  -- An item of the longer list is one of the shorter list, or it is the new one.
+  -- An item of the longer list is an item of the shorter list, or the new one.
   pub get_cases : (xs : List A) (y : A) (i : ℕ) (x : A) → slice_get (xs ++ y ∷ []) i ≡ Some x
       → (slice_get xs i ≡ Some x) ⊎ ((i ≡ length xs) × (y ≡ x))
   get_cases [] y zero x e = inr (refl, cc)
@@ -44,7 +44,7 @@ module _ {A : Type 0} where
     | inr w ↦ inr (ap suc w.0, w.1)
   ]
 
-  -- At one place there is one item.
+  -- Each place has only one item.
   pub one_item : (xs : List A) (i : ℕ) (x y : A) → slice_get xs i ≡ Some x
       → slice_get xs i ≡ Some y → x ≡ y
   one_item xs i x y e h = let f : Some x ≡ Some y = sym e ∙ h in cc

@@ -1,5 +1,5 @@
--- The classes of messages, and the requests of responses, satisfy the premises of the theory of
--- orders.
+-- The classes of messages, and the requests of responses, satisfy the preconditions of the theory
+-- of orders.
 use Rattle.std.proofs.Common.{◌≡◌, true, false, ◌&&◌, ◌⊎◌, inl, inr, List, sym, ap, ◌∙◌}
 use Rattle.std.proofs.Common.{refl, subst}
 use Rattle.std.specs.declared.cmp.Ordering.{Ordering}

@@ -33,12 +33,12 @@ use Rattle.dap_swaps.proofs.Independence.{responses_alike, answers_request}
 use Rattle.dap_swaps.proofs.Histories.{Fine, any_before, any_last, any_cases, at_some, at_from}
 use Rattle.dap_swaps.proofs.Histories.{at_more, Ends, initializing_kept, initializing_new}
 
--- the client's `initialize` request changes places only with an `output`
+-- The client's `initialize` request can be swapped only with an `output` event.
 next_to_request : (x y : Sent) → Apart x y → is_client_initialize x ≡ true → is_output y ≡ true
 next_to_request x y a h =
     next_to_initialize x y a (or_left (is_client_initialize x) (is_initialize_response x) h)
 
--- A message that ends the initializing, and violates no rule, is the adapter's response to
+-- A message that ends the initialization and violates no rule is the adapter's response to
 -- `initialize`.
 ends_it : (front : List Sent) (x : Sent) → Fine front x → Ends front x
     → is_initialize_response x ≡ true

@@ -1,4 +1,4 @@
--- The places in order are those of the messages in order.
+-- The places in order are the places of the messages in order.
 use Rattle.std.proofs.Common.{◌≡◌, ℕ, List, [], Some, map, length, sym, ap, ◌∙◌}
 use Rattle.std.specs.Prelude.{slice_get}
 use Rattle.std.specs.List.{range_with_len}

@@ -42,7 +42,7 @@ pub range_len : (k n : ℕ) → length (range_with_len k n) ≡ n
 range_len k zero = refl
 range_len k (suc n) = omega (arith, range_len (k + 1) n)
 
--- A permutation of the places below n has places below n alone.
+-- A permutation of the places below n contains only places below n.
 permuted_below : (n : ℕ) (xs : List ℕ) → IsPermutation (range_with_len 0 n) xs
     → All (λ p. p < n) xs
 permuted_below n xs p =
@@ -63,7 +63,7 @@ module _ (t : Table) (plan : Plan) (firsts : List ℕ) where
   abbrev s : Swaps ℕ
   s = place_order t
 
-  -- What the functions that make the parts ensure.
+  -- The postconditions of the functions that create the parts.
   pub record HasParts : Type 0 where
     pub groups : AreGroups (map (look_key (swaps_of t.rules.now)) (map sent_by t.entries.items))
         (length t.entries.items) plan.groups.items firsts
@@ -208,7 +208,7 @@ module _ (t : Table) (plan : Plan) (firsts : List ℕ) where
           follows i j before low apart;
     }
 
--- The parts of a plan as they are made, from the entries and the first places as slices.
+-- The parts of a plan, created from the entries and the first places as slices.
 pub has_parts : (t : Table) (plan : Plan) (firsts : List ℕ) (es : List Entry) (fs : List ℕ)
     → es ≡ t.entries.items → fs ≡ firsts
     → AreGroups (map (look_key (swaps_of t.rules.now)) (map sent_by es)) (length es)

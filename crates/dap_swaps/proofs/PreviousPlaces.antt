@@ -1,4 +1,4 @@
--- The last place with a key, as a list grows.
+-- The last place with a key, while a list grows.
 use Rattle.std.proofs.Common.{◌≡◌, ℕ, ◌+◌, ◌<◌, ◌≤◌, Bool, true, false, cond, List, [], ◌∷◌}
 use Rattle.std.proofs.Common.{◌++◌, map, length, Option, Some, None, inl, inr, refl, sym, ap, ◌∙◌}
 use Rattle.std.proofs.Common.{arith, subst, length-append, get_or}
@@ -10,7 +10,7 @@ use Rattle.dap_swaps.specs.declared.keys.Key.{Key as ReadKey}
 use Rattle.dap_swaps.proofs.KeyEquality.{key_cmp, one_key, equal_key}
 use Rattle.dap_swaps.proofs.Lists.{get_below, get_old, get_new, get_cases, got, len_map}
 
--- What follows does not matter.
+-- Later keys do not matter.
 pub last_kept : (own : List Key) (x k : Key) (n : ℕ) (o : Option ℕ) → n ≤ length own
     → IsLastBelow (IsKeyAt own k) n o → IsLastBelow (IsKeyAt (own ++ x ∷ []) k) n o
 last_kept own x k n None low last =
@@ -80,18 +80,18 @@ module _ {A : Type 0} (own : List Key) (f : A → Key) (ms : List A) (previous :
   pub previous_len : length previous ≡ length ms
   previous_len = are.len ∙ len_map f ms
 
-  -- What is read at a place is the last place with its key.
+  -- The value read at a place is the last place with its key.
   pub previous_at : (j : ℕ) (k : Key) (o : Option ℕ) → IsKeyAt (map f ms) k j
       → o ≡ get_or previous j o → IsLastBelow (IsKeyAt own k) j o
   previous_at j k o at read =
       let low : j < length (map f ms) = get_below (map f ms) j k at in
       are.each j k o at (got previous j o (omega (arith, are.len)) read)
 
--- The map finds for each key the last place below n that has it.
+-- The map finds for each key the last place below n with this key.
 pub record HasLast (own : List Key) (n : ℕ) (find : ReadKey → Option ℕ) : Type 0 where
   pub last : (q : ReadKey) → IsLastBelow (IsKeyAt own (key_of q)) n (find q)
 
--- One more message, which has the key x, and looks for the key k.
+-- One more message, which has the key x and searches for the key k.
 pub one_more : (own sought : List Key) (previous : List (Option ℕ)) (x k : Key) (n place : ℕ)
     (own_read sought_read : ReadKey) (old new : ReadKey → Option ℕ) (o : Option ℕ)
     → length own ≡ n → length sought ≡ n → place ≡ n → key_of own_read ≡ x → key_of sought_read ≡ k

@@ -32,7 +32,7 @@ module _ {A B : Type 0} (f : A → B) where
       ap (λ o. o ∷ map (slice_get (map f xs)) is) (get_of_map xs i)
       ∙ ap (λ os. option_map f (slice_get xs i) ∷ os) (picked xs is)
 
-  -- The items at these places, also after a map.
+  -- The items at these places, including after a map.
   pub picked_map : (xs ys : List A) (is : List ℕ) → map (slice_get xs) is ≡ map Some ys
       → map (slice_get (map f xs)) is ≡ map Some (map f ys)
   picked_map xs ys is e = picked xs is ∙ ap (map (option_map f)) e ∙ somes ys

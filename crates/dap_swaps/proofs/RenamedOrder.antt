@@ -62,7 +62,7 @@ class_with b r o k name = cond b of_client (cond r (to_number o) (with_name k na
 
 -- ---- requests of responses
 
--- If a message of the list passes the test, there is a label of a message that passes it.
+-- If a message of the list passes the test, a message that passes it has a label.
 some_label : {L : Type 0} (s : Labels Sent L) (p : Sent → Bool) (ahead ms : List Sent)
     → list_any p ms ≡ true
     → map (λ y. y.label) (filter (λ y. p y.item) (label_after s ahead ms)) ≡ [] → ⊥
@@ -93,7 +93,7 @@ any_more p q each (m ∷ ms) h =
       | inr b ↦ or_right (q m) (list_any q ms) (any_more p q each ms b)
     ]
 
--- It is not a response of the adapter.
+-- The message is not a response of the adapter.
 abbrev pub IsPlain : Sent → Type 0
 IsPlain m = (is_from Client m ≡ true) ⊎ (is_response m ≡ false)
 
@@ -285,7 +285,7 @@ module _ (R : Sort → ℤ → ℤ → Type 0) (one : IsOneToOne R) where
 
   -- ---- the order
 
-  -- n is the message m, renamed
+  -- n is the message m, renamed.
   abbrev pub Renamed : Sent → Sent → Type 0
   Renamed m n = IsNumbered m × DiffersInIds R m n
 

@@ -64,7 +64,7 @@ request_found ms m n from response e =
 
 -- ---- one more message
 
--- The numbers of requests, as the client has sent these messages.
+-- The places of the client's requests by number, after these messages.
 abbrev FindsBy : (ℤ → Option ℕ) → List Sent → Type 0
 FindsBy find ms = (n : ℤ) → find n ≡ first_place (is_request_of Client n) ms
 

@@ -1,11 +1,11 @@
--- Tests of the rules of a user, by their models.
+-- Tests of the user's rules, by their models.
 use Rattle.std.proofs.Common.{◌≡◌, Bool, List, [], ◌∷◌, refl, ap}
 use Rattle.std.specs.Prelude.{◌||◌}
 use Rattle.std.specs.List.{list_any}
 use Rattle.dap_mask.specs.Swaps.{SwapRule, swap_of, swaps_of}
 use Rattle.dap_mask.specs.declared.swaps.SwapRule.{SwapRule as ReadSwapRule}
 
--- Some rule passes a test if and only if some model does.
+-- A rule passes a test if and only if a model does.
 pub any_swap : (p : SwapRule → Bool) (rules : List ReadSwapRule)
     → list_any (λ r. p (swap_of r)) rules ≡ list_any p (swaps_of rules)
 any_swap p [] = refl

@@ -21,7 +21,7 @@ use Rattle.dap_swaps.proofs.RenamedOrder.{Renamed, known, free_alike, all_rename
 use Rattle.dap_swaps.proofs.RenamedOrder.{ordered_renamed}
 
 module _ {X : Type 0} (P : X → X → Type 0) where
-  -- The two neighbours of xs that are related to x and y.
+  -- The two neighbours in xs that are related to x and y.
   record Across (xs front back : List X) (x y : X) : Type 0 where
     ahead : List X
     rest : List X

@@ -1,4 +1,4 @@
--- Messages of one look may pass the same other messages.
+-- Messages with the same look may be swapped with the same other messages.
 use Rattle.std.proofs.Common.{◌≡◌, ℕ, Bool, true, false, cond, not, ◌&&◌, inl, inr}
 use Rattle.std.proofs.Common.{List, [], ◌∷◌, Option, Some, None, refl, sym, ap, ◌∙◌, arith}
 use Rattle.std.specs.Prelude.{◌||◌}
@@ -18,7 +18,7 @@ use Rattle.dap_swaps.specs.Keys.{session_code, look_key}
 use Rattle.dap_swaps.specs.Waits.{are_tied}
 use Rattle.dap_swaps.proofs.Conversations.{one_class_back}
 
--- ---- numbers that have tests as digits
+-- ---- numbers whose digits are tests
 
 digit : (c d : ℕ) (a b : Bool) → with_bit c a ≡ with_bit d b → (c ≡ d) × (a ≡ b)
 digit c d true true e = (omega (arith, e), refl)
@@ -37,7 +37,7 @@ one_kind Event Request h = absurd (omega (arith, h))
 one_kind Event Response h = absurd (omega (arith, h))
 one_kind Event Event h = refl
 
--- What the rules of the session see of two messages is the same.
+-- The session rules see no difference between the two messages.
 record AreAlike (x y : Sent) : Type 0 where
   kind : kind_of x ≡ kind_of y
   begin : begins x ≡ begins y
@@ -65,7 +65,7 @@ alike x y e =
       request = f.1;
     }
 
--- ---- the rules of the session
+-- ---- the session rules
 
 abbrev fixed_by : Bool → Bool → Bool → Bool → Bool → Bool → Bool
 fixed_by b o i c f q = (b && not o) || ((i && c) || (f && q))
@@ -86,9 +86,9 @@ fixed_alike x x' y y' h g =
     ∙ ap (fixed_by (begins x') (is_output y') (is_initialized x') (is_configuration_done y')
     (is_farewell x')) g.request
 
--- ---- the rules of the user
+-- ---- the user's rules
 
--- Each name of the rules is that of both messages, or of neither.
+-- Each name in the rules is that of both messages, or of neither.
 abbrev HaveNamesAlike : List SwapRule → Sent → Sent → Type 0
 HaveNamesAlike [] x y = Unit {0}
 HaveNamesAlike (r ∷ rs) x y =
@@ -158,7 +158,7 @@ any_alike (r ∷ rs) x x' y y' e f h g =
 
 -- ---- looks
 
--- Two messages may change places as two messages with their looks may.
+-- Two messages may be swapped if and only if two messages with their looks may.
 pub swap_alike : (rules : List SwapRule) (x x' y y' : Sent) → look_key rules x ≡ look_key rules x'
     → look_key rules y ≡ look_key rules y' → may_swap rules x y ≡ may_swap rules x' y'
 swap_alike rules x x' y y' e f =
@@ -198,7 +198,7 @@ class_both_ways x y = elim (cases_Bool (of_one_class x y)) [
   ]
 ]
 
--- Messages are free if and only if they may be swapped by their looks, and are not tied.
+-- Messages are free if and only if their looks allow a swap and they are not tied.
 pub free_parts : (rules : List SwapRule) (x y : Sent)
     → free rules x y ≡ may_swap rules x y && not (are_tied x y)
 unfolding free

@@ -25,7 +25,7 @@ use Rattle.dap_swaps.specs.Order.{ordered}
 use Rattle.dap_swaps.specs.SameButOrder.{SameButOrder, AreSameButOrder}
 use Rattle.dap_swaps.proofs.SameButOrder.{orders_renamed, same_from_orders}
 
--- the numbers of a kind of id that the entries relate, with `Mode::Whole`
+-- The numbers of a kind of id that the entries relate, with `Mode::Whole`.
 abbrev Puts : List (Class × ℤ × ℤ) → Sort → ℤ → ℤ → Type 0
 Puts r s x y = IsIn (class_after 0 s, x, y) r
 

@@ -1,4 +1,4 @@
--- Places are sorted by keys that compare as the places do.
+-- Places are sorted by keys that are ordered in the same way as the places.
 use Rattle.std.proofs.Common.{◌≡◌, ℕ, ◌<◌, true, false, ◌&&◌, List}
 use Rattle.std.proofs.Common.{[], ◌∷◌, map, length, Option, Some, None, refl, sym, ap, ◌∙◌, arith}
 use Rattle.std.proofs.Common.{get_or}
@@ -48,7 +48,7 @@ sort_total =
     (then_total (on_total (λ (k : ReadSortKey). k.class) key_total)
     (on_total (λ (k : ReadSortKey). k.place) nat_cmp_total)))
 
--- The parts of a key, compared as those of a sort key are.
+-- The parts of a key, compared in the same way as those of a sort key.
 abbrev parts_cmp : Option ℕ → Class → ℕ → Option ℕ → Class → ℕ → Ordering
 parts_cmp o c i q d j =
     ordering_then (bool_cmp (is_none o) (is_none q))
@@ -74,7 +74,7 @@ less_parts x y i j (Some a) (Some b) h =
     ap (λ r. is_lt (ordering_then r (ordering_then (class_cmp (class_of x) (class_of y))
     (nat_cmp i j)))) (cond-true (nat_lt a b) Less _ h)
 
--- Sort keys compare as the parts of the keys of their entries.
+-- Sort keys are ordered in the same way as the parts of the keys of their entries.
 sort_is : (k l : ReadSortKey) (e f : Entry) (i j : ℕ) → sort_key_of k ≡ entry_key e i
     → sort_key_of l ≡ entry_key f j
     → sort_cmp k l
@@ -91,7 +91,7 @@ sort_is k l e f i j h g =
         (ordering_then (option_cmp int_cmp m.class.number n.class.number)
         (slice_cmp nat_cmp m.class.name n.class.name))) (nat_cmp m.place n.place)))
 
--- It is the key of an entry of the list, and has its place.
+-- The key is that of an entry of the list, and has its place.
 abbrev pub IsKeyOf : List Entry → ReadSortKey → Type 0
 IsKeyOf es k =
     (e : Entry) × (slice_get es k.place ≡ Some e) × (sort_key_of k ≡ entry_key e k.place)

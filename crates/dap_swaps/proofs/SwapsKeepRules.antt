@@ -1,4 +1,4 @@
--- Swaps of free neighbours violate no rule, and keep the number of unanswered requests.
+-- Swaps of free neighbours violate no rule, and preserve the number of unanswered requests.
 use Rattle.std.proofs.Common.{◌≡◌, ℕ, Bool, not, cond, ◌&&◌, ◌+◌, List, [], ◌∷◌}
 use Rattle.std.proofs.Common.{◌++◌, sym, ap, ◌∙◌, refl, subst, append_assoc, append-nil}
 use Rattle.std.specs.List.{fold}
@@ -18,7 +18,7 @@ use Rattle.dap_swaps.proofs.Histories.{SameHistory, swapped_history, Fine, fine_
 use Rattle.dap_swaps.proofs.Histories.{same_fine}
 use Rattle.dap_swaps.proofs.Neighbours.{without_first, after_second}
 
--- The lists have the same history, also after any further messages.
+-- The lists have the same history, including after any further messages.
 record SameFuture (ms ns : List Sent) : Type 0 where
   after : (rest : List Sent) → SameHistory (ms ++ rest) (ns ++ rest)
 

@@ -1,4 +1,5 @@
--- Two places of a table are ordered as the messages there are, and are free if they are.
+-- Two places of a table are ordered in the same way as the messages at these places, and are free
+-- if these are.
 use Rattle.std.proofs.Common.{◌≡◌, ℕ, Bool, true, false, ◌&&◌, List, [], ◌∷◌, map, take, Option}
 use Rattle.std.proofs.Common.{arith, zero, suc, inl, inr}
 use Rattle.std.proofs.Common.{Some, None, refl, sym, ap, ◌∙◌, ◌⊎◌}
@@ -153,7 +154,7 @@ module _ (rules : List SwapRule) (es : List Entry) where
         ∙ ap (λ b. free rules (sent_by e) (sent_by f) && (less_there i e j f || b))
         (less_label j i f e k h)
 
-    -- Free messages do not answer one request.
+    -- Free messages do not answer the same request.
     other_request : (i j : ℕ) (e f : Entry) → slice_get es i ≡ Some e → slice_get es j ≡ Some f
         → free rules (sent_by e) (sent_by f) ≡ true → (a : ℕ) → request_by e ≡ Some a
         → request_by f ≡ Some a → ⊥
@@ -168,7 +169,7 @@ module _ (rules : List SwapRule) (es : List Entry) where
         (are_message_answers rules).one_answer (sent_by e) (sent_by f) q.0 fr q.2
         (ap (λ (z : Sent). is_client_request_of z (sent_by f)) (sym same) ∙ r.2)
 
-    -- Two places are free if and only if the messages there are.
+    -- Two places are free if and only if the messages at these places are.
     pub free_at : (i j : ℕ) (e f : Entry) → slice_get es i ≡ Some e → slice_get es j ≡ Some f
         → (by_place (by_label (message_labels rules)) labelled).free i j
         ≡ free rules (sent_by e) (sent_by f)

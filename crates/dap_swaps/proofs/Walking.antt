@@ -1,4 +1,4 @@
--- Walking back through a conversation.
+-- The walk back through a conversation.
 use Rattle.std.proofs.Common.{◌≡◌, ℕ, ◌+◌, ◌<◌, ◌≤◌, ◌⊎◌, inl, inr, List, [], ◌∷◌}
 use Rattle.std.proofs.Common.{◌++◌, map, Option, Some, None, sym, arith, subst}
 use Rattle.std.specs.Prelude.{Contains}
@@ -9,28 +9,29 @@ use Rattle.dap_message.specs.Message.{Sent}
 use Rattle.dap_swaps.specs.Keys.{Key, conversation_key, IsLastBelow, IsKeyAt}
 use Rattle.dap_swaps.specs.Waits.{IsResponseAt, AreBack}
 
--- The walk has come to this place with the key, or to the end.
+-- The walk has reached this place with the key, or the end.
 abbrev pub IsNext : List Key → Key → ℕ → Option ℕ → Type 0
 IsNext ks k j None = Unit {0}
 IsNext ks k j (Some p) = (p < j) × IsKeyAt ks k p
 
--- the number of places up to this one, or none at the end
+-- The number of places up to this one, or 0 at the end.
 abbrev pub steps : Option ℕ → ℕ
 steps None = 0
 steps (Some p) = p + 1
 
--- The place is not after the place that the walk has come to.
+-- The place is not after the place that the walk has reached.
 abbrev pub IsAhead : ℕ → Option ℕ → Type 0
 IsAhead i None = ⊥
 IsAhead i (Some p) = i ≤ p
 
--- The place is listed, or the list has a later response, or the walk has still to come to it.
+-- The place is listed, or the list has a later response, or the walk has not reached the place yet.
 pub data IsFound (ms : List Sent) (next : Option ℕ) (waits : List ℕ) (i : ℕ) : Type 0 where
   listed : Contains waits i → IsFound ms next waits i
   answered : (a : ℕ) → Contains waits a → i < a → IsResponseAt ms a → IsFound ms next waits i
   ahead : IsAhead i next → IsFound ms next waits i
 
--- The listed places have the key, and each earlier place with the key is found.
+-- The listed places have the key, and each earlier place with the key is listed, covered by a later
+-- response, or not reached yet.
 pub record AreBackTo (ms : List Sent) (k : Key) (j : ℕ) (next : Option ℕ) (waits : List ℕ)
     : Type 0 where
   pub earlier : (a : ℕ) → Contains waits a → (a < j) × IsKeyAt (map conversation_key ms) k a
@@ -41,7 +42,7 @@ pub next_is : (ks : List Key) (k : Key) (j : ℕ) (o : Option ℕ) (p : ℕ) →
     → IsNext ks k j o → (p < j) × IsKeyAt ks k p
 next_is ks k j o p e now = subst (IsNext ks k j) e now
 
--- The walk comes to an earlier place with each step.
+-- Each step of the walk reaches an earlier place.
 pub walk_falls : (P : ℕ → Type 0) (p : ℕ) (o : Option ℕ) → IsLastBelow P p o
     → steps o < steps (Some p)
 walk_falls P p None last = omega arith
@@ -115,7 +116,7 @@ module _ (ms : List Sent) (k : Key) (j : ℕ) where
         ]
       ]
 
-  -- The walk goes on from a message that is no response.
+  -- The walk continues from a message that is not a response.
   pub walk_goes_on : (waits : List ℕ) (p : ℕ) (o : Option ℕ) → AreBackTo ms k j (Some p) waits
       → IsLastBelow (IsKeyAt (map conversation_key ms) k) p o
       → AreBackTo ms k j o (waits ++ p ∷ [])

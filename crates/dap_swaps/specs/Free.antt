@@ -1,5 +1,5 @@
--- Which messages may change places if they are neighbours: those that a rule of the user names, and
--- whose order neither their class nor a rule of the session fixes (own).
+-- Which messages may be swapped if they are neighbours: those that a user's rule names, and whose
+-- order is not fixed by their class or by a session rule. Source: own.
 use Rattle.std.specs.Prelude.{ℕ, ℤ, Bool, true, cond, not, ◌&&◌, ◌||◌, List, [], Option, Some}
 use Rattle.std.specs.Prelude.{None, codes}
 use Rattle.std.specs.List.{list_any}
@@ -17,9 +17,9 @@ use Rattle.dap_session.specs.Messages.{is_response_to, is_client_initialize, is_
 use Rattle.dap_session.specs.Messages.{is_configuration_done, is_initialized, is_farewell}
 use Rattle.dap_mask.specs.Swaps.{Half, SwapRule}
 
--- ---- what the rules name
+-- ---- messages that the rules name
 
--- The half has no name, or it has the name of the message.
+-- The half has no name, or its name is that of the message.
 abbrev pub fits_name : Option (List ℕ) → Sent → Bool
 fits_name None m = true
 fits_name (Some name) m = is_named name m
@@ -33,15 +33,15 @@ abbrev pub names_both : SwapRule → Sent → Sent → Bool
 names_both r x y =
     (fits_half r.one x && fits_half r.another y) || (fits_half r.one y && fits_half r.another x)
 
--- Some rule names the message.
+-- A rule names the message.
 abbrev pub names : List SwapRule → Sent → Bool
 names rules m = list_any (λ r. fits_half r.one m || fits_half r.another m) rules
 
 -- ---- the classes of messages
 
--- Messages of one class keep their order (own). All messages of the client are one class. The
--- adapter's responses to one request are a class, whatever their commands. Other messages of the
--- adapter are of one class if they have the same kind and the same name.
+-- Messages of the same class keep their order (own). All messages of the client form one class. The
+-- adapter's responses to one request form a class, whatever their commands. Other messages of the
+-- adapter are in the same class if they have the same kind and the same name.
 pub data Class : Type 0 where
   of_client : Class
   to_number : Option ℤ → Class
@@ -53,7 +53,7 @@ class_of m =
     (cond (is_response m) (to_number (request_seq_of m)) (with_name (kind_of m) (name_of m)))
 
 -- Responses of the adapter come first, then its events, its requests, and the client's messages. No
--- class has the kind `Response`.
+-- class of the form `with_name` has the kind `Response`.
 abbrev pub kind_rank : Kind → ℕ
 kind_rank Response = 3
 kind_rank Event = 1
@@ -74,7 +74,7 @@ class_name of_client = []
 class_name (to_number n) = []
 class_name (with_name k name) = name
 
--- by rank, then by number, then by name
+-- By rank, then by number, then by name.
 abbrev pub class_cmp : Class → Class → Ordering
 class_cmp =
     then_cmp (on class_rank nat_cmp) (then_cmp (on class_number (option_cmp int_cmp))
@@ -86,9 +86,9 @@ same_class a b = is_eq (class_cmp a b)
 abbrev pub less_class : Class → Class → Bool
 less_class a b = is_lt (class_cmp a b)
 
--- ---- what no rule can allow
+-- ---- orders that no rule can change
 
--- The messages are of one class.
+-- The messages are in the same class.
 abbrev pub of_one_class : Sent → Sent → Bool
 of_one_class x y = same_class (class_of x) (class_of y)
 
@@ -96,11 +96,11 @@ of_one_class x y = same_class (class_of x) (class_of y)
 abbrev pub answers : Sent → Sent → Bool
 answers x y = is_request y && is_response_to (side_of y) (seq_of y) x
 
--- It is a response of the adapter to `initialize`.
+-- The message is a response of the adapter to `initialize`.
 abbrev pub is_initialize_response : Sent → Bool
 is_initialize_response m = is_from Adapter m && is_response m && is_named (codes "initialize") m
 
--- It is the client's `initialize` request or the adapter's response to `initialize`.
+-- The message is the client's `initialize` request or the adapter's response to `initialize`.
 abbrev pub begins : Sent → Bool
 begins m = is_client_initialize m || is_initialize_response m
 
@@ -114,7 +114,7 @@ initializes x y = begins x && not (is_output y)
 abbrev pub allows_configuration : Sent → Sent → Bool
 allows_configuration x y = is_initialized x && is_configuration_done y
 
--- It is a request of the client.
+-- The message is a request of the client.
 abbrev pub is_client_request : Sent → Bool
 is_client_request m = is_from Client m && is_request m
 
@@ -123,20 +123,20 @@ is_client_request m = is_from Client m && is_request m
 abbrev pub ends_requests : Sent → Sent → Bool
 ends_requests x y = is_farewell x && is_client_request y
 
--- A rule of the session fixes the order of x and y, whatever their ids are.
+-- A session rule fixes the order of x and y, whatever their ids are.
 abbrev pub is_fixed : Sent → Sent → Bool
 is_fixed x y = initializes x y || (allows_configuration x y || ends_requests x y)
 
--- The order of x and y is fixed: by their class, or by a rule of the session.
+-- The order of x and y is fixed: by their class, or by a session rule.
 abbrev pub depends : Sent → Sent → Bool
 depends x y = of_one_class x y || (answers x y || is_fixed x y)
 
--- A rule names the messages, and no rule of the session fixes their order, whatever their ids are.
+-- A rule names both messages, and no session rule fixes their order, whatever their ids are.
 abbrev pub may_swap : List SwapRule → Sent → Sent → Bool
 may_swap rules x y =
     list_any (λ r. names_both r x y) rules && (not (is_fixed x y) && not (is_fixed y x))
 
--- The messages may change places if they are neighbours: a rule names them, and their order is not
--- fixed.
+-- The messages may be swapped if they are neighbours: a rule names both of them, and their order is
+-- not fixed.
 unfoldable pub free : List SwapRule → Sent → Sent → Bool
 free rules x y = list_any (λ r. names_both r x y) rules && (not (depends x y) && not (depends y x))

@@ -1,5 +1,5 @@
--- Keys of messages (own). Messages with equal keys are of one class, of one conversation or of one
--- look, by the kind of the key.
+-- Keys of messages (own). Messages with equal keys have the same class, the same conversation or
+-- the same look, depending on the kind of key.
 use Rattle.std.specs.Prelude.{◌≡◌, ℕ, ℤ, ◌+◌, ◌*◌, ◌<◌, Bool, false, cond, ◌&&◌, ◌||◌, List, []}
 use Rattle.std.specs.Prelude.{length}
 use Rattle.std.specs.Prelude.{Option, Some, None, is_some, slice_get}
@@ -44,12 +44,12 @@ abbrev pub side_code : Side → ℕ
 side_code Client = 0
 side_code Adapter = 1
 
--- It is a response that has the number of a request.
+-- The message is a response with a `request_seq`.
 abbrev pub is_numbered_response : Sent → Bool
 is_numbered_response m = is_response m && is_some (request_seq_of m)
 
--- The requests of one side with one number and the responses to them are a conversation. All other
--- messages have one key.
+-- The requests of one side with one sequence number and the responses to them form a conversation.
+-- All other messages share one key.
 abbrev pub conversation_key : Sent → Key
 conversation_key m =
     cond (is_request m)
@@ -58,8 +58,8 @@ conversation_key m =
     (record { code = side_code (other (side_of m)); number = request_seq_of m; name = [] })
     (record { code = 2; number = None; name = [] }))
 
--- The key of a response in its conversation. All other messages have a key that is no
--- conversation's.
+-- The key of a response is that of its conversation. All other messages have a key that is not the
+-- key of a conversation.
 abbrev pub response_key : Sent → Key
 response_key m =
     cond (is_numbered_response m) (conversation_key m)
@@ -67,7 +67,7 @@ response_key m =
 
 -- ---- looks
 
--- The name of a half is the name of the message.
+-- The name of the half is the name of the message.
 abbrev pub has_name : Option (List ℕ) → Sent → Bool
 has_name None m = false
 has_name (Some name) m = is_named name m
@@ -76,14 +76,14 @@ has_name (Some name) m = is_named name m
 abbrev pub has_name_in : SwapRule → Sent → Bool
 has_name_in r m = has_name r.one.name m || has_name r.another.name m
 
--- Some rule has the name of the message.
+-- A rule has the name of the message.
 abbrev pub is_mentioned : List SwapRule → Sent → Bool
 is_mentioned rules m = list_any (λ r. has_name_in r m) rules
 
 abbrev pub bit_of : Bool → ℕ
 bit_of b = cond b 1 0
 
--- the number with one more binary digit
+-- The number with one more binary digit.
 abbrev pub with_bit : ℕ → Bool → ℕ
 with_bit code bit = 2 * code + bit_of bit
 
@@ -92,7 +92,7 @@ kind_code Request = 0
 kind_code Response = 1
 kind_code Event = 2
 
--- A number that has the kind of the message, and the tests by which a rule of the session fixes its
+-- A number that encodes the kind of the message, and the tests by which a session rule fixes its
 -- order.
 abbrev pub session_code : Sent → ℕ
 session_code m =
@@ -100,8 +100,9 @@ session_code m =
     (begins m)) (is_output m)) (is_initialized m)) (is_configuration_done m)) (is_farewell m))
     (is_client_request m)
 
--- Messages of one look may be swapped with the same messages, except for what their ids, and names
--- that no rule has, forbid. The rules bound the number of looks, not the recording.
+-- Messages with the same look may be swapped with the same messages, unless their ids, or names
+-- that no rule mentions, forbid it. The rules bound the number of looks; the recording does not
+-- affect this bound.
 abbrev pub look_key : List SwapRule → Sent → Key
 look_key rules m = record {
   code = with_bit (session_code m) (is_mentioned rules m);
@@ -109,16 +110,16 @@ look_key rules m = record {
   name = cond (is_mentioned rules m) (name_of m) [];
 }
 
--- ---- by any of these
+-- ---- keys selected by `By`
 
--- the key by which a message is found
+-- The key of a message itself.
 abbrev pub own_key : By → Sent → Key
 own_key Class m = class_key m
 own_key Conversation m = conversation_key m
 own_key OfResponse m = response_key m
 own_key (Look rules) m = look_key (swaps_of rules.now) m
 
--- the key of the messages that a message looks for
+-- The key of the messages that a message searches for.
 abbrev pub sought_key : By → Sent → Key
 sought_key Class m = class_key m
 sought_key Conversation m = conversation_key m
@@ -132,11 +133,11 @@ abbrev pub IsLastBelow : (ℕ → Type 0) → ℕ → Option ℕ → Type 0
 IsLastBelow P n None = (i : ℕ) → i < n → P i → ⊥
 IsLastBelow P n (Some p) = (p < n) × P p × ((i : ℕ) → p < i → i < n → P i → ⊥)
 
--- The key k is at this place of a list.
+-- The key k is at this place in the list.
 abbrev pub IsKeyAt : List Key → Key → ℕ → Type 0
 IsKeyAt ks k i = slice_get ks i ≡ Some k
 
--- For each place of `sought` the last place before it at which `own` has the same key.
+-- For each place of `sought`, the last earlier place at which `own` has the same key.
 pub record ArePrevious (own sought : List Key) (previous : List (Option ℕ)) : Type 0 where
   pub len : length previous ≡ length sought
   pub each : (j : ℕ) (k : Key) (o : Option ℕ) → slice_get sought j ≡ Some k

@@ -1,4 +1,4 @@
--- The laws that the functions of `laws` state.
+-- The statements of the functions in `laws`.
 use Rattle.std.specs.Prelude.{◌≡◌, ◌↔◌, List, [], ◌∷◌, ◌++◌, false}
 use Rattle.std.specs.Bool.{Decides}
 use Rattle.std.specs.List.{All}
@@ -26,9 +26,9 @@ FreeInWords = (rules : List SwapRule) (x y : Sent) → Decides (free rules x y) 
 abbrev pub FreeBothWays : Type 0
 FreeBothWays = (rules : List SwapRule) → BothWays (free rules)
 
--- ---- the rules of the session
+-- ---- the session rules
 
--- Swaps of free neighbours violate no rule of the session.
+-- Swaps of free neighbours violate no session rule.
 abbrev pub SwapsKeepRules : Type 0
 SwapsKeepRules = (rules : List SwapRule) (ms ns : List Sent) → Reordered (free rules) ms ns
     → KeepsRules ms ↔ KeepsRules ns
@@ -61,13 +61,13 @@ OrderedAgain = (rules : List SwapRule) (ms : List Sent)
     → ordered rules (ordered rules ms) ≡ ordered rules ms
 
 -- A message that no rule names divides the list: the messages before it and the messages after it
--- are ordered separately, by the keys that they have in the whole list.
+-- are ordered separately, by the keys that they have in the complete list.
 abbrev pub UnnamedParts : Type 0
 UnnamedParts = (rules : List SwapRule) (b : Sent) → names rules b ≡ false → (ms ns : List Sent)
     → ordered rules (ms ++ b ∷ ns)
     ≡ ordered rules ms ++ b ∷ order_by_label_after (message_labels rules) (ms ++ b ∷ []) ns
 
--- The order of a list obeys the rules of the session if and only if the list does.
+-- The order of a list obeys the session rules if and only if the list does.
 abbrev pub OrderKeepsRules : Type 0
 OrderKeepsRules = (rules : List SwapRule) (ms : List Sent)
     → KeepsRules ms ↔ KeepsRules (ordered rules ms)

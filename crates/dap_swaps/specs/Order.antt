@@ -1,6 +1,7 @@
--- The keys by which messages are put in order (own). A response to a request of the client has the
--- number of that request. Every other message has its class, and the number of messages of that
--- class before it. So no key depends on the values of ids.
+-- The keys by which messages are put in order (own). Each message has a class and a number: the
+-- number of earlier messages of its class. The key of a response to a request of the client is the
+-- class and number of that request. The key of any other message is its own class and number.
+-- Therefore no key depends on the values of ids.
 use Rattle.std.specs.Prelude.{ℕ, Bool, ◌&&◌, ◌⊎◌, List}
 use Rattle.dap_tree.specs.declared.side.Side.TheVariants.{Client}
 use Rattle.dap_message.specs.Message.{Sent}
@@ -33,7 +34,8 @@ message_answers rules = record {
 abbrev pub message_labels : List SwapRule → Labels Sent ((Class × ℕ) ⊎ (Class × ℕ))
 message_labels rules = answer_labels (message_answers rules)
 
--- The messages in order: the first list, by these keys, that swaps of free neighbours lead to.
+-- The messages in order: the lexicographically first list, by these keys, among those that swaps of
+-- free neighbours lead to.
 unfoldable pub ordered : List SwapRule → List Sent → List Sent
 ordered rules ms = order_by_label (message_labels rules) ms
 

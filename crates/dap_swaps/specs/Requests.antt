@@ -1,4 +1,4 @@
--- What a map of the client's requests contains, for private clauses.
+-- The content of a map of the client's requests, for private clauses.
 use Rattle.std.specs.Prelude.{◌≡◌, ℕ, ℤ, List, Option}
 use Rattle.std.specs.Ordering.{int_cmp}
 use Rattle.std.specs.BTreeMap.{get}
@@ -11,6 +11,6 @@ use Rattle.dap_swaps.specs.declared.requests.FirstRequests.{FirstRequests}
 abbrev pub places_found : FirstRequests → ℤ → Option ℕ
 places_found f number = get int_cmp f.places number
 
--- The map has the place of the first request of the client with each number.
+-- For each number, the map has the place of the first request of the client with that number.
 abbrev pub Finds : FirstRequests → List Sent → Type 0
 Finds f ms = (number : ℤ) → places_found f number ≡ first_place (is_request_of Client number) ms

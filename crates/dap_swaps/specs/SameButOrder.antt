@@ -8,14 +8,14 @@ use Rattle.dap_order.specs.Swaps.{Reordered}
 use Rattle.dap_mask.specs.Swaps.{SwapRule}
 use Rattle.dap_swaps.specs.Free.{free}
 
--- Swaps of free neighbours, and then other numbers at the ids, related by R, turn ms into ns.
+-- Swaps of free neighbours, followed by replacing ids by numbers related by R, turn ms into ns.
 pub record SameButOrder (R : Sort → ℤ → ℤ → Type 0) (rules : List SwapRule) (ms ns : List Sent)
     : Type 0 where
   pub between : List Sent
   pub swaps : Reordered (free rules) ms between
   pub renaming : DifferInIds R between ns
 
--- Swaps of free neighbours, and then a one-to-one renaming with `Mode::Whole`, turn ms into ns.
+-- Swaps of free neighbours, followed by a one-to-one renaming with `Mode::Whole`, turn ms into ns.
 abbrev pub AreSameButOrder : List SwapRule → List Sent → List Sent → Type 0
 AreSameButOrder rules ms ns =
     (between : List Sent) × Reordered (free rules) ms between × AreSame in_whole between ns

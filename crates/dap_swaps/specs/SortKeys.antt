@@ -19,7 +19,7 @@ sort_key_of k = record {
   place = k.place;
 }
 
--- the sort key of the entry at this place
+-- The sort key of the entry at this place.
 abbrev pub entry_key : Entry → ℕ → SortKey
 entry_key e place = record {
   answers_none = is_none (request_by e);

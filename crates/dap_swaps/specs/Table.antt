@@ -8,7 +8,7 @@ use Rattle.dap_swaps.specs.Order.{message_labels}
 use Rattle.dap_swaps.specs.Entries.{sent_by}
 use Rattle.dap_swaps.specs.declared.table.Table.{Table}
 
--- Two places are ordered as the messages there are.
+-- Two places are ordered in the same way as the messages at these places.
 abbrev pub place_order : Table → Swaps ℕ
 place_order t =
     let labels = message_labels (swaps_of t.rules.now) in

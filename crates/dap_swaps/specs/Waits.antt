@@ -1,4 +1,4 @@
--- The earlier messages that a message has to follow because of its class or its conversation, for
+-- The earlier messages that a message must follow because of its class or its conversation, for
 -- private clauses.
 use Rattle.std.specs.Prelude.{◌≡◌, ℕ, ◌<◌, Bool, true, ◌||◌, ◌⊎◌, List, Some, map, slice_get}
 use Rattle.std.specs.Prelude.{Contains}
@@ -13,7 +13,7 @@ use Rattle.dap_swaps.specs.declared.waits.Earlier.{Earlier}
 abbrev pub talk : Sent → Sent → Bool
 talk x y = answers x y || answers y x
 
--- The order of the two messages is fixed whichever of them comes first.
+-- The order of the two messages is fixed, whichever of them comes first.
 abbrev pub are_tied : Sent → Sent → Bool
 are_tied x y = of_one_class x y || talk x y
 
@@ -21,7 +21,7 @@ are_tied x y = of_one_class x y || talk x y
 abbrev pub at_both : (Sent → Sent → Bool) → List Sent → ℕ → ℕ → Bool
 at_both p ms i j = passes_both p (slice_get ms i) (slice_get ms j)
 
--- The place i is in the list, or the list has a later place whose order with i is fixed.
+-- The place i is in the list, or the list contains a later place whose order with i is fixed.
 abbrev pub IsCovered : List Sent → List ℕ → ℕ → Type 0
 IsCovered ms waits i =
     Contains waits i ⊎ ((a : ℕ) × Contains waits a × (i < a) × (at_both are_tied ms i a ≡ true))
@@ -33,11 +33,11 @@ pub record Covers (p : Sent → Sent → Bool) (ms : List Sent) (j : ℕ) (waits
   pub tied : (a : ℕ) → Contains waits a → at_both are_tied ms a j ≡ true
   pub all : (i : ℕ) → i < j → at_both p ms i j ≡ true → IsCovered ms waits i
 
--- A response that has the number of a request is at this place.
+-- The message at this place is a response with a `request_seq`.
 abbrev pub IsResponseAt : List Sent → ℕ → Type 0
 IsResponseAt ms a = (x : Sent) × (slice_get ms a ≡ Some x) × (is_numbered_response x ≡ true)
 
--- The listed places are those with the key k before j, back to the last response.
+-- The listed places are the earlier places with the key k, back to the last response.
 pub record AreBack (ms : List Sent) (k : Key) (j : ℕ) (waits : List ℕ) : Type 0 where
   pub earlier : (a : ℕ) → Contains waits a
       → (a < j) × IsKeyAt (map conversation_key ms) k a

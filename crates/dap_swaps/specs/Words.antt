@@ -1,4 +1,5 @@
--- Freeness without tests. The law `FreeInWords` states that the test `free` decides it.
+-- Freeness, defined by relations instead of tests. The law `FreeInWords` states that the test
+-- `free` decides it.
 use Rattle.std.specs.Prelude.{◌≡◌, ◌⊎◌, ℕ, List, Option, Some, None, Contains, codes}
 use Rattle.dap_tree.specs.declared.side.Side.TheVariants.{Client, Adapter}
 use Rattle.dap_message.specs.Message.{Sent}
@@ -9,7 +10,7 @@ use Rattle.dap_session.specs.Positions.{IsResponseOf}
 use Rattle.dap_mask.specs.Swaps.{Half, SwapRule}
 use Rattle.dap_swaps.specs.Free.{class_of}
 
--- The half has no name, or it has the name of the message.
+-- The half has no name, or its name is that of the message.
 abbrev pub FitsName : Option (List ℕ) → Sent → Type 0
 FitsName None m = Unit {0}
 FitsName (Some name) m = IsNamed name m
@@ -24,7 +25,7 @@ NamesBoth r x y =
     (FitsHalf r.one x × FitsHalf r.another y) ⊎ (FitsHalf r.one y × FitsHalf r.another x)
 
 -- The order of x and y is fixed. One of these holds:
---   they are of one class;
+--   they are in the same class;
 --   x is a response to the request y;
 --   x is the client's `initialize` request or the adapter's response to `initialize`, and y is not
 --   an `output` event of the adapter;
@@ -40,8 +41,8 @@ Depends x y =
     ⊎ ((IsInitialized x × IsConfigurationDone y)
     ⊎ (IsFarewell x × (IsFrom Client y × IsRequest y)))))
 
--- The messages may change places if they are neighbours: a rule names them, and their order is not
--- fixed.
+-- The messages may be swapped if they are neighbours: a rule names both of them, and their order is
+-- not fixed.
 abbrev pub IsFree : List SwapRule → Sent → Sent → Type 0
 IsFree rules x y =
     ((r : SwapRule) × Contains rules r × NamesBoth r x y) × (¬ Depends x y × ¬ Depends y x)

@@ -1,4 +1,4 @@
-//! The places of messages in the order of their keys.
+//! Sorts the places of messages by their keys.
 ghost use Rattle.std.specs.Prelude.{◌≡◌, IfOk, length, IsPermutation};
 ghost use Rattle.std.specs.List.{range_with_len};
 ghost use Rattle.dap_swaps.specs.Plan.{AreByKey};
@@ -8,8 +8,8 @@ use crate::entries::Entry;
 use crate::keys::{Key, class_key};
 use std::alloc::{AllocError, Global};
 
-/// The key of an entry. Responses to a request of the client come first, in the order of these
-/// requests, and then all other messages, by class and by place.
+/// The sort key of an entry. Responses to requests of the client come first, in the order of these
+/// requests. All other messages follow, by class and then by place.
 #[derive(Clone, Copy, PartialEq, Eq, PartialOrd, Ord, Drop)]
 pub struct SortKey<'m> {
     answers_none: bool,
@@ -29,7 +29,8 @@ fn sort_key<'m>(entry: &Entry<'m>, place: usize) -> SortKey<'m>
     }
 }
 
-/// Returns the places of the entries in the order of their keys. Equal keys may come in any order.
+/// Returns the places of the entries in the order of their keys. Entries with equal keys may be in
+/// any order.
 pub fn places_by_key(alloc: Global, entries: &[Entry<'_>]) -> Result<Vec<usize>, AllocError>
     ensures once { IfOk result
         (λ places. IsPermutation (range_with_len 0 (length entries.now)) places.items) }

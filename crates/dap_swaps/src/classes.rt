@@ -1,4 +1,4 @@
-//! The classes of messages. Messages of one class keep their order.
+//! Computes the classes of messages. Messages of the same class keep their order.
 ghost use Rattle.std.specs.Prelude.{◌≡◌};
 ghost use Rattle.dap_session.specs.EnvelopeView.{message_of};
 ghost use Rattle.dap_swaps.specs.Free as words;

@@ -1,4 +1,4 @@
-//! Messages whose order is fixed: by their class, or by a rule of the session.
+//! Decides which messages have a fixed order, by their class or by a session rule.
 ghost use Rattle.std.specs.Prelude.{◌≡◌};
 ghost use Rattle.dap_session.specs.EnvelopeView.{message_of};
 ghost use Rattle.dap_session.specs.Messages as tests;
@@ -53,7 +53,8 @@ fn is_initialize_response(message: &Envelope<'_>) -> bool
     is_from(message, Side::Adapter) && is_response(message) && name_of(message) == "initialize"
 }
 
-/// Returns whether it is the client's `initialize` request or the adapter's response to it.
+/// Returns whether the message is the client's `initialize` request or the adapter's response to
+/// it.
 pub fn begins(message: &Envelope<'_>) -> bool
     ensures { result ≡ words.begins (message_of message.now) }
 {
@@ -84,8 +85,8 @@ fn ends_requests(x: &Envelope<'_>, y: &Envelope<'_>) -> bool
     is_farewell(x) && is_client_request(y)
 }
 
-/// Returns whether a rule of the session fixes the order of `x` and `y`, whatever their ids are, if
-/// `x` comes first.
+/// Returns whether a session rule fixes the order of `x` and `y` if `x` comes first, whatever their
+/// ids are.
 pub fn is_fixed(x: &Envelope<'_>, y: &Envelope<'_>) -> bool
     ensures { result ≡ words.is_fixed (message_of x.now) (message_of y.now) }
 {

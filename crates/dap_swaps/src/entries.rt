@@ -1,4 +1,4 @@
-//! The messages of a recording, with the facts that their order depends on.
+//! Stores the messages of a recording with the facts that their order depends on.
 ghost use Rattle.std.specs.Prelude.{◌≡◌, [], IfOk, map};
 ghost use Rattle.dap_message.specs.Message.{sent};
 ghost use Rattle.dap_order.specs.ByPlace.{places_answered};
@@ -10,15 +10,15 @@ use dap_message::Message;
 use dap_session::envelope::{Envelope, envelope_of};
 use std::alloc::{AllocError, Global};
 
-/// A message, and the place of the client's request that it answers.
+/// A message, and the place of the client's request that it answers, if it answers one.
 #[derive(Drop)]
 pub struct Entry<'m> {
     pub message: Envelope<'m>,
     pub request: Option<usize>,
 }
 
-/// Returns the entries of the messages, in their order. The time for each entry grows with the
-/// logarithm of the number of requests.
+/// Returns the entries of the messages, in their order. The time per entry is logarithmic in the
+/// number of requests.
 pub fn entries_of(alloc: Global, messages: &[Message]) -> Result<Vec<Entry<'_>>, AllocError>
     ensures messages { IfOk result
         (λ entries. map sent_by entries.items ≡ map sent messages.now) }

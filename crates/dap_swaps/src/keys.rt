@@ -1,4 +1,4 @@
-//! Keys of messages. Messages with equal keys wait for each other, or have the same look.
+//! Computes keys of messages. Messages with equal keys have the same class, conversation or look.
 ghost use Rattle.std.specs.Prelude.{◌≡◌, ◌+◌, ◌*◌, ◌<◌, ◌≤◌};
 ghost use Rattle.std.specs.List.{list_any};
 ghost use Rattle.dap_mask.specs.Swaps.{swap_of, swaps_of, half_of};
@@ -25,16 +25,17 @@ pub struct Key<'m> {
     pub name: &'m str,
 }
 
-/// Which messages have equal keys.
+/// Selects which messages have equal keys.
 #[derive(Clone, Copy, Drop)]
 pub enum By<'r> {
-    /// Messages of one class.
+    /// Messages of the same class.
     Class,
-    /// The requests of one side with one number, and the responses to them.
+    /// The requests of one side with the same sequence number, and the responses to them.
     Conversation,
     /// The responses of a conversation, for the messages of that conversation.
     Response,
-    /// Messages that the rules and the session treat alike, except for ids and other names.
+    /// Messages that the user's rules and the session rules treat alike, except for ids and for
+    /// names that no rule mentions.
     Look(&'r [SwapRule]),
 }
 
@@ -57,7 +58,7 @@ fn side_code(side: Side) -> u16
     }
 }
 
-/// Returns whether the message is a response that has the number of a request.
+/// Returns whether the message is a response with a `request_seq`.
 pub fn is_numbered_response(message: &Envelope<'_>) -> bool
     ensures { result ≡ keys.is_numbered_response (message_of message.now) }
 {
@@ -173,7 +174,7 @@ fn look_key<'m>(rules: &[SwapRule], message: &Envelope<'m>) -> Key<'m>
     }
 }
 
-/// Returns the key by which the message is found.
+/// Returns the key of the message itself.
 pub fn own_key<'m>(by: By<'_>, message: &Envelope<'m>) -> Key<'m>
     ensures { keys.key_of result ≡ keys.own_key by.entry (message_of message.now) }
 {
@@ -185,7 +186,7 @@ pub fn own_key<'m>(by: By<'_>, message: &Envelope<'m>) -> Key<'m>
     }
 }
 
-/// Returns the key of the messages that the message looks for.
+/// Returns the key of the messages that the message searches for.
 pub fn sought_key<'m>(by: By<'_>, message: &Envelope<'m>) -> Key<'m>
     ensures { keys.key_of result ≡ keys.sought_key by.entry (message_of message.now) }
 {

@@ -1,9 +1,9 @@
-//! Messages of a session whose order does not matter, by rules that a user declares.
+//! Orders the messages of a session up to swaps that a user's rules allow.
 //!
-//! [`is_free`] decides which two messages may change places if they are neighbours, and
+//! [`is_free`] decides which two messages may be swapped if they are neighbours, and
 //! [`put_in_order`] sorts the messages of a recording by such swaps. Two recordings have the same
 //! order if and only if such swaps turn one into the other. `specs/` defines the terms, and
-//! [`laws`] has the theorems.
+//! [`laws`] contains the theorems.
 #![tactic(auto)]
 
 mod by_key;

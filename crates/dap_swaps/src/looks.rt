@@ -1,4 +1,4 @@
-//! Groups of messages by their looks, and which groups block each other.
+//! Groups messages by their looks, and computes which groups block each other.
 ghost use Rattle.std.specs.Prelude.{◌≡◌, IfOk, map, length};
 ghost use Rattle.dap_mask.specs.Swaps.{swaps_of};
 ghost use Rattle.dap_swaps.specs.Entries.{sent_by};
@@ -19,7 +19,7 @@ pub struct Groups {
     pub firsts: Vec<usize>,
 }
 
-/// Returns the groups of the entries that have one look.
+/// Returns the groups of entries with the same look.
 pub fn groups_of(
     alloc: Global,
     rules: &[SwapRule],
@@ -76,7 +76,7 @@ fn row_of(
     Ok(row)
 }
 
-/// Returns which groups block each other, if `firsts` has one place of each group.
+/// Returns which groups block each other. `firsts` has one place of each group.
 pub fn blocks_of(
     alloc: Global,
     rules: &[SwapRule],

@@ -12,15 +12,15 @@ use dap_mask::SwapRule;
 use dap_message::Message;
 use std::alloc::{AllocError, Global};
 
-/// Returns the places of the messages in the order that the rules give them: first the place of the
+/// Returns the places of the messages in the order that the rules determine: first the place of the
 /// message that comes first, and so on.
 ///
 /// Two recordings have the same order if and only if the rules allow swaps of neighbours that turn
-/// one into the other. The order of a recording that obeys the rules of the session obeys them too.
+/// one into the other. The order of a recording that obeys the session rules obeys them too.
 ///
-/// The time grows as n log n + n (l + r) + l² r for n messages and r rules. Here l is the number of
-/// looks: messages have one look if they have the same kind and name, or the same kind and names
-/// that no rule has, and the rules of the session treat them alike.
+/// The time is O(n log n + n (l + r) + l² r) for n messages, r rules and l looks. Messages have the
+/// same look if the session rules treat them alike, they have the same kind, and they have the same
+/// name or names that no rule mentions.
 ///
 /// # Errors
 ///

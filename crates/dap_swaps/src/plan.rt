@@ -1,4 +1,4 @@
-//! The plan by which messages are put in order.
+//! Creates the plan by which messages are put in order.
 ghost use Rattle.std.specs.Prelude.{◌≡◌, ◌<◌, ℕ, [], IfOk, map, length};
 ghost use Rattle.std.specs.List.{slice_index_or};
 ghost use Rattle.dap_order.specs.Plan.{IsWellFormed, IsPlan, place_count};
@@ -14,7 +14,7 @@ use crate::waits::Earlier;
 use dap_order::Plan;
 use std::alloc::{AllocError, Global};
 
-/// Returns for each entry the places that it has to follow whatever the rules are.
+/// Returns for each entry the places that it must follow, whatever the rules are.
 fn after_of(alloc: Global, entries: &[Entry<'_>]) -> Result<Vec<Vec<usize>>, AllocError>
     ensures len { IfOk result (λ after. length after.items ≡ length entries.now) }
     ensures covers { IfOk result (λ after. (place : ℕ) → place < length entries.now

@@ -1,4 +1,4 @@
-//! The last earlier message with a key.
+//! Finds the last earlier message with a key.
 ghost use Rattle.std.specs.Prelude.{◌≡◌, IfOk, map};
 ghost use Rattle.dap_swaps.specs.Entries.{sent_by};
 ghost use Rattle.dap_swaps.specs.Keys as keys;
@@ -8,7 +8,7 @@ use crate::keys::{By, own_key, sought_key};
 use std::alloc::{AllocError, Global};
 use std::collections::BTreeMap;
 
-/// Returns for each entry the place of the last entry before it that has the key that it looks for.
+/// Returns for each entry the place of the last earlier entry with the key that it searches for.
 pub fn previous_of(
     alloc: Global,
     entries: &[Entry<'_>],

@@ -1,4 +1,4 @@
-//! The requests of the client by their sequence numbers.
+//! Stores the requests of the client by their sequence numbers.
 ghost use Rattle.std.specs.Prelude.{◌≡◌, ◌&&◌, ◌++◌, ◌∷◌, [], List, length, OnOk};
 ghost use Rattle.dap_message.specs.Message.{Sent};
 ghost use Rattle.dap_session.specs.EnvelopeView.{message_of};
@@ -13,8 +13,8 @@ use dap_session::message::{is_from, is_request, is_response, request_seq_of, seq
 use std::alloc::{AllocError, Global};
 use std::collections::BTreeMap;
 
-/// The places of the client's requests by their sequence numbers; of several requests with the same
-/// number, the place of the first.
+/// The places of the client's requests by their sequence numbers. If several requests have the same
+/// number, the place of the first one is stored.
 #[derive(Drop)]
 pub struct FirstRequests {
     places: BTreeMap<i64, usize>,
@@ -35,7 +35,7 @@ impl FirstRequests {
         self.places.get(&number).copied()
     }
 
-    /// Returns the place of the request that the message answers.
+    /// Returns the place of the request that the message answers, if any.
     pub fn answered(&self, message: &Envelope<'_>) -> Option<usize>
         ensures { (ms : List Sent) → Finds self.now ms
             → result ≡ place_answered (message_answers []) ms (message_of message.now) }

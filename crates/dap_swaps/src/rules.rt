@@ -1,4 +1,4 @@
-//! Which messages are free with each other, by the rules that a user declares.
+//! Decides which messages are free with each other, by the rules that a user declares.
 ghost use Rattle.std.specs.Prelude.{◌≡◌, ◌↔◌, IsTrue};
 ghost use Rattle.std.specs.List.{list_any};
 ghost use Rattle.dap_mask.specs.Swaps.{half_of, swap_of, swaps_of};
@@ -37,9 +37,9 @@ fn some_names_both(rules: &[SwapRule], x: &Envelope<'_>, y: &Envelope<'_>) -> bo
     rules.iter().any(|rule| names_both(rule, x, y))
 }
 
-/// Returns whether the two messages may change places if they are neighbours: a rule names them,
-/// and their order is not fixed. The result does not depend on which message is named first. Does
-/// not allocate.
+/// Returns whether the two messages may be swapped if they are neighbours: a rule names both of
+/// them, and their order is not fixed. The result does not depend on the order of the arguments.
+/// Does not allocate.
 ///
 /// The order of these messages is fixed:
 ///
@@ -57,7 +57,7 @@ pub fn is_free(rules: &[SwapRule], x: &Message, y: &Message) -> bool
     frees(rules, &envelope_of(x), &envelope_of(y))
 }
 
-/// Returns whether the two messages may change places if they are neighbours.
+/// Returns whether the two messages may be swapped if they are neighbours.
 #[tactic(auto, unfolding(crate::specs::Free::free))]
 pub(crate) fn frees(rules: &[SwapRule], x: &Envelope<'_>, y: &Envelope<'_>) -> bool
     ensures { result
@@ -66,8 +66,8 @@ pub(crate) fn frees(rules: &[SwapRule], x: &Envelope<'_>, y: &Envelope<'_>) -> b
     some_names_both(rules, x, y) && (!depends(x, y) && !depends(y, x))
 }
 
-/// Returns whether a rule names the two messages and no rule of the session fixes their order,
-/// whatever their ids are.
+/// Returns whether a rule names both messages and no session rule fixes their order, whatever their
+/// ids are.
 pub(crate) fn may_swap(rules: &[SwapRule], x: &Envelope<'_>, y: &Envelope<'_>) -> bool
     ensures { result
         ≡ words.may_swap (swaps_of rules.now) (message_of x.now) (message_of y.now) }

@@ -1,4 +1,4 @@
-//! The places of messages, which may change places as the messages do.
+//! Stores messages whose places are ordered in the same way as the messages.
 ghost use Rattle.std.specs.Prelude.{◌≡◌, [], map};
 ghost use Rattle.dap_order.specs.ByPlace.{places_answered};
 ghost use Rattle.dap_swaps.specs.Order.{message_answers};
@@ -7,7 +7,7 @@ ghost use Rattle.dap_swaps.specs.Entries.{sent_by, request_by};
 use crate::entries::Entry;
 use dap_mask::SwapRule;
 
-/// Messages, and the rules by which they may change places.
+/// Messages, and the rules by which they may be swapped.
 #[derive(Drop)]
 pub struct Table<'m> {
     pub rules: &'m [SwapRule],

@@ -1,4 +1,4 @@
-//! The earlier messages that a message has to follow because of its class or its conversation.
+//! Finds the earlier messages that a message must follow because of its class or its conversation.
 ghost use Rattle.std.specs.Prelude.{◌≡◌, ◌<◌, List, IfOk, map, length};
 ghost use Rattle.dap_message.specs.Message.{Sent};
 ghost use Rattle.dap_swaps.specs.Entries.{sent_by};
@@ -11,7 +11,7 @@ use crate::keys::{By, is_numbered_response};
 use crate::previous::previous_of;
 use std::alloc::{AllocError, Global};
 
-/// For each place the last earlier places of some kinds.
+/// For each place, the last earlier places of several kinds.
 #[derive(Drop)]
 pub struct Earlier {
     /// The last earlier place in its class.
@@ -20,7 +20,7 @@ pub struct Earlier {
     in_conversation: Vec<Option<usize>>,
     /// The last earlier response in its conversation.
     responses: Vec<Option<usize>>,
-    /// Whether it is a response that has the number of a request.
+    /// Whether the message at each place is a response with a `request_seq`.
     are_responses: Vec<bool>,
 }
 
@@ -47,7 +47,7 @@ impl Earlier {
         })
     }
 
-    /// Returns the places in the conversation of `place` before it, back to the last response.
+    /// Returns the earlier places in the conversation of `place`, back to the last response.
     fn back_to_response(&self, alloc: Global, place: usize) -> Result<Vec<usize>, AllocError>
         requires { (ms : List Sent) × words.IsEarlier ms self.now × (place < length ms) }
         ensures { (ms : List Sent) (k : ModelKey) → words.IsEarlier ms self.now
@@ -67,8 +67,8 @@ impl Earlier {
         Ok(waits)
     }
 
-    /// Returns the earlier places that the message has to follow because one of the two messages is
-    /// a response to the other.
+    /// Returns the earlier places that the message must follow because one of the two messages is a
+    /// response to the other.
     fn of_conversation(&self, alloc: Global, place: usize) -> Result<Vec<usize>, AllocError>
         requires { (ms : List Sent) × words.IsEarlier ms self.now × (place < length ms) }
         ensures { (ms : List Sent) → words.IsEarlier ms self.now
@@ -84,8 +84,8 @@ impl Earlier {
         Ok(waits)
     }
 
-    /// Returns earlier places that the message has to follow whatever the rules are. What such a
-    /// place itself has to follow may be left out.
+    /// Returns earlier places that the message must follow, whatever the rules are. Places that
+    /// these must follow themselves can be left out.
     pub fn waits_of(&self, alloc: Global, place: usize) -> Result<Vec<usize>, AllocError>
         requires { (ms : List Sent) × words.IsEarlier ms self.now × (place < length ms) }
         ensures { (ms : List Sent) → words.IsEarlier ms self.now

@@ -1,4 +1,4 @@
--- How far `record` has come in its input, which it reads a piece at a time, and what it may answer.
+-- The state of `record` between the chunks of its input, and its possible results.
 use Rattle.std.proofs.Common.{◌≡◌, ℕ, ◌+◌, ◌-◌, ◌<◌, ◌≤◌, ◌^◌, List, [], ◌∷◌, ◌++◌, length, take}
 use Rattle.std.proofs.Common.{drop, Some, None, Result, Err, refl, sym, ◌∙◌, ap, subst, arith}
 use Rattle.std.proofs.Common.{append-nil, length-append}
@@ -27,7 +27,7 @@ length_of limit bytes Full within = within
 length_of limit bytes Failed within = within
 
 module _ {R : Type 0} (source : Source R) where
-  -- Where no more comes, that was all.
+  -- If no more bytes follow, these are all bytes of the input.
   all_came : (start end : R) (limit : ℕ) (bytes : List ℕ) (stop : Stop)
       → HasComeSoFar source start end bytes (Some stop) → IsWithin (length bytes) limit (Some stop)
       → HasCome source start end limit bytes stop
@@ -38,9 +38,9 @@ module _ {R : Type 0} (source : Source R) where
     stopped = came.paused;
   }
 
-  -- ---- what is read and dropped
+  -- ---- bytes that are read and discarded
 
-  -- So much more has come, and may have.
+  -- This many more bytes were read, and the limit allows them.
   pub record Dropping (old now : Window) (before mid : R) : Type 0 where
     pub more : List ℕ
     pub came : HasComeSoFar source before mid more None
@@ -110,10 +110,10 @@ module _ {R : Type 0} (source : Source R) where
     dropped after Failed next le =
         record { more = was.more; came = came_none after Failed next; within = at_most le }
 
-  -- ---- what is recorded
+  -- ---- bytes that are recorded
 
   module _ (limits : Limits) (start : R) where
-    -- So much has come and has been recorded, and nothing is unread.
+    -- These bytes were read and recorded, and none is unread.
     pub record Going (reader : R) (pieces : Window) (trace : TraceReading)
         (recorder : RecorderReading) (last : ℕ) : Type 0 where
       pub bytes : List ℕ
@@ -137,7 +137,7 @@ module _ {R : Type 0} (source : Source R) where
       traced = traced;
     }
 
-    -- Of these bytes of the input, which came as a whole, those were taken.
+    -- These bytes were consumed, out of all bytes of the input.
     pub record Ended (taken : List ℕ) (after : R) (stop : Stop) : Type 0 where
       pub bytes : List ℕ
       pub came : HasCome source start after limits.input bytes stop
@@ -162,7 +162,7 @@ module _ {R : Type 0} (source : Source R) where
           subst (λ bytes. HasComeSoFar source start after bytes (Some stop)) (append-nil was.bytes)
           (came_on source start reader after was.bytes [] (Some stop) was.came next)
 
-      -- Why no more comes.
+      -- Why no more bytes follow.
       pub stopped : (after : R) (stop : Stop) → HasNoPiece source pieces reader after stop
           → Ended was.bytes after stop
       stopped after Full next =
@@ -223,7 +223,7 @@ module _ {R : Type 0} (source : Source R) where
               subst (λ t. HasComeSoFar source start after (was.bytes ++ t) None) (sym unread_is)
               (came_on source start reader after was.bytes got.piece None was.came got.came)
 
-          -- what recording the piece made
+          -- The result of recording the chunk.
           pub of_piece : AreSound limits → (piece : List ℕ) → piece ≡ filled.unread
               → (now : TraceReading) (recorded : RecorderReading) (answer : Result ℕ Refused)
               → ((its : Limits) (bytes : List ℕ) → AreSound its
@@ -254,7 +254,7 @@ module _ {R : Type 0} (source : Source R) where
               let within = got.within in
               omega (arith, taken, limit, is_taken, is_limit, some, within, ap length unread_is)
 
-          -- The piece has been recorded.
+          -- The chunk has been recorded.
           pub goes_on : (now : TraceReading) (recorded : RecorderReading) (piece : ℕ)
               → Tracing limits (was.bytes ++ filled.unread) [] now recorded piece
               → (next : Window) (count : ℕ) → count ≡ length filled.unread
@@ -274,7 +274,7 @@ module _ {R : Type 0} (source : Source R) where
             traced = traced;
           }
 
-          -- The piece shows a fault, and what stands behind it was read and dropped.
+          -- The chunk contains an error, and the bytes after it were read and discarded.
           pub refused : (because : Refused) (recorded : RecorderReading)
               → ((s : Stop)
               → Traces {U = Unit {0}} limits (was.bytes ++ filled.unread) s (Err because) recorded)

@@ -1,4 +1,4 @@
--- What the loop of `record` over a run of raw bytes keeps, and what it may answer.
+-- The invariant of the loop of `record` over a run of raw bytes, and its possible results.
 use Rattle.std.proofs.Common.{◌≡◌, inl, inr, ℕ, ◌≤◌, List, [], ◌∷◌, ◌++◌, length, take}
 use Rattle.std.proofs.Common.{drop, Result, Ok, Err, refl, sym, ◌∙◌, ap, subst, arith}
 use Rattle.std.proofs.lemmas.List.{append_assoc, append-nil, take-append-drop, take_all}
@@ -21,7 +21,7 @@ use Rattle.dap_trace.specs.Tracing.{sent_by}
 use Rattle.dap_trace.specs.TracingSteps.{HasRecorded, RecordsRun, ShowsInRun}
 use Rattle.dap_trace.proofs.TraceSteps.{recorded_open, sent_on, with_open}
 
--- a recorder stands for open rests
+-- The rests that a recorder represents are incomplete.
 pub stands_open : (limits : FrameLimits) (recorder : RecorderReading) (rests : Side → List ℕ)
     → StandsForRests recorder rests → recorder_limits recorder ≡ limits → (s : Side)
     → IsOpen limits (rests s)
@@ -30,7 +30,7 @@ stands_open limits recorder rests stands its s =
 
 module _ (limits : FrameLimits) (recorder new : RecorderReading) (taken : List (Side × ℕ))
     (side : Side) (piece : List ℕ) (was : HasRecorded limits recorder taken) where
-  -- What a call gave of a piece that it took.
+  -- The result of a call that consumed a part of the run.
   pub piece_taken : (used : ℕ) → GivesPiece side was.rests piece recorder new (Ok used)
       → recorder_limits new ≡ recorder_limits recorder
       → HasRecorded limits new (taken ++ sent_by side (take used piece))
@@ -93,7 +93,7 @@ module _ (limits : FrameLimits) (recorder new : RecorderReading) (taken : List (
         text = kept ∙ was.text;
       }
 
-  -- What a call gave of a piece that it did not take.
+  -- The result of a call that rejected a part of the run.
   pub piece_refused : (U : Type 0) (fault : RecorderFault)
       → GivesPiece side was.rests piece recorder new (Err fault)
       → (fault ≡ Memory → WantsMemory (recorder_limits recorder) (was.rests side) piece)
@@ -121,7 +121,7 @@ module _ (limits : FrameLimits) (recorder new : RecorderReading) (taken : List (
             faulty.shown.1) faulty.text,
       )
 
--- A front of the run has been recorded, whatever was taken before.
+-- A prefix of the run has been recorded, whatever was consumed before it.
 pub record RecordedFront (limits : FrameLimits) (recorder : RecorderReading)
     (taken : List (Side × ℕ)) (side : Side) (run rest : List ℕ) : Type 0 where
   pub front : List ℕ
@@ -220,7 +220,7 @@ module _ (old recorder new : RecorderReading) (side : Side) (run rest : List ℕ
       (sym (so_far.run_is ∙ ap (λ t. so_far.front ++ t) none ∙ append-nil so_far.front))
       so_far.recorded
 
--- what a run gave that has not been refused
+-- The result of a run that was not rejected.
 pub run_done : {U : Type 0} (limits : FrameLimits) (new : RecorderReading) (taken : List (Side × ℕ))
     (side : Side) (run : List ℕ) (result : Result U RecorderFault)
     → ((fault : RecorderFault) → result ≡ Err fault → ⊥)

@@ -1,4 +1,4 @@
--- What `record` answers once the records were sent, and that a refusal stays.
+-- The result of `record` after the records were written, and the proof that a rejection remains.
 use Rattle.std.proofs.Common.{◌≡◌, ◌⊎◌, inl, inr, ℕ, List, ◌++◌, Result, Ok, Err, sym, ◌∙◌, ap}
 use Rattle.std.proofs.Common.{subst}
 use Rattle.std.proofs.lemmas.List.{append_assoc}
@@ -18,7 +18,7 @@ use Rattle.dap_trace.specs.TracingRun.{HasJudgedTrace, HasWrittenRecords, Record
 use Rattle.dap_trace.specs.TracingSteps.{HasSentRecords, HasTraced, Traces}
 use Rattle.dap_trace.proofs.TraceOutcomes.{refusal_stays}
 
--- Where the records of a trace were sent, the trace is answered for.
+-- After the records of a trace were written, the postcondition of `record` holds.
 module _ {R W : Type 0} (U : Type 0) (source : Source R) (sink : Sink W) (limits : Limits)
     (old new : R) (before after : W)
     (bytes : List ℕ) (stop : Stop)
@@ -78,7 +78,7 @@ module _ {R W : Type 0} (U : Type 0) (source : Source R) (sink : Sink W) (limits
   answered (Err because) result traced has_sent =
       sent (Err because) result (written_all (Err because)) traced has_sent
 
--- A fault that is shown stays one, whatever comes behind.
+-- An error remains, whatever bytes follow.
 pub refused_later : (U : Type 0) (limits : Limits) (bytes more : List ℕ) (refused : Refused)
     (recorder : RecorderReading)
     → ((stop : Stop) → Traces {U = U} limits bytes stop (Err refused) recorder)

@@ -1,4 +1,4 @@
--- A trace is recorded, or refused, in one way.
+-- A trace has exactly one outcome: it is recorded or rejected.
 use Rattle.std.proofs.Common.{◌≡◌, ◌⊎◌, inl, inr, ℕ, ◌+◌, ◌<◌, ◌≤◌, List, [], ◌∷◌, ◌++◌, length}
 use Rattle.std.proofs.Common.{drop, refl, sym, ◌∙◌, ap, ap₂, subst, arith}
 use Rattle.std.proofs.lemmas.Bool.{cases_lt}
@@ -37,7 +37,7 @@ use Rattle.dap_trace.proofs.TracePieces.{one_in_raw, one_raw, one_split, open_of
 use Rattle.dap_trace.proofs.TracePieces.{raw_open, raw_shows_nothing}
 use Rattle.dap_trace.proofs.TraceSteps.{at_the_end, byte_later, faulty_later, sent_on}
 
--- ---- what has come is told in one way
+-- ---- bytes received have one reading
 
 module _ (limits : FrameLimits) (bytes others : List ℕ) (same : bytes
     ≡ others) (a : SoFar limits bytes) (b : SoFar limits others) where
@@ -66,7 +66,7 @@ module _ (limits : FrameLimits) (bytes others : List ℕ) (same : bytes
   same_number : next_piece a ≡ next_piece b
   same_number = ap (λ (ps : List (Side × List ℕ)). length ps + 1) split.0
 
-  -- A byte shows one fault.
+  -- A byte proves one error.
   one_byte : (byte : ℕ) (refused because : Refused) → ByteShows a byte refused
       → ByteShows b byte because → refused ≡ because
   one_byte byte _ _ (of_piece cause {place = i} shows) (of_piece other {place = j} shown) =
@@ -91,7 +91,7 @@ module _ (limits : FrameLimits) (bytes others : List ℕ) (same : bytes
       in
       ap₂ Recorder same_number (ap₂ Frame one.0 fault_is)
 
-  -- The trace ends inside one thing.
+  -- The trace ends inside only one of a piece, a client frame and an adapter frame.
   one_end : (refused because : Refused) → EndsInside a refused → EndsInside b because
       → refused ≡ because
   one_end _ _ (a_piece some) (a_piece more) = ap (λ n. Trace n trace_cause.Cut) same_number
@@ -109,7 +109,7 @@ module _ (limits : FrameLimits) (bytes others : List ℕ) (same : bytes
   one_end _ _ (an_adapter_frame none client adapter) (an_adapter_frame e c d) =
       ap (λ (ps : List (Side × List ℕ)). Recorder (length ps) (Frame Adapter Cut)) split.0
 
--- ---- behind a byte that shows a fault nothing is told
+-- ---- after a byte that proves an error, later bytes do not matter
 
 module _ (limits : FrameLimits) (front more whole : List ℕ) (byte : ℕ) (is : whole
     ≡ front ++ byte ∷ more) (a : SoFar limits front) (b : SoFar limits whole) where
@@ -117,7 +117,7 @@ module _ (limits : FrameLimits) (front more whole : List ℕ) (byte : ℕ) (is :
   parts = sym (append_assoc a.front a.rest (byte ∷ more)) ∙ ap (λ t. t ++ byte ∷ more) (sym a.split)
       ∙ sym is ∙ b.split
 
-  -- the byte was sent by the side
+  -- The side sent the byte.
   abbrev BehindRaw : Side → Type 0
   BehindRaw side = (others : List (Side × ℕ))
       × (bytes_of b.pieces ++ b.raw ≡ (bytes_of a.pieces ++ a.raw) ++ (side, byte) ∷ others)
@@ -236,9 +236,9 @@ module _ (limits : FrameLimits) (front more whole : List ℕ) (byte : ℕ) (is :
         | inr on ↦ by_later on.later on.between on.values_are on.items on.rest_is
       ]
 
--- ---- one refusal
+-- ---- one rejection
 
--- Of a trace nothing has come.
+-- The empty prefix of a trace.
 abbrev pub nothing_came : (limits : Limits) → AreSound limits → SoFar limits.frame []
 nothing_came limits sound = record {
   front = [];
@@ -316,7 +316,7 @@ module _ (limits : Limits) (bytes : List ℕ) where
   )
 
   module _ (sound : AreSound limits) where
-    -- what is recorded has come
+    -- A recorded trace, as bytes received without an error.
     abbrev as_come : (messages : List (Side × List ℕ)) → IsRecordedAs limits bytes messages
         → SoFar limits.frame bytes
     as_come messages is = record {

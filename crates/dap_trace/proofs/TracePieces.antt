@@ -1,4 +1,4 @@
--- Pieces of a trace and the rest behind them.
+-- Pieces of a trace and the rest after them.
 use Rattle.std.proofs.Common.{◌≡◌, ◌⊎◌, inl, inr, ℕ, ◌-◌, ◌≤◌, List, [], ◌∷◌, ◌++◌, length}
 use Rattle.std.proofs.Common.{take, drop, refl, sym, ◌∙◌, ap, ap₂, subst, arith}
 use Rattle.std.proofs.lemmas.Bool.{cases_lt}
@@ -18,7 +18,7 @@ use Rattle.dap_recording.proofs.TracePieces.{open_in_count, open_in_raw, piece_g
 use Rattle.dap_tree.specs.declared.side.Side.{Side}
 use Rattle.dap_trace.specs.Tracing.{IsInRaw, IsOpenWith, before_marker, in_count, in_raw, sent_by}
 
--- Bytes are whole pieces and an open rest in one way.
+-- Bytes split in only one way into complete pieces and an incomplete rest.
 pub one_split : (f g x y : List ℕ) (ps qs : List (Side × List ℕ)) → IsTrace f ps → IsTrace g qs
     → f ++ x ≡ g ++ y → IsOpenPiece x → IsOpenPiece y → (ps ≡ qs) × (x ≡ y)
 one_split f g x y ps qs trace others e open_x open_y =
@@ -66,7 +66,7 @@ opened rest
       }),
     )
 
--- A rest with raw bytes goes on with more, or becomes a piece.
+-- A rest with raw bytes remains incomplete with more bytes, or becomes a piece.
 abbrev pub RawGoesOn : List ℕ → Side → List ℕ → List ℕ → Type 0
 RawGoesOn rest side raw more =
     IsInRaw (rest ++ more) side (raw ++ more)
@@ -111,7 +111,7 @@ raw_shows_nothing rest side raw more cause place is shows =
           ∙ sym (append_assoc rest ended.0 ended.1)) shows)
     ]
 
--- Where the count has not ended there are no raw bytes.
+-- There are no raw bytes before the count has ended.
 pub count_not_raw : (rest : List ℕ) (side s : Side) (text raw : List ℕ) → rest ≡ marker side ∷ text
     → (text ≡ []) ⊎ IsCount text → IsInRaw rest s raw → ⊥
 count_not_raw rest side s text raw e (inl none) is =
@@ -145,9 +145,9 @@ one_raw {rest} (in_raw s raw is) (in_count side text e begun) =
 one_raw {rest} (in_raw side raw is) (in_raw s other has) = let one =
     one_in_raw rest side s raw other is has in ap₂ sent_by one.0 one.1
 
--- ---- bytes that show a fault
+-- ---- bytes that contain an error
 
--- an open rest that goes on to a fault has no raw bytes
+-- An incomplete rest that more bytes extend to an error has no raw bytes.
 pub no_raw : (rest more : List ℕ) (xs : List (Side × ℕ)) (cause : TraceCause) (place : ℕ)
     → IsOpenWith rest xs → ShowsTraceFault (rest ++ more) cause place → xs ≡ []
 no_raw rest more _ cause place (before_marker none) shows = refl

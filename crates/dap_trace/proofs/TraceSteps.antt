@@ -1,4 +1,4 @@
--- What has come of a trace, a byte later.
+-- The state of a trace after one more byte.
 use Rattle.std.proofs.Common.{◌≡◌, ◌⊎◌, inl, inr, ℕ, ◌+◌, ◌≤◌, List, [], ◌∷◌, ◌++◌, length, drop}
 use Rattle.std.proofs.Common.{refl, sym, ◌∙◌, ap, subst, arith}
 use Rattle.std.proofs.lemmas.Bool.{cases_lt}
@@ -37,7 +37,7 @@ use Rattle.dap_trace.specs.Tracing.{next_piece, of_frame, of_piece, sent_by, a_p
 use Rattle.dap_trace.specs.Tracing.{a_client_frame, an_adapter_frame}
 use Rattle.dap_trace.proofs.TracePieces.{count_not_raw, one_raw, open_of, opened, raw_goes_on}
 
--- ---- what the sides sent
+-- ---- bytes that the sides sent
 
 pub with_open : (limits : FrameLimits) (side : Side) (rest : List ℕ) (rests : Side → List ℕ)
     → IsOpen limits rest → ((s : Side) → IsOpen limits (rests s))
@@ -49,7 +49,7 @@ with_open limits Adapter rest rests mine others Adapter = mine
 
 module _ (limits : FrameLimits) (taken : List (Side × ℕ)) (messages : List (Side × List ℕ))
     (rests : Side → List ℕ) (was : AreRecorded limits taken messages rests) where
-  -- No frame ends while a side's rest stays open.
+  -- No frame ends while a side's rest remains incomplete.
   pub recorded_open : (side : Side) (bytes : List ℕ) → IsOpen limits (rests side ++ bytes)
       → AreRecorded limits (taken ++ sent_by side bytes) messages
       (with_rest side (rests side ++ bytes) rests)
@@ -59,7 +59,7 @@ module _ (limits : FrameLimits) (taken : List (Side × ℕ)) (messages : List (S
       (subst (HasFrame limits) (append_assoc (rests side) front back
       ∙ ap (λ xs. rests side ++ xs) (sym e)) (item_of_more (rests side ++ front) back has)))
 
-  -- A byte of a side that shows a fault is not followed by a rest that is open.
+  -- A byte of a side that proves an error is not followed by an incomplete rest.
   pub faulty_later : (side : Side) (byte : ℕ) (others : List (Side × ℕ))
       (more : List (Side × List ℕ)) (later : Side → List ℕ) (fault : FrameFault) (place : ℕ)
       → AreRecorded limits (taken ++ (side, byte) ∷ others) more later → IsOpen limits (later side)
@@ -89,7 +89,7 @@ module _ (limits : FrameLimits) (taken : List (Side × ℕ)) (messages : List (S
       open_not_faulty (frame_grammar limits) (later side) fault place is_open
       (subst (λ xs. Shows limits xs fault place) same shown)
 
-  -- What the sides sent, a byte later.
+  -- The bytes that the sides sent, after one more byte.
   pub record SentLater (side : Side) (byte : ℕ) : Type 0 where
     pub later : List (Side × List ℕ)
     pub its_rests : Side → List ℕ
@@ -121,9 +121,9 @@ module _ (limits : FrameLimits) (taken : List (Side × ℕ)) (messages : List (S
           ]
         ]
 
--- ---- what has come
+-- ---- bytes received
 
--- what was sent, with a piece more
+-- The bytes sent, with one more piece.
 pub sent_push : (pieces : List (Side × List ℕ)) (side : Side) (raw : List ℕ)
     → bytes_of pieces ++ sent_by side raw ≡ bytes_of (pieces ++ (side, raw) ∷ []) ++ []
 sent_push pieces side raw =
@@ -131,7 +131,7 @@ sent_push pieces side raw =
     ∙ sym (flat_map-append (λ (p : Side × List ℕ). sent_by p.0 p.1) pieces ((side, raw) ∷ []))
     ∙ sym (append-nil (bytes_of (pieces ++ (side, raw) ∷ [])))
 
--- what was sent, with more raw bytes
+-- The bytes sent, with more raw bytes.
 pub sent_on : (before raws : List (Side × ℕ)) (side : Side) (raw more : List ℕ)
     → raws ≡ sent_by side raw
     → (before ++ raws) ++ sent_by side more ≡ before ++ sent_by side (raw ++ more)
@@ -163,7 +163,7 @@ module _ (limits : FrameLimits) (bytes front : List ℕ) (pieces : List (Side ×
     are_open = are_open;
   }
 
-  -- More raw bytes are to come.
+  -- More raw bytes must follow.
   abbrev pub with_raw : (rest : List ℕ) → IsInRaw rest side raw → bytes ≡ front ++ rest
       → SoFar limits bytes
   with_raw rest is split = record {
@@ -180,7 +180,7 @@ module _ (limits : FrameLimits) (bytes front : List ℕ) (pieces : List (Side ×
     are_open = are_open;
   }
 
--- A count has not ended: none of the rest is raw.
+-- The count has not ended: the rest contains no raw bytes.
 pub data IsBeforeRaw (rest : List ℕ) : Type 0 where
   at_marker : rest ≡ [] → IsBeforeRaw rest
   at_count : (side : Side) (text : List ℕ) → rest ≡ marker side ∷ text → (text ≡ []) ⊎ IsCount text
@@ -197,7 +197,7 @@ before_not_raw rest side raw (at_marker none) is =
 before_not_raw rest side raw (at_count s text e begun) is =
     count_not_raw rest s side text raw e begun is
 
--- With a byte more it has at most ended.
+-- After one more byte, the count has at most just ended.
 just_ended : (rest : List ℕ) (side : Side) (text raw : List ℕ) (byte : ℕ) → IsBeforeRaw rest
     → rest ++ byte ∷ [] ≡ (marker side ∷ text) ++ 10 ∷ raw → IsCount text
     → length raw ≤ number_of text → raw ≡ []
@@ -226,14 +226,14 @@ just_ended rest side text raw byte before is count few =
 
 module _ (limits : FrameLimits) (sound : IsSound limits) (bytes : List ℕ) (byte : ℕ)
     (was : SoFar limits bytes) where
-  -- What has come with a byte more, or that it shows a fault.
+  -- The bytes received with one more byte, or the error that this byte proves.
   abbrev pub Later : Type 0
   Later = SoFar limits (bytes ++ byte ∷ []) ⊎ ((refused : Refused) × ByteShows was byte refused)
 
   whole : bytes ++ byte ∷ [] ≡ was.front ++ (was.rest ++ byte ∷ [])
   whole = ap (λ xs. xs ++ byte ∷ []) was.split ∙ append_assoc was.front was.rest (byte ∷ [])
 
-  -- the piece that the byte ends
+  -- The piece that the byte ends.
   piece_whole : (side : Side) (raw front back : List ℕ) → byte ∷ [] ≡ front ++ back
       → IsPiece (was.rest ++ front) side (raw ++ front)
       → IsPiece (was.rest ++ byte ∷ []) side (raw ++ byte ∷ [])
@@ -272,7 +272,7 @@ module _ (limits : FrameLimits) (sound : IsSound limits) (bytes : List ℕ) (byt
             ])
       ]
 
-  -- nothing was sent
+  -- No raw bytes were sent.
   module _ (none : was.raw ≡ []) (before : IsBeforeRaw was.rest) where
     none_sent : (side : Side)
         → AreRecorded limits (bytes_of was.pieces ++ sent_by side []) was.messages was.rests
@@ -334,7 +334,7 @@ module _ (limits : FrameLimits) (sound : IsSound limits) (bytes : List ℕ) (byt
 
 module _ (limits : Limits) (bytes : List ℕ) (was : SoFar limits.frame bytes) (short : length bytes
     ≤ limits.input) where
-  -- The trace ends where it may.
+  -- The trace ends between two pieces, and the bytes of each side end between two frames.
   pub recorded_whole : was.rest ≡ [] → ((side : Side) → was.rests side ≡ [])
       → IsRecordedAs limits bytes was.messages
   recorded_whole none all =
@@ -360,7 +360,7 @@ module _ (limits : Limits) (bytes : List ℕ) (was : SoFar limits.frame bytes) (
   each client adapter Client = client
   each client adapter Adapter = adapter
 
-  -- It does, or it ends inside a piece or a frame.
+  -- Either this holds, or the trace ends inside a piece or a frame.
   pub at_the_end : IsRecordedAs limits bytes was.messages
       ⊎ ((refused : Refused) × IsOfEnd refused × EndsInside was refused)
   at_the_end = by_piece was.rest refl

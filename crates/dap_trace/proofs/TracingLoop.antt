@@ -1,4 +1,4 @@
--- What the loop of `record` over a piece of its input keeps, and what it may answer.
+-- The invariant of the loop of `record` over a chunk of its input, and its possible results.
 use Rattle.dap_device.specs.declared.device.Sink.{Ghosts as Sink}
 use Rattle.dap_device.specs.declared.device.Source.{Ghosts as Source}
 use Rattle.dap_frame.specs.declared.fault.FrameFault.TheVariants as frame_fault
@@ -78,7 +78,7 @@ start limits whole reader recorder sound short reads stands text its_limits = re
   last_is = λ e. refl;
 }
 
--- what is kept of a piece, with its raw bytes
+-- The summary that a trace reader stores of a piece, with its raw bytes.
 kept_open : (at : TraceState) (bytes raw : List ℕ) (raws : List (Side × ℕ))
     → IsKeptOfPiece at bytes raw → (raw ≡ [] → raws ≡ [])
     → ((s : Side) (more : List ℕ) → bytes ≡ marker s ∷ more → raws ≡ sent_by s raw)
@@ -118,7 +118,7 @@ kept_raw (state.Raw s left) bytes raw more side kept some begins =
     })
 kept_raw (state.Failed cause) bytes raw more side kept some begins = absurd kept
 
--- what a call gave, by whether a run came
+-- The result of a call, depending on whether it returned a run.
 module _ (number : ℕ) (bytes raw input : List ℕ) (fed : FedTrace) (new : TraceReading)
     (gives : GivesFedTrace number bytes raw input fed new) where
   abbrev ByRun : Option TracePart → Type 0
@@ -151,7 +151,7 @@ cut_of_end n side other h = absurd h
 module _ (limits : Limits) (sound : AreSound limits) (whole rest : List ℕ) (reader : TraceReading)
     (recorder : RecorderReading) (last : ℕ) (was : Tracing limits whole rest reader recorder last)
   where
-    -- More has come.
+    -- More bytes were received.
     pub longer : (more : List ℕ) → length (whole ++ more) ≤ limits.input
         → Tracing limits (whole ++ more) (rest ++ more) reader recorder last
     longer more short = record {
@@ -169,15 +169,15 @@ module _ (limits : Limits) (sound : AreSound limits) (whole rest : List ℕ) (re
       last_is = was.last_is;
     }
 
-    -- All that has come was read.
+    -- All bytes received were consumed.
     pub piece_done : rest ≡ [] → Tracing limits whole [] reader recorder last
     piece_done none = subst (λ r. Tracing limits whole r reader recorder last) none was
 
-    -- what was taken before
+    -- The bytes consumed before.
     abbrev pub taken : List (Side × ℕ)
     taken = bytes_of was.so_far.pieces ++ was.so_far.raw
 
-    -- what the recorder has recorded before a run
+    -- What the recorder has recorded before a run.
     abbrev pub recorded_before : HasRecorded limits.frame recorder (bytes_of was.so_far.pieces
         ++ was.so_far.raw)
     recorded_before = record {
@@ -189,7 +189,7 @@ module _ (limits : Limits) (sound : AreSound limits) (whole rest : List ℕ) (re
       text = was.text;
     }
 
-    -- No run came.
+    -- The call returned no run.
     pub no_run : (used : ℕ) (new : TraceReading) → used ≡ length rest
         → StandsForPiece new (next_piece was.so_far) (was.so_far.rest ++ rest) was.raw
         → 0 < length rest
@@ -340,7 +340,7 @@ module _ (limits : Limits) (sound : AreSound limits) (whole rest : List ℕ) (re
                     gives.begins.1);
               }
 
-          -- A run came, and has been recorded.
+          -- The call returned a run, and the run has been recorded.
           pub run_recorded : (number : ℕ) → number ≡ next_piece was.so_far
               → Tracing limits whole (drop used rest) new after number
           run_recorded number is =
@@ -350,7 +350,7 @@ module _ (limits : Limits) (sound : AreSound limits) (whole rest : List ℕ) (re
                 | inr on ↦ piece_goes_on on.0 on.1 on.2
               ])
 
-        -- the line of a count before the run
+        -- The line of the count before the run.
         record Line : Type 0 where
           text : List ℕ
           bytes_are : was.so_far.rest ++ take used rest ≡ (marker side ∷ text) ++ 10
@@ -388,7 +388,7 @@ module _ (limits : Limits) (sound : AreSound limits) (whole rest : List ℕ) (re
                   })
             ]
 
-        -- A byte of the run shows a fault.
+        -- A byte of the run proves an error.
         pub fault_in_run : (bytes : List ℕ) → whole ≡ take limits.input bytes
             → (stop : Stop) (after : RecorderReading) (number : ℕ) (s : Side) (fault : FrameFault)
             {U : Type 0} → number ≡ next_piece was.so_far
@@ -473,7 +473,7 @@ module _ (limits : Limits) (sound : AreSound limits) (whole rest : List ℕ) (re
               text = there.text;
             }
 
-        -- What is left of the run takes memory.
+        -- The rest of the run requires an allocation.
         pub memory_in_run : (bytes : List ℕ) → whole ≡ take limits.input bytes
             → TakesMemoryInRun limits.frame (bytes_of was.so_far.pieces ++ was.so_far.raw) side run
             → TakesMemory limits.frame bytes
@@ -553,7 +553,7 @@ module _ (limits : Limits) (sound : AreSound limits) (whole rest : List ℕ) (re
           ∙ append_assoc was.so_far.front was.so_far.rest rest)
           ∙ append_assoc was.so_far.front (was.so_far.rest ++ rest) (drop limits.input bytes)
 
-      -- A byte of a marker or a count shows a fault.
+      -- A byte of a marker or a count proves an error.
       pub fault_in_piece : (stop : Stop) (fault : TraceFault) (new : TraceReading) {U : Type 0}
           → GivesTraceFault (next_piece was.so_far) was.so_far.rest rest fault new
           → HasTraced {U = U} limits bytes stop (Err (Trace fault.piece fault.cause)) recorder
@@ -621,7 +621,7 @@ module _ (limits : Limits) (sound : AreSound limits) (whole rest : List ℕ) (re
             text = was.text;
           }
 
-      -- ---- at the end of what is taken
+      -- ---- at the end of the bytes consumed
 
       module _ (none : rest ≡ []) where
         whole_done : whole ≡ was.done
@@ -768,7 +768,7 @@ module _ (limits : Limits) (sound : AreSound limits) (whole rest : List ℕ) (re
                     let some = some_byte (was.so_far.rests Client) r b e in
                     told Client (client some) (at_end short come (a_client_frame over some))
 
-    -- A count of pieces is far from the last number.
+    -- The number of pieces is far below 2 ^ 63.
     pub last_small : was.so_far.rest ≡ [] → last + 1 < 2 ^ 63
     last_small none =
         let fewer =

@@ -1,6 +1,7 @@
--- What `record` writes of a trace, and what it refuses. Source: own, over the frames of the DAP
--- base protocol. A trace is whole pieces and then a rest, which may still become a piece; what both
--- sides sent in it is records and then a rest of each side, which may still become a frame.
+-- What `record` writes for a trace, and which traces it rejects. Source: own, based on the frames
+-- of the DAP base protocol. A trace is a sequence of complete pieces and a rest, which may still
+-- become a piece. The bytes that the two sides sent in it are complete frames and a rest for each
+-- side, which may still become a frame.
 use Rattle.std.specs.Prelude.{◌≡◌, ◌≢◌, ◌⊎◌, ℕ, ◌+◌, ◌<◌, ◌≤◌, List, [], ◌∷◌, ◌++◌, length, map}
 use Rattle.dap_frame.specs.declared.fault.FrameFault.{FrameFault}
 use Rattle.dap_frame.specs.declared.fault.FrameFault.TheVariants.{Cut}
@@ -21,29 +22,29 @@ use Rattle.dap_input.specs.declared.refused.Refused.{Refused}
 use Rattle.dap_input.specs.declared.refused.Refused.TheVariants.{TraceTooLong, Trace, Recorder}
 use Rattle.dap_input.specs.Limits.{AreSound}
 
--- the bytes of one side, each with the side
+-- Each byte, paired with the side that sent it.
 abbrev pub sent_by : Side → List ℕ → List (Side × ℕ)
 sent_by side bytes = map (λ byte. (side, byte)) bytes
 
--- Of the piece that the rest begins the count has ended; these raw bytes of its side have come, and
--- more are to come.
+-- The rest is an incomplete piece whose count has ended. The raw bytes of its side received so far
+-- are `raw`, and more raw bytes must follow.
 pub record IsInRaw (rest : List ℕ) (side : Side) (raw : List ℕ) : Type 0 where
   pub text : List ℕ
   pub rest_is : rest ≡ (marker side ∷ text) ++ 10 ∷ raw
   pub is_count : IsCount text
   pub to_come : length raw < number_of text
 
--- The rest may still become a piece, and these of its bytes are raw bytes of a side: none before
--- the count has ended.
+-- The rest may still become a piece, and the second argument lists its raw bytes with their side.
+-- The list is empty until the count has ended.
 pub data IsOpenWith (rest : List ℕ) : List (Side × ℕ) → Type 0 where
   before_marker : rest ≡ [] → IsOpenWith rest []
   in_count : (side : Side) (text : List ℕ) → rest ≡ marker side ∷ text → (text ≡ []) ⊎ IsCount text
       → IsOpenWith rest []
   in_raw : (side : Side) (raw : List ℕ) → IsInRaw rest side raw → IsOpenWith rest (sent_by side raw)
 
--- These bytes of a trace have come, and show no fault: whole pieces and a rest, and in what both
--- sides sent the records of whole frames, in the order of the bytes that end them, and a rest of
--- each side.
+-- These bytes of a trace contain no error: they are complete pieces and a rest. The bytes that each
+-- side sent in them are complete frames and a rest. The messages are in the order of the bytes that
+-- end their frames.
 pub record SoFar (limits : FrameLimits) (bytes : List ℕ) : Type 0 where
   pub front : List ℕ
   pub pieces : List (Side × List ℕ)
@@ -57,8 +58,8 @@ pub record SoFar (limits : FrameLimits) (bytes : List ℕ) : Type 0 where
   pub recorded : AreRecorded limits (bytes_of pieces ++ raw) messages rests
   pub are_open : (side : Side) → IsOpen limits (rests side)
 
--- Bytes that show no fault have come, and the next raw bytes of a side take memory: a byte of a
--- content is among them, or the end of a frame.
+-- A prefix of the bytes contains no error. The raw bytes of a side that follow it require an
+-- allocation, because they contain a byte of a content or the end of a frame.
 pub record TakesMemory (limits : FrameLimits) (bytes : List ℕ) : Type 0 where
   pub front : List ℕ
   pub so_far : SoFar limits front
@@ -71,8 +72,8 @@ pub record TakesMemory (limits : FrameLimits) (bytes : List ℕ) : Type 0 where
   pub of_piece : length (raw ++ run) ≤ number_of in_raw.text
   pub wants : WantsMemory limits (so_far.rests side) run
 
--- The trace is whole pieces within the limit, and what both sides sent in them is whole frames of
--- these messages.
+-- The trace is a sequence of complete pieces within the limit. The bytes that the two sides sent in
+-- it are complete frames with these messages.
 pub record IsRecordedAs (limits : Limits) (bytes : List ℕ) (messages : List (Side × List ℕ)) : Type
     0 where
   pub short : length bytes ≤ limits.input
@@ -80,11 +81,11 @@ pub record IsRecordedAs (limits : Limits) (bytes : List ℕ) (messages : List (S
   pub trace : IsTrace bytes pieces
   pub recorded : AreRecorded limits.frame (bytes_of pieces) messages (λ side. [])
 
--- the number of the piece that the rest begins; pieces count from 1
+-- The number of the piece that the rest starts. Pieces are numbered from 1.
 abbrev pub next_piece : {limits : FrameLimits} {bytes : List ℕ} → SoFar limits bytes → ℕ
 next_piece so_far = length so_far.pieces + 1
 
--- Behind what has come this byte shows a fault: as one of a piece's marker or count, or as a raw
+-- This byte, received next, proves an error: as a byte of a piece's marker or count, or as a raw
 -- byte in a frame of its side.
 pub data ByteShows {limits : FrameLimits} {bytes : List ℕ} (so_far : SoFar limits bytes)
     (byte : ℕ) : Refused → Type 0 where
@@ -95,8 +96,8 @@ pub data ByteShows {limits : FrameLimits} {bytes : List ℕ} (so_far : SoFar lim
       → IsInRaw so_far.rest side raw → Shows limits (so_far.rests side ++ byte ∷ []) fault place
       → ByteShows so_far byte (Recorder (next_piece so_far) (Frame side fault))
 
--- The trace ends inside a piece; or else, behind its last piece, inside a frame of the client; or
--- else inside one of the adapter.
+-- The trace ends inside a piece; otherwise, after its last piece, inside a frame of the client;
+-- otherwise inside a frame of the adapter.
 pub data EndsInside {limits : FrameLimits} {bytes : List ℕ} (so_far : SoFar limits bytes) : Refused
     → Type 0 where
   a_piece : so_far.rest ≢ [] → EndsInside so_far (Trace (next_piece so_far) trace_cause.Cut)
@@ -105,9 +106,9 @@ pub data EndsInside {limits : FrameLimits} {bytes : List ℕ} (so_far : SoFar li
   an_adapter_frame : so_far.rest ≡ [] → so_far.rests Client ≡ [] → so_far.rests Adapter ≢ []
       → EndsInside so_far (Recorder (length so_far.pieces) (Frame Adapter Cut))
 
--- The trace is refused for this, and these are the messages of the frames that ended before: a byte
--- within the limit shows a fault, or there is a byte past the limit, or the trace ends where it may
--- not. What stands behind that byte tells nothing.
+-- The trace is rejected for this reason, after the frames with these messages ended: a byte within
+-- the limit proves an error, or there is a byte past the limit, or the trace ends inside a piece or
+-- a frame. The bytes after that byte do not matter.
 pub data IsTraceRefused (limits : Limits) (bytes : List ℕ) : Refused → List (Side × List ℕ)
     → Type 0 where
   at_byte : (front : List ℕ) (byte : ℕ) (more : List ℕ) {refused : Refused}
@@ -122,14 +123,14 @@ pub data IsTraceRefused (limits : Limits) (bytes : List ℕ) : Refused → List 
       → (so_far : SoFar limits.frame bytes) → EndsInside so_far refused
       → IsTraceRefused limits bytes refused so_far.messages
 
--- The trace is refused for its end alone.
+-- The trace is rejected only because it is incomplete.
 abbrev pub IsOfEnd : Refused → Type 0
 IsOfEnd (Trace n trace_cause.Cut) = Unit {0}
 IsOfEnd (Recorder n (Frame side Cut)) = Unit {0}
 IsOfEnd _ = ⊥
 
--- A trace is recorded as one list of messages, or refused for one reason behind one list of
--- messages, and not both.
+-- A trace is recorded as exactly one list of messages, or rejected for exactly one reason after
+-- exactly one list of messages, never both.
 pub record TraceHasOneOutcome (limits : Limits) : Type 0 where
   pub some : (bytes : List ℕ)
       → ((messages : List (Side × List ℕ)) × IsRecordedAs limits bytes messages)
@@ -147,7 +148,7 @@ pub record TraceHasOneOutcome (limits : Limits) : Type 0 where
 abbrev pub TracesHaveOneOutcome : Type 0
 TracesHaveOneOutcome = (limits : Limits) → AreSound limits → TraceHasOneOutcome limits
 
--- A refusal stays when more bytes come, unless it is for the trace's end alone.
+-- A rejection remains when more bytes follow, unless the trace is only incomplete.
 abbrev pub TraceRefusalStays : Type 0
 TraceRefusalStays =
     (limits : Limits) (bytes more : List ℕ) (refused : Refused) (messages : List (Side × List ℕ))

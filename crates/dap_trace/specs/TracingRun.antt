@@ -1,4 +1,4 @@
--- What `record` answers, and what its devices then hold. Source: own.
+-- What `record` returns, and what it has then read and written. Source: own.
 use Rattle.std.specs.Prelude.{◌≡◌, ◌⊎◌, ℕ, List, Result, Ok, Err}
 use Rattle.dap_device.specs.declared.device.Sink.{Ghosts as Sink}
 use Rattle.dap_device.specs.declared.device.Source.{Ghosts as Source}
@@ -13,14 +13,15 @@ use Rattle.dap_device.specs.Written.{AllSent, FrontWritten}
 use Rattle.dap_device.specs.Reading.{HasCome}
 use Rattle.dap_trace.specs.Tracing.{IsRecordedAs, IsTraceRefused, IsOfEnd, TakesMemory}
 
--- The bytes that came are refused for nothing but where they end.
+-- The bytes received contain no error other than being incomplete.
 abbrev pub IsNotRefused : Limits → List ℕ → List (Side × List ℕ) → Type 0
 IsNotRefused limits bytes messages = IsRecordedAs limits bytes messages
     ⊎ ((refused : Refused) × IsOfEnd refused × IsTraceRefused limits bytes refused messages)
 
--- Where these bytes came, and no more for this reason, this is answered, and these messages are
--- recorded: the trace is recorded; or the reader failed, and what came is not refused but for where
--- it ends; or it is refused, for its end alone only where the reader came to it.
+-- Result and recorded messages if these bytes were received and no more follow for the reason
+-- `stop`. `Ok`: the trace is recorded. `ReadFault`: the reader failed, and the bytes contain no
+-- error other than being incomplete. Any other error: the trace is rejected; it is rejected as
+-- incomplete only if the reader reached its end.
 abbrev pub JudgesTrace : {U : Type 0} → Limits → List ℕ → Stop → Result U Refused
     → List (Side × List ℕ) → Type 0
 JudgesTrace limits bytes stop (Ok done) messages = (stop ≡ End) × IsRecordedAs limits bytes messages
@@ -32,7 +33,8 @@ JudgesTrace limits bytes stop (Err refused) messages = IsTraceRefused limits byt
     × (IsOfEnd refused → stop ≡ End)
 
 module _ {R W : Type 0} (source : Source R) (sink : Sink W) (limits : Limits) where
-  -- Of what came from the reader this is to be answered, and these messages are to be written.
+  -- This is the result for the bytes received from the reader, and these are the messages to be
+  -- written.
   pub record HasJudgedTrace {U : Type 0} (old new : R) (answer : Result U Refused) : Type 0 where
     pub bytes : List ℕ
     pub stop : Stop
@@ -40,27 +42,27 @@ module _ {R W : Type 0} (source : Source R) (sink : Sink W) (limits : Limits) wh
     pub messages : List (Side × List ℕ)
     pub judges : JudgesTrace limits bytes stop answer messages
 
-  -- The records of the messages went out and were flushed, whether the trace is recorded or
-  -- refused.
+  -- The records of the messages were written and flushed, whether the trace is recorded or
+  -- rejected.
   pub record HasWrittenRecords {U : Type 0} (old new : R) (before after : W)
       (answer : Result U Refused) : Type 0 where
     pub judged : HasJudgedTrace old new answer
     pub written : AllSent sink before after (recording_text judged.messages)
 
-  -- A front of them went out, perhaps all, and the writer failed.
+  -- A prefix of the records was written, possibly all of them, and the writer failed.
   pub record HasNotWrittenRecords (U : Type 0) (old new : R) (before after : W) : Type 0 where
     pub answer : Result U Refused
     pub judged : HasJudgedTrace old new answer
     pub written : FrontWritten sink before after (recording_text judged.messages)
 
-  -- Memory was refused for what came from the reader.
+  -- The bytes received from the reader require an allocation, which failed.
   pub record HasRunOut (old new : R) : Type 0 where
     pub bytes : List ℕ
     pub stop : Stop
     pub came : HasCome source old new limits.input bytes stop
     pub takes : TakesMemory limits.frame bytes
 
-  -- If memory was refused, nothing went out, and nothing was read or all of the input was.
+  -- After a failed allocation nothing was written, and either nothing or the whole input was read.
   abbrev pub RecordsTrace : {U : Type 0} → R → R → W → W → Result U Refused → Type 0
   RecordsTrace {U} old new before after (Err WriteFault) =
       HasNotWrittenRecords U old new before after

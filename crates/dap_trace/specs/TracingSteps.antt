@@ -28,8 +28,8 @@ use Rattle.dap_recording.specs.OneSide.{WantsMemory}
 use Rattle.dap_trace.specs.Tracing.{SoFar, TakesMemory, next_piece, sent_by}
 use Rattle.dap_trace.specs.TracingRun.{JudgesTrace}
 
--- What both sides sent has been recorded: the recorder's text has the records of the frames that
--- ended, and it stands for the rests.
+-- The bytes that the two sides sent have been recorded: the recorder's text consists of the records
+-- of the frames that ended, and the recorder represents the rests.
 pub record HasRecorded (limits : FrameLimits) (recorder : RecorderReading)
     (taken : List (Side × ℕ)) : Type 0 where
   pub messages : List (Side × List ℕ)
@@ -39,8 +39,8 @@ pub record HasRecorded (limits : FrameLimits) (recorder : RecorderReading)
   pub its_limits : recorder_limits recorder ≡ limits
   pub text : text_of recorder ≡ recording_text messages
 
--- A byte of the run shows this fault in a frame of its side, behind what was taken and the run's
--- bytes before it.
+-- A byte of the run proves this error in a frame of its side, after the bytes consumed before and
+-- the bytes of the run before it.
 pub record ShowsInRun (limits : FrameLimits) (recorder : RecorderReading) (taken : List (Side × ℕ))
     (side : Side) (run : List ℕ) (fault : FrameFault) : Type 0 where
   pub front : List ℕ
@@ -55,7 +55,8 @@ pub record ShowsInRun (limits : FrameLimits) (recorder : RecorderReading) (taken
   pub shows : Shows limits (rests side ++ byte ∷ []) fault place
   pub text : text_of recorder ≡ recording_text messages
 
--- Some bytes of the run were recorded behind what was taken, and the others take memory.
+-- Some bytes of the run were recorded after the bytes consumed before, and the remaining bytes of
+-- the run require an allocation.
 pub record TakesMemoryInRun (limits : FrameLimits) (taken : List (Side × ℕ)) (side : Side)
     (run : List ℕ) : Type 0 where
   pub front : List ℕ
@@ -67,7 +68,8 @@ pub record TakesMemoryInRun (limits : FrameLimits) (taken : List (Side × ℕ)) 
   pub are_open : (s : Side) → IsOpen limits (rests s)
   pub wants : WantsMemory limits (rests side) more
 
--- The run of a side has been recorded behind what was taken, or shows a fault, or takes memory.
+-- Outcome of a run of one side: it has been recorded after the bytes consumed before, or it
+-- contains an error, or it requires an allocation that failed.
 abbrev pub RecordsRun : {U : Type 0} → FrameLimits → RecorderReading → List (Side × ℕ) → Side
     → List ℕ → Result U RecorderFault → Type 0
 RecordsRun limits new taken side run (Ok done) = HasRecorded limits new (taken ++ sent_by side run)
@@ -75,21 +77,23 @@ RecordsRun limits new taken side run (Err (Frame s fault)) = (s ≡ side)
     × ShowsInRun limits new taken side run fault
 RecordsRun limits new taken side run (Err NoRoom) = TakesMemoryInRun limits taken side run
 
--- The bytes that were read are judged so, and the recorder's text has the records of the messages.
+-- This is the result for the bytes that were read, and the recorder's text consists of the records
+-- of the messages.
 pub record HasTraced {U : Type 0} (limits : Limits) (bytes : List ℕ) (stop : Stop)
     (answer : Result U Refused) (recorder : RecorderReading) : Type 0 where
   pub messages : List (Side × List ℕ)
   pub judges : JudgesTrace limits bytes stop answer messages
   pub text : text_of recorder ≡ recording_text messages
 
--- The same; if memory was refused, the bytes take memory.
+-- The same, except that after a failed allocation the bytes require an allocation.
 abbrev pub Traces : {U : Type 0} → Limits → List ℕ → Stop → Result U Refused → RecorderReading
     → Type 0
 Traces limits bytes stop (Err Memory) recorder = TakesMemory limits.frame bytes
 Traces limits bytes stop answer recorder = HasTraced limits bytes stop answer recorder
 
--- What has been read of the whole has come, the reader and the recorder stand for its rests, and
--- the last run was one of the last whole piece, where that was all.
+-- All of the bytes `whole` received so far except `rest` have been consumed. The trace reader and
+-- the recorder represent the rests of the consumed bytes. If these end between two pieces, `last`
+-- is the number of their last piece.
 pub record Tracing (limits : Limits) (whole rest : List ℕ) (reader : TraceReading)
     (recorder : RecorderReading) (last : ℕ) : Type 0 where
   pub done : List ℕ
@@ -106,8 +110,8 @@ pub record Tracing (limits : Limits) (whole rest : List ℕ) (reader : TraceRead
   pub text : text_of recorder ≡ recording_text so_far.messages
   pub last_is : so_far.rest ≡ [] → last ≡ length so_far.pieces
 
--- What came next has been recorded behind what was before; or the trace is refused, whatever comes
--- behind and why no more does.
+-- Outcome of one chunk: it has been recorded after the bytes before it, or the trace is rejected,
+-- whatever bytes follow and for whatever reason the input ends.
 abbrev pub RecordsPiece : Limits → List ℕ → TraceReading → RecorderReading → Result ℕ Refused
     → Type 0
 RecordsPiece limits whole reader recorder (Ok last) = Tracing limits whole [] reader recorder last
@@ -115,14 +119,14 @@ RecordsPiece limits whole reader recorder (Err refused) =
     (stop : Stop) → Traces {U = Unit {0}} limits whole stop (Err refused) recorder
 
 module _ {R : Type 0} (source : Source R) where
-  -- All that was left of the input has come, up to a byte past the limit.
+  -- The rest of the input was read, up to one byte past the limit.
   pub record HasReadOn (old : Window) (before after : R) (stop : Stop) : Type 0 where
     pub more : List ℕ
     pub came : HasComeSoFar source before after more (Some stop)
     pub within : IsWithin (old.taken + length more) old.limit (Some stop)
 
-  -- What came from the reader is judged so, and the recorder's text has the records of the
-  -- messages.
+  -- This is the result for the bytes received from the reader, and the recorder's text consists of
+  -- the records of the messages.
   pub record TracesInput {U : Type 0} (limits : Limits) (old new : R) (answer : Result U Refused)
       (recorder : RecorderReading) : Type 0 where
     pub bytes : List ℕ
@@ -130,8 +134,8 @@ module _ {R : Type 0} (source : Source R) where
     pub came : HasCome source old new limits.input bytes stop
     pub traces : Traces limits bytes stop answer recorder
 
--- Whatever a trace was answered, the records go out, are flushed and that is answered, or the
--- writer failed; where memory was refused nothing goes out.
+-- For every result except `Memory`, the records are written and flushed and the result is returned,
+-- or the writer fails. After `Memory` nothing is written.
 abbrev pub HasSentRecords : {W U : Type 0} → Sink W → List ℕ → Result U Refused → W → W
     → Result U Refused → Type 0
 HasSentRecords sink records (Err Memory) before after result = (result ≡ Err Memory)

@@ -1,10 +1,10 @@
-//! Theorems on traces, which hold of all bytes. Each function does nothing: a call of it gives its
-//! clauses to a proof.
+//! Theorems about traces, for all byte strings. Each function is empty: calling it makes its
+//! clauses available to the caller's proof.
 ghost use Rattle.dap_trace.specs.Tracing.{TracesHaveOneOutcome, TraceRefusalStays};
 
-/// `record` records a trace as one list of messages, or refuses it for one reason behind one list
-/// of messages, and not both. A refusal stays when more bytes come, unless the trace only ended too
-/// early.
+/// States that `record` has exactly one outcome for every trace: it records exactly one list of
+/// messages, or rejects the trace for exactly one reason after exactly one list of messages. A
+/// rejection remains when more bytes follow, unless the trace only ended too early.
 pub fn trace_has_one_outcome()
     ensures outcome { TracesHaveOneOutcome }
     ensures refusal_stays { TraceRefusalStays }

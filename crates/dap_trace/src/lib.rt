@@ -1,4 +1,4 @@
-//! Traces recorded.
+//! Converts traces into recordings.
 #![tactic(auto)]
 
 pub mod laws;

@@ -1,4 +1,4 @@
-//! Makes recordings of traces.
+//! Converts traces into recordings.
 ghost use Rattle.std.specs.Prelude.{[], ◌≡◌, ◌+◌, ◌-◌, ◌<◌, ◌≤◌, ◌^◌, List, ℕ, ◌++◌, length};
 ghost use Rattle.std.specs.Prelude.{take};
 ghost use Rattle.dap_frame.specs.declared.limits.FrameLimits.{FrameLimits};
@@ -31,8 +31,8 @@ fn record_run(recorder: &mut Recorder, side: Side, run: &[u8]) -> Result<(), Rec
     Ok(())
 }
 
-/// Records what came next of a trace, behind a run of the piece `last`. Answers the piece of the
-/// last run then.
+/// Records the next chunk of a trace. `last` is the number of the piece that the previous run
+/// belongs to. Returns that number after this chunk.
 fn record_piece(
     recorder: &mut Recorder,
     trace: &mut TraceReader,
@@ -65,7 +65,7 @@ fn record_piece(
     Ok(last)
 }
 
-/// What it means that no more of a trace comes.
+/// Returns the result for a trace after which no more bytes arrive, for the reason `stop`.
 fn end_trace(
     recorder: &Recorder,
     trace: &TraceReader,
@@ -96,7 +96,7 @@ fn end_trace(
     }
 }
 
-/// Reads what is left of an input, up to a byte past the limit, and drops it.
+/// Reads and discards the rest of an input, up to one byte past the limit.
 fn drop_rest<R: Source>(pieces: &mut Pieces, reader: &mut R)
     requires given { R.given reader.old + (pieces.old.limit - pieces.old.taken) < 2 ^ 63 }
     requires failures { R.failures reader.old < 2 ^ 63 }
@@ -109,8 +109,8 @@ fn drop_rest<R: Source>(pieces: &mut Pieces, reader: &mut R)
     }
 }
 
-/// Records a trace a piece at a time, to the end of its input. The recorder's text is the recording
-/// of the frames that ended, however it ends.
+/// Records a trace chunk by chunk, to the end of its input. With every result, the recorder's text
+/// is the recording of the frames that ended.
 fn record_input<R: Source>(
     pieces: &mut Pieces,
     reader: &mut R,
@@ -144,8 +144,8 @@ fn record_input<R: Source>(
     }
 }
 
-/// Writes the records of the frames that ended and flushes, unless memory was refused, and answers
-/// what the trace was answered.
+/// Writes the records of the frames that ended, flushes, and returns `answer`. Writes nothing if
+/// `answer` is `Memory`.
 fn write_records<W: Sink>(
     writer: &mut W,
     records: &[u8],
@@ -163,25 +163,25 @@ fn write_records<W: Sink>(
     }
 }
 
-/// Reads a trace and writes the recording of it: of both sides the frames that went over the wire,
-/// in the order of the bytes that end them, with their contents as they are.
+/// Reads a trace and writes its recording: the frames that both sides sent, in the order of the
+/// bytes that end them, with unchanged contents.
 ///
-/// It reads its whole input a piece at a time, behind a fault too, and at most one byte past
-/// `limits.input`. It holds a piece of the input and the recording, which it writes and flushes
-/// last. The records of the frames that ended are written on every answer but `Memory` and
-/// `WriteFault`, so that what was recorded before a fault is not lost. Pieces are counted from 1 in
-/// the order of the trace.
+/// Reads the whole input in chunks, even after an error, and at most one byte past `limits.input`.
+/// Buffers one chunk and the recording, which it writes and flushes last. The records of the frames
+/// that ended are written with every result except `Memory` and `WriteFault`, so an error does not
+/// lose earlier records. Pieces of the trace are numbered from 1.
 ///
 /// # Errors
 ///
-/// The first in the order of the input of: a byte past the limit, `TraceTooLong`; a fault of a
-/// piece, `Trace`; a fault of a frame of a side, `Recorder`. Then, at the end of the trace, a
-/// `Cut`: of the last piece, or else of a frame of the client, or else of one of the adapter.
+/// The error that occurs first in the input: a byte past the limit (`TraceTooLong`), an error in a
+/// piece (`Trace`) or an error in a frame of a side (`Recorder`). At the end of the trace, `Cut` is
+/// returned if something is incomplete: the last piece, otherwise a frame of the client, otherwise
+/// a frame of the adapter.
 ///
-/// - `ReadFault`: the reader failed, and what came before is refused for nothing but its end. After
-///   another fault the rest of the input is read and dropped, and a read of it that fails is not
-///   reported.
-/// - `WriteFault`: the writer failed, also after a fault of the trace.
+/// - `ReadFault`: the reader failed, and the bytes read so far contain no error other than being
+///   incomplete. After another error the rest of the input is read and discarded; if a read then
+///   fails, that is not reported.
+/// - `WriteFault`: the writer failed, possibly after an error in the trace.
 /// - `Memory`: an allocation failed.
 pub fn record<R: Source, W: Sink>(
     alloc: Global,
@@ -194,13 +194,13 @@ pub fn record<R: Source, W: Sink>(
     requires read_failures { R.failures reader.old < 2 ^ 62 }
     requires write_failures { W.failures writer.old < 2 ^ 62 }
 
-    // The records of the frames that ended go out and are flushed, after a refusal too. After
-    // `Memory` nothing goes out. `WriteFault` is returned if and only if the writer failed,
-    // `ReadFault` only if the reader failed: a read that fails after a refusal is not reported.
+    // The records of the frames that ended are written and flushed, even after a rejection. After
+    // `Memory` nothing is written. `WriteFault` is returned if and only if the writer failed,
+    // `ReadFault` only if the reader failed: a read that fails after a rejection is not reported.
     ensures answer { RecordsTrace R.Source W.Sink limits reader.old reader.new
         writer.old writer.new result }
 
-    // It takes at most one byte past the limit.
+    // At most one byte past the limit is read.
     ensures taken { R.given reader.new ≤ R.given reader.old + limits.input + 1 }
 {
     let mut pieces = match Pieces::new(alloc, limits.input) {

@@ -1,4 +1,4 @@
--- What `&&` and `||` say of their parts.
+-- Facts about `&&`, `||` and their operands.
 use Rattle.std.proofs.Common.{◌≡◌, Bool, true, false, ◌&&◌, ◌||◌, refl}
 
 pub and_left : (a b : Bool) → (a && b) ≡ true → a ≡ true

@@ -1,4 +1,4 @@
--- What the answer of a comparison is.
+-- The ordering that a test of a comparison implies.
 use Rattle.std.proofs.Common.{◌≡◌, true, Ordering, Less, Equal, Greater, refl}
 use Rattle.std.specs.Ordering.{is_lt}
 

@@ -1,5 +1,5 @@
--- The walk that counts levels down tests the depth and the ranges, and a document nests as its JSON
--- value does.
+-- The traversal that counts levels down tests the depth and the ranges. A document has the same
+-- depth as its JSON value.
 use Rattle.std.proofs.Common.{◌≡◌, ℕ, suc, max, ◌-◌, Bool, true, false, not, ◌&&◌, ◌||◌, refl, sym}
 use Rattle.std.proofs.Common.{ap, ap₂, ◌∙◌, arith, ltb, leb, le-leb}
 use Rattle.std.proofs.lemmas.Bool.Decides.{nat_tests}

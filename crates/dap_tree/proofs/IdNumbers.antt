@@ -1,4 +1,4 @@
--- The ids of a document, and the document with other numbers at them.
+-- The ids of a document, and the document with replaced numbers.
 use Rattle.std.proofs.Common.{◌≡◌, ℕ, zero, suc, ◌+◌, ◌-◌, ◌≤◌, max, ℤ, pos, List, [], ◌∷◌, ◌++◌}
 use Rattle.std.proofs.Common.{drop, get_or, length, ◌&&◌, refl, sym, ap, ap₂, ◌∙◌, leb, arith}
 use Rattle.std.proofs.Common.{length-append, false}
@@ -195,7 +195,7 @@ mutual
       or_both _ _ (no_id-ids d (empty_left (ids d) (members_ids ms) h))
       (members_no_id-ids ms (empty_right (ids d) (members_ids ms) h))
 
--- ids with other numbers
+-- ids with replaced numbers
 abbrev pub renumbered : List (Sort × ℤ) → List ℤ → List (Sort × ℤ)
 renumbered [] ns = []
 renumbered (x ∷ xs) ns = (x.0, get_or ns 0 x.1) ∷ renumbered xs (drop 1 ns)
@@ -250,7 +250,7 @@ numbers-renumbered (x ∷ xs) [] h = absurd (omega (arith, h))
 numbers-renumbered (x ∷ xs) (n ∷ ns) h =
     ap (λ ms. n ∷ ms) (numbers-renumbered xs ns (omega (arith, h)))
 
--- ids of the same sorts with their numbers
+-- ids of the same kinds with their numbers
 renumbered-numbers : (xs ys : List (Sort × ℤ)) → sorts_of ys ≡ sorts_of xs
     → renumbered xs (numbers_of ys) ≡ ys
 renumbered-numbers [] [] h = refl
@@ -368,7 +368,7 @@ count_sorts d = length-map (ids d) (λ i. i.0) ∙ count_ids d
 pub count_alike : (d e : Doc) → skeleton d ≡ skeleton e → id_count d ≡ id_count e
 count_alike d e h = sym (count_sorts d) ∙ ap length (sorts_alike d e h) ∙ count_sorts e
 
--- ---- a skeleton and its ids tell the document
+-- ---- a skeleton and its ids determine the document
 
 numbers-append : (xs ys : List (Sort × ℤ)) (more : List ℤ)
     → numbers_of (xs ++ ys) ++ more ≡ numbers_of xs ++ (numbers_of ys ++ more)
@@ -418,13 +418,13 @@ mutual
 pub same_from_skeleton : (d e : Doc) → skeleton d ≡ skeleton e → ids d ≡ ids e → d ≡ e
 same_from_skeleton d e h k = (told d e [] [] h (ap (λ is. numbers_of is ++ []) k)).0
 
--- with its own numbers it is itself
+-- replacing the numbers by the document's own numbers does not change it
 pub with_own : (d : Doc) → with_ids d (numbers_of (ids d)) ≡ d
 with_own d =
     same_from_skeleton (with_ids d (numbers_of (ids d))) d (skeleton-with d (numbers_of (ids d)))
     (ids-with_numbers d (ids d) refl)
 
--- with the numbers of one of equal skeleton it is that one
+-- replacing the numbers by those of a document with the same skeleton yields that document
 pub with_others : (d e : Doc) → skeleton d ≡ skeleton e → with_ids d (numbers_of (ids e)) ≡ e
 with_others d e h =
     let ns = numbers_of (ids e) in

@@ -36,7 +36,7 @@ abbrev mutual
   id_paths (object ms) = members_paths ms
   id_paths (id s z) = [] ∷ []
 
-  -- the items stand from the place n on
+  -- the items start at index n
   items_paths : ℕ → Items → List Path
   items_paths n no_items = []
   items_paths n (item d ds) = map (λ p. place n ∷ p) (id_paths d) ++ items_paths (suc n) ds
@@ -62,7 +62,7 @@ below_first : (k l : List ℕ) (e : Doc) (ms : Members) → is_below_all k (memb
 below_first k l e ms h =
     less (slice_cmp nat_cmp k l) (and_left (is_lt (slice_cmp nat_cmp k l)) (is_below_all k ms) h)
 
--- no member has a name that is below all of theirs
+-- no member has a name that is below all names of the members
 missing : (k : List ℕ) (ms : Members) → is_below_all k ms ≡ true → get_member k ms ≡ None
 missing k no_members h = refl
 missing k (member l e ms) h =
@@ -136,7 +136,7 @@ mutual
       (members_reached all ms (and_right (is_ordered d) (members_ordered ms) parts)
       (λ q e found. g q e (found_later k q d e ms below found)))
 
--- ---- each path is before the later ones
+-- ---- each path precedes the later ones
 
 abbrev AreOrdered : List Path → Type 0
 AreOrdered [] = ⊤

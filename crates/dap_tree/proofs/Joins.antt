@@ -1,4 +1,4 @@
--- Trees that are done, before a document's other items.
+-- Trees that are processed, followed by the remaining items of a document.
 use Rattle.std.proofs.Common.{◌≡◌, ℕ, zero, suc, ◌<◌, ◌≤◌, ℤ, List, [], ◌∷◌, ◌++◌, take, drop, set}
 use Rattle.std.proofs.Common.{get_or, length, Bool, true, cond, String, Global, refl, sym, ap, ◌∙◌}
 use Rattle.std.proofs.Common.{arith, subst}
@@ -22,7 +22,7 @@ pub items_join-all : (ts : List Tree) → items_join ts no_items ≡ items_view 
 items_join-all [] = refl
 items_join-all (t ∷ ts) = ap (item (view t)) (items_join-all ts)
 
--- one more is done
+-- one more tree is processed
 pub put_step : (ts : List Tree) (i : ℕ) (d u : Tree) (ns : List ℤ) → i < length ts
     → view u ≡ with_ids (view (get_or ts i d)) ns
     → items_join (take (suc i) (set ts i u))
@@ -33,7 +33,7 @@ put_step [] i d u ns h put = absurd (omega arith)
 put_step (x ∷ ts) zero d u ns h put = rw put refl
 put_step (x ∷ ts) (suc i) d u ns h put = ap (item (view x)) (put_step ts i d u ns (omega arith) put)
 
--- what is left of the numbers after one more
+-- the remaining numbers after one more tree
 pub left_step : (ts : List Tree) (i : ℕ) (d u : Tree) (ns : List ℤ) → i < length ts
     → drop (items_id_count (items_view (drop (suc i) (set ts i u))))
     (drop (id_count (view (get_or ts i d))) ns)
@@ -76,7 +76,7 @@ module _ {F : Type 0} (T : F → String Global → Tree → Bool → Tree → F 
       let pairs = h.6 ∙ ap (λ b. cond b ((e.0, h.1) ∷ h.3) h.3) s.0 in
       rw (pairs, s.1, later, s.2) refl
 
--- all are done
+-- all trees are processed
 pub put_done : (xs ys : List Tree) (i len : ℕ) (ns : List ℤ) (all : Items) → length xs ≤ i
     → len ≡ length xs → items_join (take i xs) (items_with_ids (items_view (drop i xs)) ns) ≡ all
     → items_view (take len (xs ++ ys)) ≡ all
@@ -84,7 +84,7 @@ put_done xs ys i len ns all past same done =
     rw (same, take-append_seam) (sym (items_join-all xs)
     ∙ (rw (take_all i xs past, drop_all i xs past) at done))
 
--- one more is changed
+-- one more tree is changed
 pub change_step : (f : Doc → Doc) (ts : List Tree) (i : ℕ) (d u : Tree) → i < length ts
     → view u ≡ f (view (get_or ts i d))
     → items_join (take (suc i) (set ts i u)) (map_items f (items_view (drop (suc i) (set ts i u))))

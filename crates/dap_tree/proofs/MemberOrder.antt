@@ -1,4 +1,4 @@
--- The members of what is read stand in the byte order of their names.
+-- The members of a value that was read are in the byte order of their names.
 use Rattle.std.proofs.Common.{◌≡◌, ℕ, List, Bool, true, ◌&&◌, Option, Some, None, option_map}
 use Rattle.std.proofs.Common.{option_and_then, Ordering, Less, Equal, Greater, nat_cmp, refl, sym}
 use Rattle.std.proofs.Common.{ap, ap₂, ◌∙◌, subst}
@@ -39,7 +39,7 @@ abbrev mutual
   members_data_ordered (json.member k d ms) =
       data_below_all k ms && (data_ordered d && members_data_ordered ms)
 
--- ---- a member that is put among the others
+-- ---- inserting a member
 
 below_lower : (k l : List ℕ) (ms : json.Members) → slice_cmp nat_cmp k l ≡ Less
     → data_below_all l ms ≡ true → data_below_all k ms ≡ true
@@ -97,7 +97,7 @@ ordered_put k d (json.member l e ms) h g =
     (λ low. below_put l k d ms low below)
     (ordered_put k d ms h (and_right (data_ordered e) _ parts))
 
--- ---- what is read
+-- ---- values that were read
 
 some_number : (o : Option json.Num) → Passes data_ordered (option_map json.number o)
 some_number None = tt

@@ -1,4 +1,4 @@
--- A tree without ids: no part of it has any.
+-- No part of a tree without ids has an id.
 use Rattle.std.proofs.Common.{◌≡◌, ℕ, ◌<◌, ◌++◌, ◌∷◌, ℤ, List, [], ap, append_assoc, drop, get_or}
 use Rattle.std.proofs.Common.{length, refl, suc, sym, ◌∙◌}
 use Rattle.std.proofs.Math.Seq.{drop-cons}
@@ -20,7 +20,7 @@ right_nil : (a b : Ids) → a ++ b ≡ [] → b ≡ []
 right_nil [] b h = h
 right_nil (x ∷ a) b h = cc
 
--- what is left to find is nothing, if all is
+-- if there are no ids in total, no ids remain to be found
 none_left : (old found left all : Ids) → Extends old found → found ++ left ≡ old ++ all
     → all ≡ [] → left ≡ []
 none_left old found left all more h none =

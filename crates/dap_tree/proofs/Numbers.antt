@@ -1,4 +1,4 @@
--- The numbers that `serde_json` reads: an unsigned one below 2^64, a negative one below 0 and from
+-- The numbers that `serde_json` reads: an unsigned number below 2^64, a negative number of at least
 -- -2^63, or a float.
 use Rattle.std.proofs.Common.{◌≡◌, ℕ, zero, suc, ◌^◌, pos, negsuc, neg_ℤ, Float, List, Bool, true}
 use Rattle.std.proofs.Common.{false, ◌&&◌, Option, Some, None, option_map, option_and_then}
@@ -38,7 +38,7 @@ abbrev mutual
   members_kept no_members = true
   members_kept (member k d ms) = all_kept d && members_kept ms
 
--- what is there passes the test
+-- the value, if there is one, passes the test
 abbrev pub Passes : {A : Type 0} → (A → Bool) → Option A → Type 0
 Passes p None = Unit {0}
 Passes p (Some a) = p a ≡ true

@@ -1,4 +1,4 @@
--- Each content has one outcome, and what is read is sound.
+-- Each content has exactly one outcome, and a document that was read is sound.
 use Rattle.std.proofs.Common.{◌≡◌, ℕ, ◌≤◌, ◌<◌, inl, inr, ℤ, pos, negsuc, List, [], ◌∷◌, length}
 use Rattle.std.proofs.Common.{Bool, true, false, not, ◌&&◌, Option, Some, None, Result, Ok, Err}
 use Rattle.std.proofs.Common.{IfOk, IfErr, MatchResult, refl, sym, ap, ap₂, ◌∙◌, subst, leb, le-leb}
@@ -31,7 +31,7 @@ use Rattle.dap_tree.proofs.Numbers.{is_kept, all_kept, items_kept, members_kept,
 use Rattle.dap_tree.proofs.WithoutIds.{without_no_id}
 use Rattle.dap_tree.proofs.Writing.{no_float}
 
--- ---- the document of a value that has no float
+-- ---- the document of a value without floats
 
 abbrev whole_of : json.Num → Doc
 whole_of (json.unsigned n) = whole (pos n)
@@ -77,7 +77,7 @@ mutual
   members_back no_members = refl
   members_back (member k d ms) = ap₂ (member k) (back d) (members_back ms)
 
--- documents with the same text are the same, ids apart
+-- documents with the same text are equal, except for their ids
 pub without_from_data : (d e : Doc) → data_of d ≡ data_of e → without_ids d ≡ without_ids e
 without_from_data d e h = sym (back d) ∙ ap doc_of h ∙ back e
 
@@ -138,7 +138,7 @@ mutual
 same_some : {A : Type 0} (a b : A) → Some a ≡ Some b → a ≡ b
 same_some a b h = cc
 
--- a content is one value's text at most
+-- a content is the text of at most one value
 same_value : (bytes : List ℕ) (d e : json.Data) → Reads bytes d → Reads bytes e → d ≡ e
 same_value bytes d e h k = same_some d e (sym h.1 ∙ k.1)
 
@@ -150,7 +150,7 @@ read_once bytes d e h k =
 not_both : (b : Bool) → b ≡ true → b ≡ false → ⊥
 not_both b h k = cc
 
--- what is a tree has no fraction
+-- a content that is read as a tree has no fraction
 pub whole_or_fraction : (bytes : List ℕ) (d : Doc) → IsRead bytes d → HasFraction bytes → ⊥
 whole_or_fraction bytes d h f =
     not_both (has_float f.0) f.2 (ap has_float (same_value bytes f.0 (data_of d) f.1 h.0)
@@ -228,7 +228,7 @@ pub read_is_plain : (bytes : List ℕ) (d : Doc) → IsRead bytes d → is_plain
 read_is_plain bytes d h =
     and_both (is_sound d) (not (has_id d)) (read_is_sound bytes d h) (ap not h.1)
 
--- ---- the answers of `read_tree`
+-- ---- the results of `read_tree`
 
 pub document_answers : (bytes : List ℕ) (t : Tree) (o : Outcome) → IsRead bytes (view t)
     → HasOutcome bytes o → o ≡ document (view t)
@@ -240,7 +240,7 @@ fault_answers bytes Json o h has = one_outcome bytes o no_reading has h
 fault_answers bytes Fraction o h has = one_outcome bytes o fraction has h
 fault_answers bytes Memory o h has = tt
 
--- a fault of the value that was read is a fault of the content
+-- an error in the value that was read is an error of the content
 pub explains_text : (bytes : List ℕ) (v : json.Data) (f : TreeFault) → Reads bytes v
     → ExplainsData v f → ExplainsText bytes f
 explains_text bytes v Json reads h = absurd h
@@ -265,7 +265,7 @@ answers bytes (Err f) o ok err has = fault_answers bytes f o err has
 
 -- ---- the empty content
 
--- no value is read of it
+-- no value is read from it
 pub some_byte : (bytes : List ℕ) (v : json.Data) → read bytes ≡ Some v → 0 < length bytes
 unfolding serde_json_on_literals
 some_byte [] v h = let nothing : read [] ≡ None = refl in cc

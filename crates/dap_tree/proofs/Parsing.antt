@@ -1,4 +1,4 @@
--- A tree that is read in one pass over the tokens, a turn of its loops at a time.
+-- Reading a tree in one pass over the tokens: one iteration of the loops at a time.
 use Rattle.std.proofs.Common.{◌≡◌, List, [], ◌∷◌, ◌++◌, Option, Some, None, false, String, Global}
 use Rattle.std.proofs.Common.{string_cmp, string_bytes, refl, ap, ◌∙◌}
 use Rattle.std.specs.BTreeMap.{insert_entry}
@@ -12,7 +12,7 @@ use Rattle.dap_tree.specs.declared.tree.Tree.{Tree}
 use Rattle.dap_tree.proofs.ReadTrees.{members_data-put, no_id_put}
 use Rattle.dap_tree.proofs.Views.{Entry, members_view-insert_entry}
 
--- ---- a list that grows at its end
+-- ---- appending to a list
 
 abbrev pub items_before : List Tree → json.Items → json.Items
 items_before [] rest = rest

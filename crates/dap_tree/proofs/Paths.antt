@@ -1,4 +1,4 @@
--- A change at one member, read path by path.
+-- The effect of a change at one member on every path.
 use Rattle.std.proofs.Common.{◌≡◌, ◌≢◌, ℕ, List, zero, suc, ◌∷◌, Option, Some, None, option_map}
 use Rattle.std.proofs.Common.{option_and_then, Ordering, Less, Equal, Greater, nat_cmp, Bool, true}
 use Rattle.std.proofs.Common.{false, bytes_eq, is_eq, refl, sym, ap, ◌∙◌}
@@ -81,7 +81,7 @@ get-change_other k f (list ds) other apart = refl
 get-change_other k f (object ms) other apart = get_member-change_other other k f ms apart
 get-change_other k f (id s z) other apart = refl
 
--- f of an item
+-- after a change of items, an item is f of the old item
 pub get_item-map : (f : Doc → Doc) (n : ℕ) (ds : Items)
     → get_item n (map_items f ds) ≡ option_map f (get_item n ds)
 get_item-map f n no_items = refl
@@ -112,14 +112,14 @@ mapped : (f : Doc → Doc) (g h : Doc → Option Doc) → ((d : Doc) → h (f d)
 mapped f g h step None = refl
 mapped f g h step (Some d) = step d
 
--- a change below a member is a change below the path's first step
+-- a change at a member is a change after the first step of the path
 pub at-change : (k : List ℕ) (f : Doc → Doc) (ps : List Step) (d : Doc)
     → at (name k ∷ ps) (change_child k f d) ≡ option_and_then (λ e. at ps (f e)) (get k d)
 at-change k f ps d =
     ap (option_and_then (at ps)) (get-change k f d)
     ∙ mapped f (λ e. at ps (f e)) (at ps) (λ e. refl) (get k d)
 
--- a change at a name is no change at another step
+-- a change at a name changes nothing at another step
 step-change_other : (k : List ℕ) (f : Doc → Doc) (d : Doc) (p : Step) → p ≢ name k
     → step p (change_child k f d) ≡ step p d
 step-change_other k f d (name other) apart =

@@ -1,4 +1,4 @@
--- A tree beside the value that it was read from.
+-- A tree and the value that it was read from.
 use Rattle.std.proofs.Common.{◌≡◌, ℕ, List, [], ◌∷◌, ◌++◌, Ordering, Less, Equal, Greater}
 use Rattle.std.proofs.Common.{string_bytes, string_cmp, nat_cmp, Bool, true, false, ◌||◌, refl, sym}
 use Rattle.std.proofs.Common.{ap, ap₂, ◌∙◌, length, arith}
@@ -24,9 +24,9 @@ use Rattle.dap_tree.specs.declared.fault.TreeFault.TheVariants.{Json, Fraction, 
 use Rattle.dap_tree.proofs.Booleans.{or_left, or_right, or_both}
 use Rattle.dap_tree.proofs.Views.{Entry, members_view-insert_entry}
 
--- ---- faults
+-- ---- errors
 
--- a fault of a part is a fault of the whole
+-- an error in a part is an error in the complete value
 pub explains_more : (a b : Bool) (e : TreeFault) → (a ≡ true → b ≡ true) → Explains a e
     → Explains b e
 explains_more a b Json f h = h

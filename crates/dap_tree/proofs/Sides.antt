@@ -1,4 +1,4 @@
--- A test tells whether two sides are one.
+-- The test `same_side` decides whether two sides are equal.
 use Rattle.std.proofs.Common.{◌≡◌, refl}
 use Rattle.std.specs.Bool.{Decides}
 use Rattle.dap_tree.specs.Side.{same_side}

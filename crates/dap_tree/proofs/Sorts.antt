@@ -1,4 +1,4 @@
--- A sort's number tells it.
+-- A kind of id is determined by its index.
 use Rattle.std.proofs.Common.{◌≡◌, ℕ, true, get_or, refl, sym, ◌∙◌, ap}
 use Rattle.std.proofs.lemmas.Bool.{eqb-true, eq-eqb}
 use Rattle.dap_tree.specs.declared.sort.Sort.{Sort}

@@ -1,5 +1,5 @@
--- What a string in a text that is UTF-8 stands for is UTF-8: the text is cut at ASCII alone, and
--- each escape stands for a character.
+-- A string token in UTF-8 text represents UTF-8: the text is split only at ASCII bytes, and each
+-- escape represents a character.
 use Rattle.std.proofs.Common.{◌≡◌, ℕ, ◌+◌, ◌*◌, ◌<◌, List, [], ◌∷◌, ◌++◌, true, false, Bool, cond}
 use Rattle.std.proofs.Common.{◌&&◌, ◌==◌, nat_lt, length, get_or, drop, Option, Some, None}
 use Rattle.std.proofs.Common.{option_and_then, IsUtf8, refl, sym, ap, ◌∙◌, subst, arith}
@@ -18,7 +18,7 @@ use Rattle.json.specs.Text.{code_unit, short_escape, is_high_surrogate, is_low_s
 use Rattle.json.specs.Text.{surrogate_pair, Within, plain, after_backslash, after_u, after_high}
 use Rattle.json.specs.Text.{prepend, content}
 
--- ---- UTF-8 beside an ASCII byte
+-- ---- UTF-8 next to an ASCII byte
 
 module _ (front rest : List ℕ) (x : ℕ) (low : x < 128) (utf8 : IsUtf8 (front ++ x ∷ rest)) where
   there : get_or (front ++ x ∷ rest) (length front) 0 ≡ x
@@ -39,12 +39,12 @@ module _ (front rest : List ℕ) (x : ℕ) (low : x < 128) (utf8 : IsUtf8 (front
       (IsCharBoundary-after_ascii (front ++ x ∷ rest) (length front) utf8
       (omega (arith, length-append front (x ∷ rest))) (omega (arith, there))))
 
--- ---- what an escape stands for
+-- ---- the character that an escape represents
 
 ascii_scalar : (x : ℕ) → x < 128 → IsScalar x
 ascii_scalar x low = low_scalar x (omega arith)
 
--- what a backslash and one letter stand for
+-- the character that a backslash and one letter represent
 short_ascii : (x : ℕ) → IfSome (short_escape x) (λ c. (x < 128) × (c < 128))
 unfolding short_escape
 short_ascii x = grind (arith, nat_tests)
@@ -52,7 +52,7 @@ short_ascii x = grind (arith, nat_tests)
 hex_ascii : (x : ℕ) → is_digit x 16 ≡ true → x < 128
 hex_ascii x h = grind (arith, nat_tests)
 
--- the digits are ASCII, and spell a number of 16 bits
+-- the digits are ASCII, and write a number of 16 bits
 abbrev IsUnit : ℕ → ℕ → ℕ → ℕ → ℕ → Type 0
 IsUnit a b c d unit = (a < 128) × (b < 128) × (c < 128) × (d < 128) × (unit < 65536)
 
@@ -83,7 +83,7 @@ after_digits a b c d unit rest is utf8 =
     (after_ascii [] (d ∷ rest) c is.2
     (after_ascii [] (c ∷ d ∷ rest) b is.1 (after_ascii [] (b ∷ c ∷ d ∷ rest) a is.0 utf8)))
 
--- a unit that is no surrogate is a character, and so is a pair of surrogates
+-- a unit that is not a surrogate is a character, and so is a pair of surrogates
 unit_scalar : (unit : ℕ) → unit < 65536 → is_high_surrogate unit ≡ false
     → is_low_surrogate unit ≡ false → IsScalar unit
 unit_scalar unit small high low = grind (arith, nat_tests)
@@ -94,15 +94,15 @@ pair_scalar high low h l = grind (arith, nat_tests)
 
 -- ---- the content of a string
 
--- Where the text is cut within a string. A character may be cut among plain bytes, and nowhere
--- else.
+-- Where the text may be split within a string: among plain bytes even inside a character, otherwise
+-- only between characters.
 abbrev IsCut : Within → List ℕ → List ℕ → Type 0
 IsCut plain front rest = IsUtf8 (front ++ rest)
 IsCut after_backslash front rest = IsUtf8 front × IsUtf8 rest
 IsCut after_u front rest = IsUtf8 front × IsUtf8 rest
 IsCut (after_high high) front rest = IsUtf8 front × IsUtf8 rest × (is_high_surrogate high ≡ true)
 
--- what is read completes the bytes in front of it
+-- the bytes that are read complete the bytes before them
 abbrev Completes : List ℕ → Option (List ℕ) → Type 0
 Completes front read = IfSome read (λ s. IsUtf8 (front ++ s))
 
@@ -121,7 +121,7 @@ completes-cond : (front : List ℕ) (b : Bool) (x y : Option (List ℕ))
     → Completes front (cond b x y)
 completes-cond front b x y = cond_both b x y (Completes front)
 
--- the next character is put behind what is in front
+-- the next character is appended to the bytes before it
 put_behind : (front rest : List ℕ) (c : ℕ) → IsUtf8 front → IsScalar c → IsUtf8 rest
     → IsUtf8 ((front ++ encode_utf8 c) ++ rest)
 put_behind front rest c before is after =
@@ -197,6 +197,6 @@ completes-content (after_high high) front (x ∷ y ∷ a ∷ b ∷ c ∷ d ∷ x
     (λ _. tt)))
     (λ _. tt)
 
--- what the string stands for whose opening quote is before this text
+-- the string token whose opening quote precedes this text represents UTF-8
 pub string_utf8 : (text : List ℕ) → IsUtf8 text → IfSome (content plain text) IsUtf8
 string_utf8 text u = completes-content plain [] text u

@@ -53,7 +53,7 @@ number_read : (z : ℤ) → in_range z ≡ true
 number_read (pos n) h = number_of-decimal n (ltb-true n (2 ^ 64) h)
 number_read (negsuc n) h = number_of-negative n (ltb-true n (2 ^ 63) h)
 
--- each number of the document, that of an id too, is in range
+-- every number of the document is in range, including those of ids
 abbrev AreInRange : Doc → Type 0
 AreInRange d = (all_in_range d ≡ true) × (ids_in_range d ≡ true)
 
@@ -154,7 +154,7 @@ join-join : (xs ys zs : json.Members) → join (join xs ys) zs ≡ join xs (join
 join-join json.no_members ys zs = refl
 join-join (json.member k v xs) ys zs = ap (json.member k v) (join-join xs ys zs)
 
--- each name that was read is below those that are left
+-- each name that was read is below the names of the remaining members
 abbrev stand_before : json.Members → Members → Bool
 stand_before json.no_members ms = true
 stand_before (json.member l v found) ms = is_below_all l ms && stand_before found ms
@@ -224,7 +224,7 @@ mutual
       (and_right (is_ordered d) _ parts) (stand_next k d ms found below before)
       ∙ ap Some (join-join found one (members_data ms))
 
--- ---- the whole
+-- ---- the complete text
 
 pub text_is_read : (d : Doc) → is_sound d ≡ true → ids_in_range d ≡ true → is_ordered d ≡ true
     → all_utf8 d ≡ true → IsRead (text_of d) (without_ids d)

@@ -1,4 +1,4 @@
--- The strings and the keys among the tokens of a text that is UTF-8 are UTF-8.
+-- The string and key tokens of UTF-8 text are UTF-8.
 use Rattle.std.proofs.Common.{◌≡◌, ℕ, ◌<◌, List, [], ◌∷◌, ◌++◌, Bool, true, false, cond, ◌==◌}
 use Rattle.std.proofs.Common.{Option, Some, None, IsUtf8, refl, sym, subst, arith, append_assoc}
 use Rattle.std.proofs.lemmas.Bool.{cond_both, eqb-true}

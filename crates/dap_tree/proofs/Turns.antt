@@ -1,5 +1,5 @@
--- The loops of JSON's grammar, a turn at a time, where what is read goes on as a value of
--- `serde_json`.
+-- The loops of the JSON grammar, one iteration at a time. The value that is read continues as a
+-- value of `serde_json`.
 use Rattle.std.proofs.Common.{◌≡◌, ℕ, ◌-◌, ◌<◌, ◌≤◌, List, length, Option, Some, None}
 use Rattle.std.proofs.Common.{option_map, refl, ap, ◌∙◌}
 use Rattle.json.specs.Token.{Token}

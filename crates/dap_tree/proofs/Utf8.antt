@@ -1,4 +1,4 @@
--- The texts and the names of what is read are UTF-8.
+-- The strings and member names of a value that was read are UTF-8.
 use Rattle.std.proofs.Common.{◌≡◌, ℕ, List, [], ◌∷◌, ◌++◌, Bool, true, ◌&&◌, Option, Some, None}
 use Rattle.std.proofs.Common.{option_map, option_and_then, Ordering, Less, Equal, Greater, nat_cmp}
 use Rattle.std.proofs.Common.{IsUtf8, refl, sym, ap, ap₂, ◌∙◌, subst}
@@ -38,7 +38,7 @@ abbrev mutual
   members_data_utf8 json.no_members = true
   members_data_utf8 (json.member k d ms) = is_utf8 k && (data_utf8 d && members_data_utf8 ms)
 
--- ---- a member that is put among the others
+-- ---- inserting a member
 
 put_at : (o : Ordering) (a b c : json.Members) → members_data_utf8 a ≡ true
     → members_data_utf8 b ≡ true → members_data_utf8 c ≡ true

@@ -1,4 +1,4 @@
--- A tree, level by level, and a `BTreeMap` beside the members that it stands for.
+-- A tree level by level, and the members that a `BTreeMap` represents.
 use Rattle.std.proofs.Common.{◌≡◌, ℕ, List, [], ◌∷◌, ◌++◌, Option, Some, None, option_map, String}
 use Rattle.std.proofs.Common.{Vec, BTreeMap, Global, Ordering, Less, Equal, Greater, string_bytes}
 use Rattle.std.proofs.Common.{string_cmp, nat_cmp, is_eq, cond, Bool, true, Bor, MutBor, refl, sym}
@@ -37,7 +37,7 @@ members_view-match_ordering Less a b c = refl
 members_view-match_ordering Equal a b c = refl
 members_view-match_ordering Greater a b c = refl
 
--- an insert puts the member
+-- an insertion into the map puts the member
 pub members_view-insert_entry : (es : List Entry) (k : String Global) (t : Tree)
     → members_view (insert_entry string_cmp es k t)
     ≡ put (string_bytes k) (view t) (members_view es)
@@ -51,7 +51,7 @@ below_middle : (first : Entry) (es : List Entry) (e : Entry) (more : List Entry)
 below_middle first [] e more h = h.0
 below_middle first (x ∷ es) e more h = below_middle first es e more h.1
 
--- a key above those before it goes last
+-- a key above all earlier keys is inserted last
 pub put_last : (done : List Entry) (e : Entry) (more : List Entry)
     → IsStrictlySortedBy string_cmp (keys_of (done ++ e ∷ more))
     → put (string_bytes e.0) (view e.1) (members_view done) ≡ members_view (done ++ e ∷ [])
@@ -69,7 +69,7 @@ is_below_all-sorted : (k : String Global) (es : List Entry)
 is_below_all-sorted k [] h = refl
 is_below_all-sorted k (e ∷ es) h = and_both _ _ (ap is_lt h.0) (is_below_all-sorted k es h.1)
 
--- the members of a map stand in order where their values do
+-- the members of a map are in order if and only if its values are
 pub members_ordered-sorted : (e : Entry) (es : List Entry)
     → IsStrictlySortedBy string_cmp (keys_of (e ∷ es)) → is_ordered (view e.1) ≡ true
     → members_ordered (members_view (e ∷ es)) ≡ members_ordered (members_view es)
@@ -123,7 +123,7 @@ unchanged k f (list ds) e = refl
 unchanged k f (object ns) e = cc
 unchanged k f (id s z) e = refl
 
--- what is no object has no members
+-- a document that is not an object has no members
 pub no_member : (k : List ℕ) (d : Doc) → None ≡ as_object d → get k d ≡ None
 no_member k null e = refl
 no_member k (boolean b) e = refl
@@ -133,11 +133,11 @@ no_member k (list ds) e = refl
 no_member k (object ns) e = cc
 no_member k (id s z) e = refl
 
--- the keys that are this name
+-- whether a key is this name
 abbrev at_name : List ℕ → String Global → Bool
 at_name k = is_at (λ l. slice_cmp nat_cmp k (string_bytes l))
 
--- what a look-up in the map of an object finds
+-- a value found in the map of an object is the member of that name
 pub child_found : (k : List ℕ) (d : Doc) (es : List Entry) (v : Tree)
     → Some (members_view es) ≡ as_object d → lookup (at_name k) es ≡ Some v
     → get k d ≡ Some (view v)
@@ -151,7 +151,7 @@ child_missing k d es seen missing = let is =
     object_from d (members_view es) seen in rw is (sym (view-lookup k es)
     ∙ ap (option_map view) missing)
 
--- ---- what a write into the map leaves of an object
+-- ---- an object after a write into its map
 
 change_one : (o : Ordering) (f : Doc
     → Doc) (e : Entry) (es done : List Entry) (v w : Tree) (ms : Members) (found : Option Tree)
@@ -169,7 +169,7 @@ change_one Equal f e es done v w ms found h put later = let same : e.1 ≡ v =
 change_one Greater f e es done v w ms found h put later =
     ap (member (string_bytes e.0) (view e.1)) (later h)
 
--- the value at the name was v, and w is written there
+-- the value at the name was v, and is replaced by w
 pub change_written : (k : List ℕ) (f : Doc → Doc) (es : List Entry) (v w : Tree)
     → lookup (at_name k) es ≡ Some v → view w ≡ f (view v)
     → members_view (set_value (at_name k) es w) ≡ change_member k f (members_view es)
@@ -196,7 +196,7 @@ change_none k f [] h = refl
 change_none k f (e ∷ es) h =
     none_one (slice_cmp nat_cmp k (string_bytes e.0)) f e es _ _ h (change_none k f es)
 
--- what a write through `get_mut` leaves of an object
+-- an object after a write through `get_mut`
 pub child_written : (k : List ℕ) (f : Doc
     → Doc) (d : Doc) (m n : BTreeMap (String Global) Tree) (v w : Tree)
     → Some (members_view m.entries) ≡ as_object d → lookup (at_name k) m.entries ≡ Some v
@@ -206,7 +206,7 @@ child_written k f d m n v w seen found put writes =
     let is = object_from d (members_view m.entries) seen in
     rw (is, view-Object n, writes) (ap object (change_written k f m.entries v w found put))
 
--- the same by what `get_mut` gives, found or not
+-- the same, stated by the result of `get_mut`, whether found or not
 pub lent_written : (k : List ℕ) (d new : Doc) (m n : BTreeMap (String Global) Tree)
     (r : Option (MutBor Tree)) (w : Tree) → Some (members_view m.entries) ≡ as_object d
     → option_copied_mut r ≡ lookup (at_name k) m.entries
@@ -218,7 +218,7 @@ lent_written k d new m n (Some x) w seen found writes is =
     rw (is, same, writes)
     (ap object (change_written k (λ _. view w) m.entries x.now w (sym found) refl))
 
--- where there is no such member, nothing changes
+-- if there is no such member, nothing changes
 pub child_absent : (k : List ℕ) (f : Doc → Doc) (d : Doc) (m n : BTreeMap (String Global) Tree)
     → Some (members_view m.entries) ≡ as_object d → lookup (at_name k) m.entries ≡ None
     → n ≡ m → view (tree.Object n) ≡ change_child k f d
@@ -226,7 +226,7 @@ child_absent k f d m n seen found same =
     let is = object_from d (members_view m.entries) seen in
     rw (is, view-Object n, same) (ap object (change_none k f m.entries found))
 
--- a change that changes nothing
+-- changing nothing
 same_members : (o : Ordering) (l : List ℕ) (e : Doc) (ms changed : Members) → changed ≡ ms
     → match_ordering o (member l e changed) (member l e ms) (member l e changed) ≡ member l e ms
 same_members Less l e ms changed later = ap (member l e) later

@@ -1,4 +1,4 @@
--- A document beside the same with its ids as whole numbers.
+-- A document and the same document with its ids as integers.
 use Rattle.std.proofs.Common.{◌≡◌, suc, max, Bool, true, false, not, refl, sym, ap, ap₂, ◌∙◌, leb}
 use Rattle.serde_json.specs.Data as json
 use Rattle.dap_tree.specs.Doc.{Doc, null, boolean, whole, text, list, object, id, Items, no_items}
@@ -15,7 +15,7 @@ not_true : (b : Bool) → not b ≡ true → b ≡ false
 not_true true h = cc
 not_true false h = refl
 
--- with no id there it is the document itself
+-- replacing ids by integers does not change a document without ids
 mutual
   pub without_no_id : (d : Doc) → has_id d ≡ false → without_ids d ≡ d
   without_no_id null h = refl

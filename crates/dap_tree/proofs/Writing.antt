@@ -1,4 +1,4 @@
--- The tokens of a document: their text is its compact text, and they read back as the document.
+-- The tokens of a document: their text is its compact text, and reading them yields the document.
 use Rattle.std.proofs.Common.{◌≡◌, ℕ, suc, max, ◌≤◌, ◌^◌, List, [], ◌∷◌, ◌++◌, Bool, true, false}
 use Rattle.std.proofs.Common.{◌||◌, Some, option_map, option_and_then, refl, sym, ap, ap₂, ◌∙◌}
 use Rattle.std.proofs.Common.{subst, leb, ℤ, pos, negsuc, nat_abs, int_lt, decimal, string_bytes}
@@ -32,7 +32,7 @@ use Rattle.dap_tree.proofs.Booleans.{and_left}
 use Rattle.dap_tree.proofs.ReadTrees.{members_data-put}
 use Rattle.dap_tree.proofs.Views.{Entry, put_last}
 
--- ---- what a document has
+-- ---- the numbers of a document
 
 whole_number : (z : ℤ) → is_float (of_integer z) ≡ false
 whole_number (pos n) = refl
@@ -81,7 +81,7 @@ mutual
 pub depth_from_sound : (d : Doc) → is_sound d ≡ true → depth d ≤ 127
 depth_from_sound d h = leb-true (depth d) 127 (and_left (leb (depth d) 127) (all_in_range d) h)
 
--- ---- a whole number
+-- ---- an integer
 
 pub negative_cast : (z : ℤ) → int_lt z (pos 0) ≡ true → in_range z ≡ true
     → to_z w64 (of_z w64 z) ≡ z
@@ -148,7 +148,7 @@ member_reads done e left ordered reads =
     ∙ ap (of_members rest) (sym (members_data-put name (view e.1) (members_view done))
     ∙ ap members_data (put_last done e left ordered))
 
--- ---- the whole
+-- ---- the complete text
 
 pub text_of_tokens : (d : Doc) (old new : List Token) (before bytes : List ℕ) → old ≡ []
     → before ≡ [] → WritesDoc d old new → bytes ≡ before ++ print new

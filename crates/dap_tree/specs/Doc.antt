@@ -1,5 +1,5 @@
--- What contracts see of a tree: a JSON value of whole numbers and ids, whose members stand in the
--- byte order of their names.
+-- The model of a tree: a JSON value of integers and ids. Every `Tree` has the members of its
+-- objects in the byte order of their names.
 use Rattle.std.specs.Prelude.{ℕ, suc, max, ◌^◌, ◌-◌, ℤ, pos, negsuc, List, Bool, true, false, ◌&&◌}
 use Rattle.std.specs.Prelude.{◌||◌, not, nat_le, nat_lt, Option, Some, None}
 use Rattle.std.specs.Ordering.{nat_cmp, match_ordering, is_lt}
@@ -25,7 +25,7 @@ mutual
     no_members : Members
     member : List ℕ → Doc → Members → Members
 
--- Null, a boolean or a number: its tree has a fixed size, and owns no memory.
+-- The document is null, a boolean, a number or an id: its tree has a fixed size and owns no memory.
 abbrev pub has_fixed_size : Doc → Bool
 has_fixed_size null = true
 has_fixed_size (boolean b) = true
@@ -37,8 +37,8 @@ has_fixed_size (id s z) = true
 
 -- ---- sound documents
 
--- How deep lists and objects nest (own): one of them is one deeper than its deepest part, and all
--- else has depth 0.
+-- Nesting depth (own). An array or object is one level deeper than its deepest element or member;
+-- everything else has depth 0.
 abbrev mutual
   pub depth : Doc → ℕ
   depth null = 0
@@ -57,13 +57,13 @@ abbrev mutual
   members_depth no_members = 0
   members_depth (member k d ms) = max (depth d) (members_depth ms)
 
--- The whole numbers that are kept (own): those from -2^63 to 2^64 - 1.
+-- The integers that a tree may contain (own): from -2^63 to 2^64 - 1.
 abbrev pub in_range : ℤ → Bool
 in_range (pos n) = nat_lt n (2 ^ 64)
 in_range (negsuc n) = nat_lt n (2 ^ 63)
 
--- Each whole number of the document is in range: the number of an id, which is of 64 bits, is not
--- asked.
+-- Every integer of the document is in range. The number of an id is not checked: it always has 64
+-- bits.
 abbrev mutual
   pub all_in_range : Doc → Bool
   all_in_range null = true
@@ -82,7 +82,7 @@ abbrev mutual
   members_in_range no_members = true
   members_in_range (member k d ms) = all_in_range d && members_in_range ms
 
--- How deep JSON may nest (serde_json's reader).
+-- The maximum nesting depth of JSON (the reader of serde_json).
 abbrev pub max_depth : ℕ
 max_depth = 127
 
@@ -90,7 +90,7 @@ max_depth = 127
 abbrev pub is_sound : Doc → Bool
 is_sound d = nat_le (depth d) max_depth && all_in_range d
 
--- Whether some id is in the document.
+-- The document contains an id.
 abbrev mutual
   pub has_id : Doc → Bool
   has_id null = false
@@ -109,12 +109,13 @@ abbrev mutual
   members_have_id no_members = false
   members_have_id (member k d ms) = has_id d || members_have_id ms
 
--- A plain document (own) is sound, and has no id: it is what a content is read as.
+-- A plain document (own) is sound and has no id. Every content that is accepted is read as a plain
+-- document.
 abbrev pub is_plain : Doc → Bool
 is_plain d = is_sound d && not (has_id d)
 
--- For lemmas: what a plain document has beside its depth. Each whole number is in range, and no id
--- is there.
+-- For lemmas: the properties of a plain document other than its depth. Every integer is in range,
+-- and there is no id.
 abbrev mutual
   pub all_plain : Doc → Bool
   all_plain null = true
@@ -133,7 +134,8 @@ abbrev mutual
   members_plain no_members = true
   members_plain (member k d ms) = all_plain d && members_plain ms
 
--- For private clauses: the document is in range, and fits so many levels.
+-- For private clauses: every integer of the document is in range, and it nests at most n levels
+-- deep.
 abbrev mutual
   pub fits : ℕ → Doc → Bool
   fits n null = true
@@ -169,7 +171,7 @@ get_member k no_members = None
 get_member k (member l e ms) =
     match_ordering (slice_cmp nat_cmp k l) (get_member k ms) (Some e) (get_member k ms)
 
--- The member of that name (JSON): there is one in an object alone.
+-- The member of that name (JSON). Only an object has members.
 abbrev pub get : List ℕ → Doc → Option Doc
 get k null = None
 get k (boolean b) = None
@@ -179,8 +181,7 @@ get k (list ds) = None
 get k (object ms) = get_member k ms
 get k (id s z) = None
 
--- The members, with d at the name k: in the place of the member of that name, or between its
--- neighbours.
+-- Inserts d at the name k: replaces the member of that name, or inserts one in byte order.
 abbrev pub put : List ℕ → Doc → Members → Members
 put k d no_members = member k d no_members
 put k d (member l e ms) =
@@ -193,8 +194,8 @@ change_member k f (member l e ms) =
     match_ordering (slice_cmp nat_cmp k l) (member l e (change_member k f ms)) (member l (f e) ms)
     (member l e (change_member k f ms))
 
--- The document with f of the member of that name in its place (own): as it is, where there is no
--- such member.
+-- Replaces the member of that name by f of it (own). The document is unchanged if there is no such
+-- member.
 abbrev pub change_child : List ℕ → (Doc → Doc) → Doc → Doc
 change_child k f null = null
 change_child k f (boolean b) = boolean b
@@ -204,13 +205,13 @@ change_child k f (list ds) = list ds
 change_child k f (object ms) = object (change_member k f ms)
 change_child k f (id s z) = id s z
 
--- The name is less in byte order than each of the members'.
+-- The name is less in byte order than the name of each member.
 abbrev pub is_below_all : List ℕ → Members → Bool
 is_below_all k no_members = true
 is_below_all k (member l e ms) = is_lt (slice_cmp nat_cmp k l) && is_below_all k ms
 
--- The members of each object stand in the byte order of their names, each name once (own): so they
--- do in every `Tree`.
+-- The members of each object are in the byte order of their names, and each name occurs once (own).
+-- This holds for every `Tree`.
 abbrev mutual
   pub is_ordered : Doc → Bool
   is_ordered null = true
@@ -229,7 +230,7 @@ abbrev mutual
   members_ordered no_members = true
   members_ordered (member k d ms) = is_below_all k ms && (is_ordered d && members_ordered ms)
 
--- Each text of the document, and each name, is UTF-8: so they are in every `Tree`.
+-- Every string and every member name of the document is UTF-8. This holds for every `Tree`.
 abbrev mutual
   pub all_utf8 : Doc → Bool
   all_utf8 null = true
@@ -254,7 +255,7 @@ abbrev pub map_items : (Doc → Doc) → Items → Items
 map_items f no_items = no_items
 map_items f (item d ds) = item (f d) (map_items f ds)
 
--- The list with f of each of its items (own): a document that is no list as it is.
+-- Replaces each item of an array by f of it (own). A document that is not an array is unchanged.
 abbrev pub change_items : (Doc → Doc) → Doc → Doc
 change_items f null = null
 change_items f (boolean b) = boolean b

@@ -1,11 +1,12 @@
--- The ids of a document in the order of its text, and the document with other numbers at them.
+-- The ids of a document in the order of its text, and replacing their numbers.
 use Rattle.std.specs.Prelude.{◌≡◌, ℕ, ◌+◌, ℤ, pos, List, [], ◌∷◌, ◌++◌, map, drop, slice_index_or}
 use Rattle.std.specs.Prelude.{Bool, true, ◌&&◌}
 use Rattle.dap_tree.specs.declared.sort.Sort.{Sort}
 use Rattle.dap_tree.specs.Doc.{Doc, null, boolean, whole, text, list, object, id, Items, no_items}
 use Rattle.dap_tree.specs.Doc.{item, Members, no_members, member, in_range}
 
--- The ids, each a sort and a number, in the order in which the text of the document has them (own).
+-- The ids, each a kind and a number, in the order in which they occur in the text of the document
+-- (own).
 abbrev mutual
   pub ids : Doc → List (Sort × ℤ)
   ids null = []
@@ -24,14 +25,14 @@ abbrev mutual
   members_ids no_members = []
   members_ids (member k d ms) = ids d ++ members_ids ms
 
--- The sorts of ids, and their numbers.
+-- The kinds of the ids, and their numbers.
 abbrev pub sorts_of : List (Sort × ℤ) → List Sort
 sorts_of is = map (λ i. i.0) is
 
 abbrev pub numbers_of : List (Sort × ℤ) → List ℤ
 numbers_of is = map (λ i. i.1) is
 
--- How many ids the document has.
+-- The number of ids of the document.
 abbrev mutual
   pub id_count : Doc → ℕ
   id_count null = 0
@@ -50,7 +51,8 @@ abbrev mutual
   members_id_count no_members = 0
   members_id_count (member k d ms) = id_count d + members_id_count ms
 
--- The document with the i-th number at its i-th id (own): an id past the last number keeps its own.
+-- Sets the i-th id of the document to the i-th number (own). If there are fewer numbers than ids,
+-- the remaining ids are unchanged.
 abbrev mutual
   pub with_ids : Doc → List ℤ → Doc
   with_ids null ns = null
@@ -70,7 +72,7 @@ abbrev mutual
   members_with_ids (member k d ms) ns =
       member k (with_ids d ns) (members_with_ids ms (drop (id_count d) ns))
 
--- The document with something else in the place of each id, made of its sort and its number (own).
+-- Replaces each id of the document by f of its kind and number (own).
 abbrev mutual
   pub map_ids : (Sort → ℤ → Doc) → Doc → Doc
   map_ids f null = null
@@ -89,14 +91,14 @@ abbrev mutual
   members_map_ids f no_members = no_members
   members_map_ids f (member k d ms) = member k (map_ids f d) (members_map_ids f ms)
 
--- An id as a whole number, and with 0 as its number.
+-- An id as an integer, and an id with the number 0.
 abbrev pub as_whole : Sort → ℤ → Doc
 as_whole s z = whole z
 
 abbrev pub as_zero : Sort → ℤ → Doc
 as_zero s z = id s (pos 0)
 
--- The document with each id as a whole number (own): it has the same text.
+-- The document with each id as an integer (own). Its text is the same.
 abbrev pub without_ids : Doc → Doc
 without_ids d = map_ids as_whole d
 
@@ -106,8 +108,8 @@ items_without_ids ds = items_map_ids as_whole ds
 abbrev pub members_without_ids : Members → Members
 members_without_ids ms = members_map_ids as_whole ms
 
--- The document with 0 as the number of each id (own): what two documents share that differ at most
--- in the numbers of their ids.
+-- The document with 0 as the number of each id (own): two documents have the same skeleton if they
+-- differ at most in the numbers of their ids.
 abbrev pub skeleton : Doc → Doc
 skeleton d = map_ids as_zero d
 
@@ -117,8 +119,8 @@ items_skeleton ds = items_map_ids as_zero ds
 abbrev pub members_skeleton : Members → Members
 members_skeleton ms = members_map_ids as_zero ms
 
--- The number of each id is in the range of whole numbers (own): that of a `Tree` is of 64 bits, so
--- it always is.
+-- The number of each id is in the range of integers (own). This holds for every `Tree`, since its
+-- ids have 64 bits.
 abbrev mutual
   pub ids_in_range : Doc → Bool
   ids_in_range null = true
@@ -137,6 +139,6 @@ abbrev mutual
   members_ids_in_range no_members = true
   members_ids_in_range (member k d ms) = ids_in_range d && members_ids_in_range ms
 
--- For private clauses: the new list is the old one with more behind it.
+-- For private clauses: the new list is the old list, possibly with more appended.
 abbrev pub Extends : List (Sort × ℤ) → List (Sort × ℤ) → Type 0
 Extends old new = (more : List (Sort × ℤ)) × (new ≡ old ++ more)

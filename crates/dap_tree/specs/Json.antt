@@ -1,4 +1,4 @@
--- Documents beside the JSON values of `serde_json`, and the reading of a content.
+-- Documents and the JSON values of `serde_json`, and how a content is read.
 use Rattle.std.specs.Prelude.{◌≡◌, List, ℕ, Bool, true, false, Some, IsUtf8}
 use Rattle.serde_json.specs.Data as json
 use Rattle.serde_json.specs.Find.{of_integer}
@@ -10,7 +10,7 @@ use Rattle.dap_tree.specs.Doc.{members_have_id}
 use Rattle.dap_tree.specs.declared.fault.TreeFault.{TreeFault}
 use Rattle.dap_tree.specs.declared.fault.TreeFault.TheVariants.{Json, Fraction, Memory}
 
--- The JSON value that a document is written as: an id as its number.
+-- The JSON value that a document is written as. An id is written as its number.
 abbrev mutual
   pub data_of : Doc → json.Data
   data_of null = json.null
@@ -29,31 +29,32 @@ abbrev mutual
   members_data no_members = json.no_members
   members_data (member k d ms) = json.member k (data_of d) (members_data ms)
 
--- The compact text of a document (serde_json): no spaces, members in the byte order of their names.
+-- The compact text of a document (serde_json): without spaces, with members in the byte order of
+-- their names.
 abbrev pub text_of : Doc → List ℕ
 text_of d = compact_text (data_of d)
 
--- ---- the reading of a content
+-- ---- reading a content
 
--- The content is UTF-8, and is JSON text of this value (serde_json, which allows 127 levels and
--- keeps the last of equal names).
+-- The content is UTF-8, and is JSON text of this value (serde_json). At most 127 levels are
+-- allowed, and the last of several members of the same name counts.
 abbrev pub Reads : List ℕ → json.Data → Type 0
 Reads bytes d = IsUtf8 bytes × (read bytes ≡ Some d)
 
--- The content is the text of this document: each number is kept as a whole number, and none is an
--- id.
+-- The content is JSON text of this document: every number is an integer, and there is no id.
 abbrev pub IsRead : List ℕ → Doc → Type 0
 IsRead bytes d = Reads bytes (data_of d) × (has_id d ≡ false)
 
--- The content is no JSON text.
+-- The content is not JSON text.
 abbrev pub HasNoReading : List ℕ → Type 0
 HasNoReading bytes = (d : json.Data) → Reads bytes d → ⊥
 
--- The content is JSON text in which some number is not kept whole: serde_json has a float there.
+-- The content is JSON text in which some number is not an integer of 64 bits: serde_json reads it
+-- as a float.
 abbrev pub HasFraction : List ℕ → Type 0
 HasFraction bytes = (d : json.Data) × Reads bytes d × (has_float d ≡ true)
 
--- What a content turns out to be (own).
+-- The possible outcomes of reading a content (own).
 pub data Outcome : Type 0 where
   document : Doc → Outcome
   no_reading : Outcome
@@ -64,19 +65,19 @@ HasOutcome bytes (document d) = IsRead bytes d
 HasOutcome bytes no_reading = HasNoReading bytes
 HasOutcome bytes fraction = HasFraction bytes
 
--- What a fault tells of the content: memory that was refused tells nothing.
+-- What an error implies for the content. `Memory` implies nothing.
 abbrev pub ExplainsText : List ℕ → TreeFault → Type 0
 ExplainsText bytes Json = HasNoReading bytes
 ExplainsText bytes Fraction = HasFraction bytes
 ExplainsText bytes Memory = Unit {0}
 
--- What a fault tells of the content's outcome.
+-- What an error implies for the outcome of the content.
 abbrev pub Tells : Outcome → TreeFault → Type 0
 Tells o Json = o ≡ no_reading
 Tells o Fraction = o ≡ fraction
 Tells o Memory = Unit {0}
 
--- ---- for private clauses: a document beside a value that has been read
+-- ---- for private clauses: a document and the value that it was read from
 
 abbrev pub Stands : json.Data → Doc → Type 0
 Stands v d = (v ≡ data_of d) × (has_id d ≡ false)
@@ -87,7 +88,7 @@ ItemsStand vs ds = (vs ≡ items_data ds) × (items_have_id ds ≡ false)
 abbrev pub MembersStand : json.Members → Members → Type 0
 MembersStand vs ms = (vs ≡ members_data ms) × (members_have_id ms ≡ false)
 
--- What a fault tells of a value: whether it has a float.
+-- What an error implies for a value: whether it has a float.
 abbrev pub Explains : Bool → TreeFault → Type 0
 Explains float Json = ⊥
 Explains float Fraction = float ≡ true

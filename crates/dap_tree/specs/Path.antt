@@ -1,4 +1,4 @@
--- Places in a document.
+-- Paths into a document.
 use Rattle.std.specs.Prelude.{◌≡◌, ◌⊎◌, ℕ, zero, suc, ◌<◌, ℤ, List, [], ◌∷◌, map, AllPairs}
 use Rattle.std.specs.Prelude.{Contains, true, Option, Some, None, option_and_then}
 use Rattle.std.specs.Cmp.Lexicographic.{slice_cmp}
@@ -8,7 +8,7 @@ use Rattle.dap_tree.specs.Doc.{Doc, null, boolean, whole, text, list, object, id
 use Rattle.dap_tree.specs.Doc.{item, get}
 use Rattle.dap_tree.specs.Ids.{ids}
 
--- A step into a document (own): to a member by its name, or to an item by its place, from 0.
+-- A step into a document (own): to a member by its name, or to an item by its index, from 0.
 pub data Step : Type 0 where
   name : List ℕ → Step
   place : ℕ → Step
@@ -28,29 +28,29 @@ step (place n) (list ds) = get_item n ds
 step (place n) (object ms) = None
 step (place n) (id s z) = None
 
--- What stands at the path (own): None, where some step leads nowhere.
+-- The document at the path (own), or `None` if a step leads to nothing.
 abbrev pub at : List Step → Doc → Option Doc
 at [] d = Some d
 at (p ∷ ps) d = option_and_then (at ps) (step p d)
 
 -- ---- the order of paths
 
--- A step stands before another (own): its name is less in byte order, or its place is less.
+-- A step precedes another (own): its name is less in byte order, or its index is less.
 abbrev pub StandsBefore : Step → Step → Type 0
 StandsBefore (name k) (name l) = is_lt (slice_cmp nat_cmp k l) ≡ true
 StandsBefore (name k) (place n) = ⊥
 StandsBefore (place m) (name l) = ⊥
 StandsBefore (place m) (place n) = m < n
 
--- A path is before another (own): at the first step where they differ, its step stands before the
--- other's.
+-- A path precedes another (own): at the first step in which they differ, its step precedes that of
+-- the other.
 abbrev pub IsBefore : List Step → List Step → Type 0
 IsBefore [] qs = ⊥
 IsBefore (p ∷ ps) [] = ⊥
 IsBefore (p ∷ ps) (q ∷ qs) = StandsBefore p q ⊎ ((p ≡ q) × IsBefore ps qs)
 
--- The paths to the ids of a document (own): the i-th leads to the i-th id, each is before the later
--- ones, and no other path leads to an id.
+-- The paths to the ids of a document (own): the i-th path leads to the i-th id, each path precedes
+-- the later ones, and no other path leads to an id.
 pub record AreIdPaths (d : Doc) (paths : List (List Step)) : Type 0 where
   pub reached : map (λ p. at p d) paths ≡ map (λ i. Some (id i.0 i.1)) (ids d)
   pub ordered : AllPairs IsBefore paths

@@ -1,4 +1,4 @@
--- The type of an object's members, as the logic has it, for the clauses on what a `&mut` lends.
+-- The type of an object's members in the logic, for the clauses about what a `&mut` lends.
 use denote.RattleType.{RattleType}
 use Rattle.std.specs.contracts.alloc.Global as global
 use Rattle.std.specs.contracts.string.String as text

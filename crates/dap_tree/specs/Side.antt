@@ -3,12 +3,12 @@ use Rattle.std.specs.Prelude.{ℕ, Bool, true, false, List, codes}
 use Rattle.dap_tree.specs.declared.side.Side.{Side}
 use Rattle.dap_tree.specs.declared.side.Side.TheVariants.{Client, Adapter}
 
--- How a side is written (own).
+-- The name of a side in output (own).
 abbrev pub side_text : Side → List ℕ
 side_text Client = codes "client"
 side_text Adapter = codes "adapter"
 
--- The two sides are one.
+-- The two sides are the same.
 abbrev pub same_side : Side → Side → Bool
 same_side Client Client = true
 same_side Client Adapter = false

@@ -1,19 +1,19 @@
--- The sorts of ids, one after the other. What holds of each sort is said of this list.
+-- The list of the kinds of ids. Statements about each kind quantify over this list.
 use Rattle.std.specs.Prelude.{ℕ, Bool, eqb, List, [], ◌∷◌, codes}
 use Rattle.std.specs.List.{AllByRecursion}
 use Rattle.dap_tree.specs.declared.sort.Sort.{Sort}
 use Rattle.dap_tree.specs.declared.sort.Sort.TheVariants.{ClientSeq, AdapterSeq, Frame, Reference}
 use Rattle.dap_tree.specs.declared.sort.Sort.TheVariants.{Thread, Breakpoint}
 
--- All sorts, in their order.
+-- All kinds, in the order of the variants.
 abbrev pub all_sorts : List Sort
 all_sorts = ClientSeq ∷ AdapterSeq ∷ Frame ∷ Reference ∷ Thread ∷ Breakpoint ∷ []
 
--- So it is of each sort.
+-- The statement holds for each kind.
 abbrev pub EachSort : (Sort → Type 0) → Type 0
 EachSort P = AllByRecursion P all_sorts
 
--- The place of a sort among them, from 0.
+-- The index of a kind in the list, from 0.
 abbrev pub sort_number : Sort → ℕ
 sort_number ClientSeq = 0
 sort_number AdapterSeq = 1
@@ -25,7 +25,7 @@ sort_number Breakpoint = 5
 abbrev pub same_sort : Sort → Sort → Bool
 same_sort s t = eqb (sort_number s) (sort_number t)
 
--- How a sort is written (own).
+-- The name of a kind in output (own).
 abbrev pub sort_word : Sort → List ℕ
 sort_word ClientSeq = codes "client-seq"
 sort_word AdapterSeq = codes "adapter-seq"

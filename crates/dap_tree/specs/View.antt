@@ -1,4 +1,4 @@
--- The document that a `Tree` stands for.
+-- The document that a `Tree` represents.
 use Rattle.std.specs.Prelude.{List, [], ◌∷◌, map, String, string_bytes}
 use Rattle.std.specs.declared.alloc.Global.{Global}
 use Rattle.dap_tree.specs.Doc.{Doc, null, boolean, whole, text, list, object, id, Items, no_items}
@@ -14,7 +14,7 @@ abbrev pub members_of : List (String Global × Doc) → Members
 members_of [] = no_members
 members_of (m ∷ ms) = member (string_bytes m.0) m.1 (members_of ms)
 
--- One level, with each tree inside already seen as its document.
+-- One level of a tree, in which each inner tree is already replaced by its document.
 abbrev pub view_step : Tree-F Doc → Doc
 view_step Tree-F.Null = null
 view_step (Tree-F.Bool b) = boolean b

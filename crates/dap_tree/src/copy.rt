@@ -1,4 +1,4 @@
-//! Copies of trees, with memory of their own.
+//! Deep copies of trees.
 ghost use Rattle.std.specs.Prelude.{◌≡◌, true, IfOk, IfErr, IsOk};
 ghost use Rattle.dap_tree.specs.Doc.{has_fixed_size};
 ghost use Rattle.dap_tree.specs.View.{view, items_view, members_view};
@@ -9,7 +9,12 @@ use std::alloc::{AllocError, Global};
 use std::collections::BTreeMap;
 
 impl Tree {
-    /// An equal tree, with memory of its own. A copy of null, a boolean or a number takes none.
+    /// Returns an equal tree with its own memory. A copy of null, a boolean or a number does not
+    /// allocate.
+    ///
+    /// # Errors
+    ///
+    /// - `Memory`: an allocation failed.
     pub fn copy(&self, alloc: Global) -> Result<Tree, TreeFault>
         ensures equal { IfOk result (λ t. view t ≡ view self.now) }
         ensures memory { IfErr result (λ f. f ≡ TreeFault.Memory) }

@@ -1,21 +1,27 @@
-//! Why a tree is not read or written.
+//! The error of reading, writing and copying trees.
 ghost use Rattle.std.specs.Prelude.{◌≡◌};
 
 use std::alloc::{AllocError, AllocFailed};
 use thiserror::Error;
 
-/// Why there is no tree, or no text.
+/// Why a tree could not be read, written or copied.
 #[derive(Clone, Copy, Debug, PartialEq, Eq, Error)]
 pub enum TreeFault {
-    /// The content is no UTF-8 or no JSON, nests more than 127 lists and objects, or has a number
-    /// past the largest 64-bit float, as `1e999` or an integer of 400 digits.
+    /// The content is not UTF-8 or not JSON, nests more than 127 lists and objects, or has a number
+    /// that is larger than the largest 64-bit float, such as `1e999`.
+    ///
+    /// - Cause: another encoding, `NaN`, a comma too many.
+    /// - Fix: fix the sender.
     #[error("Json")]
     Json,
-    /// Some number is not kept whole: it has a fraction or an exponent, is `-0`, or is an integer
-    /// that does not fit 64 bits. None is past the largest 64-bit float.
+    /// A number has a fraction or an exponent, is `-0`, or is an integer that does not fit 64 bits.
+    ///
+    /// - Cause: usually a time or a share in a member of the adapter's own, such as `statistics` in
+    ///   the `terminated` event of lldb 16 and later.
+    /// - Fix: remove it with a `blank` rule, or let the adapter leave it out or round it.
     #[error("Fraction")]
     Fraction,
-    /// Memory was refused.
+    /// An allocation failed.
     #[error("Memory")]
     Memory,
 }

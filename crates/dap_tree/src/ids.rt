@@ -1,4 +1,4 @@
-//! The ids of a tree: listed, and replaced by other numbers.
+//! Lists the ids of a tree, and replaces their numbers.
 ghost use Rattle.std.specs.Prelude.{◌≡◌, ◌++◌, ◌≤◌, [], true, length, drop, IsOk, OnOk, OnErr};
 ghost use Rattle.dap_tree.specs.Doc.{depth, items_depth, members_depth, is_sound, is_ordered};
 ghost use Rattle.dap_tree.specs.Doc.{items_ordered, members_ordered};
@@ -13,14 +13,18 @@ use std::alloc::AllocError;
 use std::collections::BTreeMap;
 
 impl Tree {
-    /// Appends the ids of the tree, each its sort and its number, in the order in which the text of
-    /// the tree has them. A tree without ids takes no memory.
+    /// Appends the ids of the tree to `found`, in the order in which they occur in the tree's JSON
+    /// text. Each id is a pair of its kind and its number. A tree without ids does not allocate.
+    ///
+    /// # Errors
+    ///
+    /// - `AllocError`: an allocation failed. `found` is unchanged, except for its capacity.
     pub fn add_ids(&self, found: &mut Vec<(Sort, i64)>) -> Result<(), AllocError>
         ensures ok { OnOk result (found.new.items ≡ found.old.items ++ ids (view self.now)) }
         ensures err { OnErr result (found.new.items ≡ found.old.items) }
         ensures none { ids (view self.now) ≡ [] → IsOk result }
 
-        // So the order of the ids is that of their paths.
+        // Therefore the ids are also in the order of their paths.
         ensures ordered { OnOk result (is_ordered (view self.now) ≡ true) }
     {
         let before = found.len();
@@ -31,16 +35,15 @@ impl Tree {
         added
     }
 
-    /// Gives the ids of the tree other numbers, in the order in which the text of the tree has
-    /// them.
+    /// Replaces the numbers of the ids, in the order in which they occur in the tree's JSON text.
     ///
-    /// The tree is changed in place, and no memory is taken.
+    /// Changes the tree in place. Does not allocate.
     pub fn replace_ids(&mut self, numbers: &[i64])
         requires sound { is_sound (view self.old) ≡ true }
         requires one_each { length numbers.now ≡ id_count (view self.old) }
         ensures replaced { view self.new ≡ with_ids (view self.old) numbers.now }
 
-        // The numbers are those, and nothing else is changed.
+        // The ids have these numbers, and nothing else is changed.
         ensures numbers { numbers_of (ids (view self.new)) ≡ numbers.now }
         ensures alike { skeleton (view self.new) ≡ skeleton (view self.old) }
         ensures sound { is_sound (view self.new) ≡ true }
@@ -98,9 +101,9 @@ fn add_members(
     Ok(())
 }
 
-// What is left of the numbers after one for each id of the tree.
-// A walk of its own, which `put_members` takes, since nothing is known of a closure's captures
-// after `retain`.
+// Returns the numbers after the first n, if the tree has n ids. A separate traversal, which
+// `put_members` uses, because the value of a variable that a closure captured is unknown after
+// `retain`.
 #[cycle(skip)]
 fn skip<'a>(tree: &Tree, numbers: &'a [i64]) -> &'a [i64]
     ensures { result.now ≡ drop (id_count (view tree.now)) numbers.now }
@@ -138,8 +141,8 @@ fn skip_members<'a>(members: &BTreeMap<String, Tree>, numbers: &'a [i64]) -> &'a
     rest
 }
 
-// The i-th number at the i-th id of a tree that nests at most so many levels, and what is left of
-// the numbers.
+// Sets the i-th id of a tree to the i-th number and returns the remaining numbers. The tree nests
+// at most `levels` deep.
 #[cycle(put)]
 fn put<'a>(tree: &mut Tree, numbers: &'a [i64], levels: u8) -> &'a [i64]
     requires { depth (view tree.old) ≤ levels }

@@ -1,4 +1,5 @@
-//! Laws of the definitions that the contracts of this crate speak in. Each function does nothing.
+//! Theorems about the definitions that the contracts of this crate use. Each function is empty:
+//! calling it makes its `ensures` clauses available to the caller's proof.
 ghost use Rattle.dap_tree.specs.Laws.{SomeOutcome, OneOutcome, ReadIsPlain, ReadIsOrdered};
 ghost use Rattle.dap_tree.specs.Laws.{ReadIsUtf8, ChangesMember, KeepsMembers, ChangesPaths};
 ghost use Rattle.dap_tree.specs.Laws.{KeepsPaths, ChangesItems, LeavesMembers};
@@ -9,24 +10,24 @@ ghost use Rattle.dap_tree.specs.Laws.{SkeletonIsAsSound, SkeletonIsAsOrdered, Sk
 ghost use Rattle.dap_tree.specs.Laws.{WithoutIdsIsPlain, WithoutIdsIsSame, HasSameText, TextIsRead};
 ghost use Rattle.dap_tree.specs.Laws.{IdsStandByPath};
 
-/// Every content is one of three, and one alone: the text of one tree, no JSON, or JSON with a
-/// fraction.
+/// States that every content has exactly one of three outcomes: it is the text of one tree, it is
+/// not JSON, or it is JSON with a number that is not an integer of 64 bits.
 pub fn one_outcome()
     ensures some { SomeOutcome }
     ensures one { OneOutcome }
 {}
 
-/// A content nests no deeper than a tree may, its whole numbers are in range, and it has no ids.
+/// States that a tree that was read is sound and has no ids.
 ///
-/// The members of its objects stand in the byte order of their names, each name once. Its texts and
-/// names are UTF-8.
+/// The members of its objects are in the byte order of their names, and each name occurs once. Its
+/// strings and names are UTF-8.
 pub fn read_is_plain()
     ensures plain { ReadIsPlain }
     ensures ordered { ReadIsOrdered }
     ensures utf8 { ReadIsUtf8 }
 {}
 
-/// A change at one name changes the member of that name and nothing else.
+/// States that a change at a name changes the member of that name and nothing else.
 pub fn changes_one_member()
     ensures member { ChangesMember }
     ensures members { KeepsMembers }
@@ -34,13 +35,13 @@ pub fn changes_one_member()
     ensures paths { KeepsPaths }
 {}
 
-/// A change of the items of a list changes each of them and nothing else.
+/// States that a change of the items of an array changes each item and nothing else.
 pub fn changes_items()
     ensures items { ChangesItems }
     ensures members { LeavesMembers }
 {}
 
-/// The i-th number goes to the i-th id, and nothing else changes.
+/// States that the i-th id is set to the i-th number, and that nothing else changes.
 pub fn numbers_ids()
     ensures none { FindsNoIds }
     ensures count { CountsIds }
@@ -50,7 +51,8 @@ pub fn numbers_ids()
     ensures sound { KeepsSound }
 {}
 
-/// Two documents have one skeleton exactly where they differ at most in the numbers of their ids.
+/// States that two documents have the same skeleton if and only if they differ at most in the
+/// numbers of their ids.
 pub fn skeletons_are_all_but_numbers()
     ensures same { KeepsSkeleton }
     ensures differ { DiffersInNumbers }
@@ -63,7 +65,7 @@ pub fn skeletons_are_all_but_numbers()
     ensures utf8 { SkeletonIsAsUtf8 }
 {}
 
-/// The ids of a document may be whole numbers, and the text is the same.
+/// States that replacing the ids of a document by integers does not change its text.
 pub fn ids_are_written_as_numbers()
     ensures plain { WithoutIdsIsPlain }
     ensures same { WithoutIdsIsSame }
@@ -71,7 +73,7 @@ pub fn ids_are_written_as_numbers()
     ensures read { TextIsRead }
 {}
 
-/// Ids in the order of the text are ids in the order of their paths.
+/// States that ids in the order of the text are ids in the order of their paths.
 pub fn ids_stand_by_path()
     ensures { IdsStandByPath }
 {}

@@ -1,5 +1,4 @@
-//! JSON trees of whole numbers and ids: read from a content, looked into, changed, copied and
-//! written.
+//! JSON trees of integers and ids: reading, lookup, changes, copies and writing.
 #![tactic(auto)]
 
 mod copy;

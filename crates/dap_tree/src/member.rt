@@ -1,4 +1,4 @@
-//! The members of an object by name: looked up, lent, put in place.
+//! The members of an object: looked up by name, borrowed and replaced.
 ghost use Rattle.std.specs.Prelude.{◌≡◌, Some, None, String, option_map, IfOk, IfErr};
 ghost use Rattle.std.specs.Borrow.{sem};
 ghost use Rattle.std.specs.BTreeMap.{BTreeMap};
@@ -17,7 +17,8 @@ use std::collections::BTreeMap;
 use std::mem;
 
 impl Tree {
-    /// The member of that name: `None` where there is none, or the tree is no object.
+    /// Returns the member of that name, or `None` if there is no such member or the tree is not an
+    /// object.
     pub fn child(&self, name: &str) -> Option<&Tree>
         ensures { option_map (λ t. view t.now) result ≡ get name.now (view self.now) }
     {
@@ -27,11 +28,11 @@ impl Tree {
         }
     }
 
-    /// The member of that name, to be written.
+    /// Returns a mutable reference to the member of that name.
     ///
-    /// `None` where there is no such member, or the tree is no object.
-    /// The proof of a caller reads nothing from `writes_back`, since a tree is lent out of a tree.
-    /// Where a proof rests on what a write leaves, call `set_child`, `with_child` or `members_mut`.
+    /// Returns `None` if there is no such member or the tree is not an object. The proof of a
+    /// caller cannot use `writes_back`, because a tree is borrowed from a tree. If a proof depends
+    /// on the tree after a write, call `set_child`, `with_child` or `members_mut` instead.
     pub fn child_mut(&mut self, name: &str) -> Option<&mut Tree>
         ensures* writes_back { sem 𝓛 (LendsChild self.entry name.now result) }
         ensures value { option_map (λ t. view t.now) result ≡ get name.now (view self.old) }
@@ -39,7 +40,8 @@ impl Tree {
         lend_child(self, name)
     }
 
-    /// The members of an object, to be written: `None` where the tree is no object.
+    /// Returns a mutable reference to the members of an object, or `None` if the tree is not an
+    /// object.
     pub fn members_mut(&mut self) -> Option<&mut BTreeMap<String, Tree>>
         ensures* writes_back { sem 𝓛 (LendsMembers self.entry result) }
         ensures value { option_map (λ m. members_view m.now.entries) result
@@ -52,9 +54,11 @@ impl Tree {
         }
     }
 
-    /// Puts a tree in the place of the member of that name, and gives the old member back.
+    /// Replaces the member of that name and returns the old member.
     ///
-    /// Where there is no such member nothing changes, and the new tree comes back as the error.
+    /// # Errors
+    ///
+    /// - The new tree: there is no such member, or the tree is not an object. Nothing is changed.
     pub fn set_child(&mut self, name: &str, tree: Tree) -> Result<Tree, Tree>
         ensures changed { view self.new ≡ change_child name.now (λ _. view tree) (view self.old) }
         ensures ok { IfOk result (λ old. get name.now (view self.old) ≡ Some (view old)) }
@@ -70,13 +74,15 @@ impl Tree {
         }
     }
 
-    /// Lends the member of that name to a function, where there is one.
+    /// Calls a function with a mutable reference to the member of that name, if it exists.
+    ///
+    /// Otherwise, changes nothing and does not call the function.
     pub fn with_child<F: FnOnce(&mut Tree)>(&mut self, name: &str, f: F)
         requires { F.IsAlwaysCallable f }
         ensures called { ChangesBy (λ t u. FnOnceReturnsAtMut F.FnOnce f t tt u) name.now
             (view self.old) (view self.new) }
 
-        // Where a change of documents describes the function.
+        // If a change of documents describes the function, the tree is changed by it.
         ensures changed { (change : Doc → Doc)
             → ((t u : Tree) → FnOnceReturnsAtMut F.FnOnce f t tt u → view u ≡ change (view t))
             → view self.new ≡ change_child name.now change (view self.old) }
@@ -89,8 +95,8 @@ impl Tree {
     }
 }
 
-// What may have members. The borrow checker follows no loan of a tree out of a tree,
-// so `lend_child` lends it out of any such type.
+// A type that may have members. The borrow checker does not follow a tree borrowed from a tree, so
+// `lend_child` borrows it from any type that implements this trait.
 trait HasMembers {
     ghost document: { Self → Doc };
 

@@ -1,4 +1,4 @@
-//! A tree in one pass over the tokens of a text, where no number has a fraction.
+//! Parses a tree in one pass over the tokens of a string, if every number is an integer of 64 bits.
 ghost use Rattle.std.specs.Prelude.{◌≡◌, ◌<◌, ◌==◌, true, false, length, slice_index, IsTrue, IfOk};
 ghost use Rattle.std.specs.Prelude.{OnOk, IsErrOf};
 ghost use Rattle.json.specs.Json.{value, items, members};
@@ -17,14 +17,15 @@ use json::{Invalid, Reader, Scratch, Token};
 use std::alloc::{AllocError, AllocFailed, Global};
 use std::collections::BTreeMap;
 
-/// As many levels as `serde_json` reads.
+/// The maximum nesting depth, that of `serde_json`.
 const MAX_DEPTH: usize = 127;
 
-/// Why a text was not read in one pass.
+/// Why a string could not be parsed in one pass.
 #[derive(Clone, Copy, Drop)]
 pub(crate) enum Unread {
     Memory,
-    /// It may be no JSON, or have a fraction, which a later member of the same name may replace.
+    /// The string may be invalid JSON, or contain a number that is not an integer of 64 bits. A
+    /// later member of the same name may replace that number.
     Unclear,
 }
 
@@ -46,7 +47,7 @@ impl From<Invalid> for Unread {
     }
 }
 
-/// Reads the tree of a content, with room that is kept from read to read.
+/// Parses the tree of a content. Reuses the buffer `scratch`.
 pub(crate) fn parse(alloc: Global, content: &[u8], scratch: &mut Scratch) -> Result<Tree, Unread>
     ensures ok { IfOk result (λ t. IsRead content.now (view t)) }
     ensures memory { IsErrOf result Memory → 0 < length content.now }
@@ -138,7 +139,7 @@ fn parse_members(
     Ok(found)
 }
 
-/// The whole number that a token of JSON writes.
+/// Returns the integer that a JSON number token represents.
 #[inline(always)]
 fn whole(text: &str) -> Result<Tree, Unread>
     ensures { IfOk result (λ t. IsNumberOf (number_of text.now) (view t)) }
@@ -169,7 +170,7 @@ fn unsigned(numeral: &Numeral<'_>) -> Result<Tree, Unread>
     }
 }
 
-/// The same behind a minus; `-0` is no whole number.
+/// Returns the negative integer of the digits after a minus sign; `-0` is not an integer.
 #[inline(always)]
 fn negative(numeral: &Numeral<'_>) -> Result<Tree, Unread>
     ensures { IfOk result (λ t. IsNumberOf (number_from true numeral.now) (view t)) }

@@ -1,4 +1,4 @@
-//! Whether a tree is one that a content may be read as.
+//! Whether a tree could have been read from a content.
 ghost use Rattle.std.specs.Prelude.{◌≡◌};
 ghost use Rattle.dap_tree.specs.Doc.{is_plain, has_id as holds_id, items_have_id as items_hold_id};
 ghost use Rattle.dap_tree.specs.Doc.{members_have_id as members_hold_id};
@@ -8,7 +8,7 @@ use crate::Tree;
 use std::collections::BTreeMap;
 
 impl Tree {
-    /// Whether the tree may be what a content is read as: sound, and no id in it.
+    /// Returns whether the tree is sound and has no ids. Every tree that was read is plain.
     pub fn plain(&self) -> bool
         ensures { result ≡ is_plain (view self.now) }
     {

@@ -17,17 +17,22 @@ use serde_json::{Map, Number, Value};
 use std::alloc::Global;
 use std::collections::BTreeMap;
 
-/// Reads the tree of a content.
+/// Reads the tree of a JSON content. If a member name occurs twice, the last one counts.
 ///
-/// Of members with one name the last stays.
-/// `Memory` may come for any content that is not empty, and says nothing of it.
+/// # Errors
+///
+/// - `Memory`: an allocation failed. It is possible for any content that is not empty, and nothing
+///   is claimed about the content.
+/// - `Json`: the content is not UTF-8, is not JSON, nests more than 127 arrays and objects, or
+///   contains a number beyond the largest 64-bit float.
+/// - `Fraction`: the content is JSON, and a number is not an integer of 64 bits.
 pub fn read_tree(alloc: Global, content: &[u8]) -> Result<Tree, TreeFault>
     ensures ok { IfOk result (λ t. IsRead content.now (view t)) }
     ensures plain { IfOk result (λ t. is_plain (view t) ≡ true) }
     ensures err { IfErr result (ExplainsText content.now) }
     ensures memory { IsErrOf result TreeFault.Memory → 0 < length content.now }
 
-    // And the other way round: the outcome of the content is what the answer says.
+    // Conversely, the result agrees with the outcome of the content.
     ensures exactly { (o : Outcome) → HasOutcome content.now o
         → MatchResult result (λ t. o ≡ document (view t)) (Tells o) }
 {
@@ -35,9 +40,9 @@ pub fn read_tree(alloc: Global, content: &[u8]) -> Result<Tree, TreeFault>
     read_tree_with(alloc, content, &mut scratch)
 }
 
-/// Does what [`read_tree`] does, with room that is kept from read to read.
+/// Does the same as [`read_tree`], and reuses the buffer `scratch`.
 ///
-/// What the room holds is of no matter.
+/// The contents of the buffer do not affect the result.
 pub fn read_tree_with(
     alloc: Global,
     content: &[u8],
@@ -48,7 +53,7 @@ pub fn read_tree_with(
     ensures err { IfErr result (ExplainsText content.now) }
     ensures memory { IsErrOf result TreeFault.Memory → 0 < length content.now }
 
-    // And the other way round: the outcome of the content is what the answer says.
+    // Conversely, the result agrees with the outcome of the content.
     ensures exactly { (o : Outcome) → HasOutcome content.now o
         → MatchResult result (λ t. o ≡ document (view t)) (Tells o) }
 {
@@ -59,7 +64,8 @@ pub fn read_tree_with(
     }
 }
 
-/// The same in two passes: whether some number is not kept whole is known only of the whole value.
+/// Reads the tree in two passes. Only the complete value determines whether a number is not an
+/// integer of 64 bits, because a later member of the same name may replace it.
 fn read_value(alloc: Global, content: &[u8]) -> Result<Tree, TreeFault>
     ensures ok { IfOk result (λ t. IsRead content.now (view t)) }
     ensures err { IfErr result (ExplainsText content.now) }

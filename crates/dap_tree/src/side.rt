@@ -1,12 +1,12 @@
 //! The two sides of a session.
 use std::fmt;
 
-/// The two sides of a session: each sends messages to the other.
+/// The two sides of a session. Each sends messages to the other.
 #[derive(Clone, Copy, Debug, PartialEq, Eq)]
 pub enum Side {
-    /// The development tool, as an editor, which starts the session.
+    /// The development tool, such as an editor, which starts the session.
     Client,
-    /// The debug adapter, which speaks for the debugger.
+    /// The debug adapter, which acts for the debugger.
     Adapter,
 }
 

@@ -1,28 +1,29 @@
-//! The sorts of ids.
+//! The kinds of ids.
 ghost use Rattle.std.specs.Prelude.{◌≡◌};
 ghost use Rattle.dap_tree.specs.Sorts.{sort_word};
 
-/// What a number stands for that one side hands out and messages name again.
+/// The kind of an id: a number that one side assigns and that later messages refer to.
 ///
-/// Ids of different sorts have nothing to do with each other, even where their numbers are equal.
-/// Pairs of ids stand in the order of the variants.
+/// Ids of different kinds are unrelated, even if their numbers are equal. Pairs of ids are ordered
+/// by these variants.
 #[derive(Clone, Copy, Debug, PartialEq, Eq, PartialOrd, Ord)]
 pub enum Sort {
     /// The `seq` of a message of the client, and the `request_seq` of the response to it.
     ClientSeq,
     /// The `seq` of a message of the adapter, and the `request_seq` of the response to it.
     AdapterSeq,
-    /// The adapter's number for a stack frame, good until the debuggee goes on.
+    /// The adapter's number for a stack frame, valid until the debuggee continues.
     Frame,
-    /// The adapter's number for variables that can be asked for, good until the debuggee goes on.
+    /// The adapter's number for variables that the client can request, valid until the debuggee
+    /// continues.
     Reference,
-    /// The adapter's number for a thread of the debuggee; zero is a number like any other.
+    /// The adapter's number for a thread of the debuggee. Zero is a valid id.
     Thread,
-    /// The adapter's number for a breakpoint; zero is a number like any other.
+    /// The adapter's number for a breakpoint. Zero is a valid id.
     Breakpoint,
 }
 
-/// All sorts of ids, in their order.
+/// All kinds of ids, in the order of the variants.
 pub const SORTS: [Sort; 6] = [
     Sort::ClientSeq,
     Sort::AdapterSeq,
@@ -33,7 +34,7 @@ pub const SORTS: [Sort; 6] = [
 ];
 
 impl Sort {
-    /// How it is written: lower case, with a hyphen between words.
+    /// Returns the name of the kind in output: lower case, with hyphens.
     pub fn word(self) -> &'static str
         ensures { result.now ≡ sort_word self }
     {

@@ -7,14 +7,14 @@ ghost use Rattle.dap_tree.specs.View.{view, items_view, members_view};
 use crate::Tree;
 use std::collections::BTreeMap;
 
-/// How deep lists and objects may nest.
+/// The maximum nesting depth of arrays and objects.
 pub(crate) const MAX_DEPTH: u8 = 127;
 
 impl Tree {
-    /// Whether the tree can be written and read back.
+    /// Returns whether the tree can be written and read back.
     ///
-    /// Lists and objects nest at most 127 deep, an empty one counted as one level,
-    /// and each whole number is from -2^63 to 2^64 - 1. An id always fits.
+    /// Arrays and objects nest at most 127 deep, where an empty one counts as one level, and each
+    /// integer is from -2^63 to 2^64 - 1. An id always fits.
     pub fn sound(&self) -> bool
         ensures { result ≡ is_sound (view self.now) }
     {

@@ -1,11 +1,12 @@
-//! JSON values with whole numbers and marked ids.
+//! JSON values with integers and marked ids.
 use crate::Sort;
 use std::collections::BTreeMap;
 
-/// A JSON value whose numbers are whole, where some of them may be ids.
+/// A JSON value whose numbers are integers, some of which may be ids.
 ///
-/// The members of an object stand in the byte order of their names, each name once. Trees that are
-/// made by hand may nest deeper, and hold larger numbers, than JSON of ours does: `sound` tells.
+/// The members of an object are in the byte order of their names, and each name occurs once. A tree
+/// that a program constructs may nest deeper, or contain larger numbers, than a content may:
+/// `sound` reports this.
 #[derive(Drop)]
 pub enum Tree {
     Null,
@@ -14,6 +15,6 @@ pub enum Tree {
     Text(String),
     List(Vec<Tree>),
     Object(BTreeMap<String, Tree>),
-    /// A number that stands for something, and is written as that number.
+    /// A number that identifies something; it is written as that number.
     Id(Sort, i64),
 }

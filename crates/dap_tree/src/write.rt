@@ -1,4 +1,4 @@
-//! A tree written as compact JSON.
+//! Writes a tree as compact JSON.
 ghost use Rattle.std.specs.Prelude.{◌≡◌, ◌++◌, true, IfOk, IfErr, OnOk, OnErr, string_bytes};
 ghost use Rattle.dap_tree.specs.Doc.{whole, in_range, all_in_range, items_in_range};
 ghost use Rattle.dap_tree.specs.Doc.{members_in_range, is_sound};
@@ -14,8 +14,12 @@ use std::alloc::{AllocError, Global};
 use std::collections::BTreeMap;
 use std::mem;
 
-/// Writes a sound tree as compact JSON: no spaces, members in the byte order of their names, an id
-/// as its number.
+/// Writes a sound tree as compact JSON: without spaces, with members in the byte order of their
+/// names, and with each id as its number.
+///
+/// # Errors
+///
+/// - `Memory`: an allocation failed.
 pub fn write_tree(alloc: Global, tree: &Tree) -> Result<String, TreeFault>
     requires { is_sound (view tree.now) ≡ true }
     ensures text { IfOk result (λ s. string_bytes s ≡ text_of (view tree.now)) }
@@ -27,9 +31,12 @@ pub fn write_tree(alloc: Global, tree: &Tree) -> Result<String, TreeFault>
     Ok(String::from_utf8(out.into_inner()).unwrap())
 }
 
-/// Appends the text of a sound tree, as [`write_tree`] writes it.
+/// Appends the JSON text of a sound tree to `out`, the text that [`write_tree`] returns.
 ///
-/// On an error `out` holds what it held; its capacity may have grown.
+/// # Errors
+///
+/// - `Memory`: an allocation failed. The contents of `out` are unchanged; its capacity may have
+///   grown.
 pub fn write_tree_to(alloc: Global, tree: &Tree, out: &mut Vec<u8>) -> Result<(), TreeFault>
     requires { is_sound (view tree.now) ≡ true }
     ensures text { OnOk result (out.new.items ≡ out.old.items ++ text_of (view tree.now)) }

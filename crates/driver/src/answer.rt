@@ -1,4 +1,4 @@
-//! The answer to a call.
+//! Formats the response to a call.
 ghost use Rattle.std.specs.Prelude.{IfOk};
 ghost use Rattle.driver.specs.Devices.{AreNew};
 
@@ -10,7 +10,7 @@ use fault_injection::{refuse_growth, was_refused};
 use std::alloc::{AllocError, Global};
 use std::hash::RandomState;
 
-/// Takes the line of an error.
+/// The output for the line of an error.
 const ERRORS: Output = Output {
     room: 4096,
     piece: 4096,
@@ -19,7 +19,7 @@ const ERRORS: Output = Output {
     fails_to_flush: false,
 };
 
-/// Makes the devices that a call asks for.
+/// Returns the sources and sinks that a call requests.
 fn devices_of<'a>(alloc: Global, call: &Call<'a>) -> Result<Devices<'a>, AllocError>
     ensures { IfOk result AreNew }
 {
@@ -31,7 +31,7 @@ fn devices_of<'a>(alloc: Global, call: &Call<'a>) -> Result<Devices<'a>, AllocEr
     })
 }
 
-/// Returns the text of a result of `compare`, and its pairs, one line for each.
+/// Returns the text of a result of `compare`, and its pairs, one per line.
 fn compared_text(
     alloc: Global,
     answer: &Result<Verdict, CompareRefused>,
@@ -86,9 +86,15 @@ fn parts_of(
     Ok((text, Vec::from_slice(alloc, written)?))
 }
 
-/// Returns the bytes of an answer. A line has the numbers of bytes that each input gave, the number
-/// of flushes, whether an allocation was refused, how many bytes follow, and the outcome. After it
-/// come the bytes of the outcome, and the line of an error.
+/// Returns the bytes of a response. The first line contains these words:
+///
+/// - the number of bytes read from each input;
+/// - the number of flushes;
+/// - 1 if an allocation failed, and otherwise 0;
+/// - the number of bytes of the outcome, and of the error line;
+/// - the text of the outcome.
+///
+/// The bytes of the outcome follow, and then the error line.
 fn bytes_of(
     alloc: Global,
     devices: &Devices<'_>,
@@ -110,7 +116,7 @@ fn bytes_of(
     Ok(bytes)
 }
 
-/// Calls the function and returns its answer.
+/// Calls the function and returns its response.
 pub fn answer_to(
     alloc: Global,
     call: &Call<'_>,

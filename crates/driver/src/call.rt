@@ -1,4 +1,4 @@
-//! A call of an engine, read from its line and its bytes.
+//! Reads a call of a command function from its line and its bytes.
 use crate::devices::{Input, Output};
 use crate::words::{Words, take};
 use anyhow::{Context, Result, bail};
@@ -17,7 +17,7 @@ pub enum Function {
     Compare,
     /// `normalise_bytes`.
     NormalText,
-    /// `normalise_bytes` of both inputs, and whether the texts are the same.
+    /// `normalise_bytes` of both inputs, and whether the results are the same.
     SameTexts,
     /// `run_stream` with this job.
     RunStream(Job<'static>),
@@ -25,28 +25,28 @@ pub enum Function {
     RunDiff,
 }
 
-/// The name tables that the engine is called with.
+/// The name tables that are passed to the command function.
 #[derive(Clone, Copy)]
 pub enum Handed {
-    /// None: the engine makes its own.
+    /// No tables: the function creates its own.
     Own,
-    /// Tables that look for a number from the front.
+    /// Tables that search an id linearly.
     Plain,
-    /// Tables that look by a hash.
+    /// Tables that search an id by its hash.
     Indexed,
 }
 
-/// A call of an engine.
+/// A call of a command function.
 #[derive(Clone, Copy)]
 pub struct Call<'a> {
     pub function: Function,
     pub handed: Handed,
     pub mode: Mode,
-    /// Whether each request needs a response.
+    /// Whether each request requires a response.
     pub complete: bool,
     pub limits: Limits,
     pub output: Output,
-    /// The number of the allocation that is refused, counted from 1; 0 for none.
+    /// The number of the allocation that fails, counted from 1, or 0 for no failure.
     pub turn: u16,
     pub a: Input<'a>,
     pub b: Input<'a>,
@@ -112,7 +112,7 @@ fn output_of(words: &mut Words<'_>) -> Result<Output> {
     })
 }
 
-/// Reads how an input comes. The bytes of its two texts come after the line.
+/// Reads the description of an input. The bytes of its two texts follow the line.
 fn input_of<'a>(words: &mut Words<'_>, bytes: &mut &'a [u8]) -> Result<Input<'a>> {
     Ok(Input {
         text: take(bytes, words.count()?)?,

@@ -1,24 +1,24 @@
-//! Devices that give and take little at a time, and fail after as many bytes as a call says. No
-//! contract names their bytes.
+//! Sources and sinks that transfer few bytes per call, and fail after a given number of bytes.
+//! Their models do not include the bytes.
 ghost use Rattle.std.specs.Prelude.{◌≡◌, None, IfOk};
 
 use dapnorm::{DeviceFault, Sink, Source};
 use std::alloc::{AllocError, Global};
 
-/// How an input comes.
+/// The behaviour of an input.
 #[derive(Clone, Copy)]
 pub struct Input<'a> {
-    /// What is read first.
+    /// The bytes that are read first.
     pub text: &'a [u8],
-    /// What comes after it, for ever. If it is empty, the input ends.
+    /// The bytes that follow, repeated forever. If empty, the input ends.
     pub then: &'a [u8],
-    /// The most bytes that one read returns.
+    /// The maximum number of bytes that one read returns.
     pub piece: usize,
     /// The number of bytes after which a read fails.
     pub fails_at: u64,
 }
 
-/// Reads an input.
+/// A source that behaves as its input describes.
 #[derive(Drop)]
 pub struct TestSource<'a> {
     input: Input<'a>,
@@ -27,7 +27,7 @@ pub struct TestSource<'a> {
 }
 
 impl<'a> TestSource<'a> {
-    /// Makes a source of which nothing was read.
+    /// Returns a source of which nothing has been read.
     pub fn new(input: Input<'a>) -> TestSource<'a>
         ensures given { result.given ≡ 0 }
         ensures failures { result.failures ≡ 0 }
@@ -77,22 +77,22 @@ impl Source for TestSource<'_> {
     }
 }
 
-/// How an output takes bytes.
+/// The behaviour of an output.
 #[derive(Clone, Copy)]
 pub struct Output {
     /// The number of bytes that are allocated at the start.
     pub room: usize,
-    /// The most bytes that one write takes.
+    /// The maximum number of bytes that one write consumes.
     pub piece: usize,
     /// The number of bytes after which a write fails.
     pub fails_at: usize,
-    /// Whether a write takes nothing there, in place of an error.
+    /// Whether such a write consumes nothing instead of failing.
     pub takes_nothing: bool,
     /// Whether a flush fails.
     pub fails_to_flush: bool,
 }
 
-/// Keeps what is written to it.
+/// A sink that stores the bytes written to it.
 #[derive(Drop)]
 pub struct TestSink {
     bytes: Vec<u8>,
@@ -104,7 +104,7 @@ pub struct TestSink {
 }
 
 impl TestSink {
-    /// Makes a sink to which nothing was written.
+    /// Returns a sink to which nothing has been written.
     pub fn new(alloc: Global, output: Output) -> Result<TestSink, AllocError>
         ensures { IfOk result (λ s. s.failures ≡ 0) }
     {
@@ -165,7 +165,7 @@ impl Sink for TestSink {
     }
 }
 
-/// The devices of a call.
+/// The sources and sinks of a call.
 #[derive(Drop)]
 pub struct Devices<'a> {
     pub a: TestSource<'a>,

@@ -1,4 +1,5 @@
-//! The engines of `dapnorm`, called by functions that promise nothing, which are cheap to prove.
+//! Calls the command functions of `dapnorm` from functions without contracts, which are cheap to
+//! prove.
 ghost use Rattle.std.specs.Prelude.{◌≡◌, IfOk, IsTrue};
 ghost use Rattle.dap_rename.specs.IndexNames.{index_limit, index_numbers};
 ghost use Rattle.dap_rename.specs.PlainNames.{plain_limit, plain_numbers};
@@ -17,21 +18,21 @@ use dapnorm::{
 use std::alloc::Global;
 use std::hash::RandomState;
 
-/// The result of an engine.
+/// The result of a command function.
 #[derive(Drop)]
 pub enum Outcome {
-    /// Nothing was called: the limits are not sound, or the job has two inputs.
+    /// Nothing was called: the limits are not sound, or `run_stream` does not run the job.
     Refused,
     Written(Result<(), Refused>),
     Checked(Result<Checked, Refused>),
     Compared(Result<Verdict, CompareRefused>),
     NormalText(Result<Normalised, Refused>),
     Same(Result<bool, Refused>),
-    /// The status of the program.
+    /// The exit status of the program.
     Status(u8),
 }
 
-/// Returns whether the engines take these limits.
+/// Returns whether the command functions accept these limits.
 pub fn are_sound(limits: Limits) -> bool
     ensures { IsTrue result → AreSound limits }
 {
@@ -168,7 +169,7 @@ fn have_same_texts(alloc: Global, call: &Call<'_>) -> Result<bool, Refused>
     Ok(text_a.same(&text_b))
 }
 
-/// Returns the normal text of the bytes. Two texts of one mode can be compared.
+/// Returns the normal text of the bytes. Texts of the same mode can be compared.
 fn normal_text(alloc: Global, bytes: &[u8], call: &Call<'_>) -> Result<Normalised, Refused>
     requires limits { AreSound call.now.limits }
     ensures mode { IfOk result (λ text. text.mode ≡ call.now.mode) }
@@ -304,7 +305,7 @@ fn diff_printed_with<T: NameTable + Drop>(
     ))
 }
 
-/// Calls an engine that makes its own name tables.
+/// Calls a command function that creates its own name tables.
 fn outcome_own(alloc: Global, call: &Call<'_>, devices: &mut Devices<'_>) -> Outcome
     requires limits { AreSound call.now.limits }
     requires new { AreNew devices.old }
@@ -320,7 +321,7 @@ fn outcome_own(alloc: Global, call: &Call<'_>, devices: &mut Devices<'_>) -> Out
     }
 }
 
-/// Calls an engine with these name tables.
+/// Calls a command function with these name tables.
 fn outcome_with<T: NameTable + Drop>(
     alloc: Global,
     call: &Call<'_>,
@@ -346,7 +347,7 @@ fn outcome_with<T: NameTable + Drop>(
     }
 }
 
-/// Makes tables that look for a number from the front.
+/// Returns tables that search an id linearly.
 fn plain(alloc: Global, limits: Limits) -> Tables<PlainNames>
     requires { AreSound limits }
     ensures { AreReady plain_numbers plain_limit limits result }
@@ -354,7 +355,7 @@ fn plain(alloc: Global, limits: Limits) -> Tables<PlainNames>
     Tables::plain(alloc, limits.ids)
 }
 
-/// Makes tables that look by this hash.
+/// Returns tables that search an id by its hash.
 fn indexed(alloc: Global, limits: Limits, hasher: RandomState) -> Tables<IndexNames<RandomState>>
     requires { AreSound limits }
     ensures { AreReady index_numbers index_limit limits result }

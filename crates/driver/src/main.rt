@@ -1,9 +1,9 @@
-//! Calls the engines of `dapnorm` as a test asks, over devices that fail and with limits that the
-//! program does not have.
+//! Calls the command functions of `dapnorm` for tests, with readers and writers that fail and with
+//! limits that the program does not have.
 //!
-//! Standard input has calls, one after another: a line of words, and then the bytes of the call's
-//! inputs. Each call gets an answer: a line, and then the bytes that the engine wrote.
-//! tests/driver.py writes the calls and reads the answers. A malformed call ends the program with
+//! Standard input contains a sequence of calls: a line of words, followed by the bytes of the
+//! call's inputs. Each call gets a response: a line, followed by the bytes that the function wrote.
+//! tests/driver.py writes the calls and reads the responses. A malformed call ends the program with
 //! status 1.
 #![tactic(auto)]
 
@@ -18,10 +18,10 @@ use dap_device::{StdSource, Stop, read_all};
 use std::hash::RandomState;
 use std::io::Write;
 
-/// The most bytes of calls that are read.
+/// The maximum number of bytes of calls that are read.
 const LONGEST: u64 = 4_294_967_296;
 
-/// Answers each call of the input.
+/// Writes the response to each call of the input.
 fn answer_all(rt: &HostRuntime, calls: &[u8], hasher: RandomState) -> Result<()> {
     let mut output = rt.stdout();
     let mut rest = calls;

@@ -1,14 +1,14 @@
-//! The words of a line, and bytes, in their order.
+//! Reads the words of a line, and bytes, in order.
 use anyhow::{Context, Result};
 
-/// The words of a line that are not read yet.
+/// The words of a line that have not been read yet.
 #[derive(Drop)]
 pub struct Words<'a> {
     rest: &'a str,
 }
 
 impl<'a> Words<'a> {
-    /// Returns the words of this line, which are separated by a space.
+    /// Returns the words of this line, which are separated by single spaces.
     pub fn of(line: &'a str) -> Words<'a> {
         Words { rest: line }
     }
@@ -30,13 +30,13 @@ impl<'a> Words<'a> {
         Ok(self.number()? as usize)
     }
 
-    /// Reads the next word, which is 0 for no and another number for yes.
+    /// Reads the next word, which is 0 for `false` and any other number for `true`.
     pub fn flag(&mut self) -> Result<bool> {
         Ok(self.number()? != 0)
     }
 }
 
-/// Takes the first `count` bytes of the rest.
+/// Returns the first `count` bytes of the rest and removes them from it.
 pub fn take<'a>(rest: &mut &'a [u8], count: usize) -> Result<&'a [u8]> {
     let (first, after) = rest.split_at_checked(count).context("bytes are missing")?;
     *rest = after;

@@ -1,6 +1,8 @@
-//! The smallest program over the library: writes the normal form of the recording that it is given.
+//! The smallest program that uses the library: writes the normal form of the recording on standard
+//! input.
 //!
-//! `make try` runs it before anything is proved, since it takes in less than `dapnorm_main` does.
+//! `make try` runs it before anything is proved, because it compiles fewer crates than
+//! `dapnorm_main`.
 #![tactic(auto)]
 
 use dap_device::{StdSink, StdSource};

@@ -1,4 +1,5 @@
-//! Devices over readers and writers of std, which do little at a time and fail.
+//! Tests sources and sinks over readers and writers of std that transfer few bytes per call and
+//! fail.
 ghost use Rattle.std.specs.Prelude.{◌≡◌, IfOk, length};
 
 use dap_device::{DeviceFault, Sink, Source, StdSink, StdSource, Stop, read_all, write_and_flush};
@@ -7,16 +8,16 @@ use std::io;
 use std::io::ErrorKind;
 use std::process::Abort;
 
-/// What one read does.
+/// The behaviour of one read.
 #[derive(Clone, Copy)]
 enum Read {
-    /// Gives these bytes.
+    /// Returns these bytes.
     Gives(&'static [u8]),
-    /// Fails so.
+    /// Fails with this error.
     Fails(ErrorKind),
 }
 
-/// A reader that does this at its next reads, and has then come to its end.
+/// A reader that performs these reads and is then at its end.
 #[derive(Drop)]
 struct Reader(&'static [Read]);
 
@@ -37,17 +38,17 @@ impl io::Read for Reader {
     }
 }
 
-/// What one write does.
+/// The behaviour of one write.
 #[derive(Clone, Copy)]
 enum Write {
-    /// Takes so many bytes, if there are so many.
+    /// Consumes at most this many bytes.
     Takes(usize),
-    /// Fails so.
+    /// Fails with this error.
     Fails(ErrorKind),
 }
 
-/// A writer that does this at its next writes, and then takes all; it counts its flushes, and the
-/// first of them fail so.
+/// A writer that performs these writes, and then consumes all bytes. It counts its flushes, of
+/// which the first fail with these errors.
 #[derive(Drop)]
 struct Writer {
     steps: &'static [Write],
@@ -70,7 +71,7 @@ impl Writer {
         }
     }
 
-    /// Takes all of the bytes.
+    /// Consumes all bytes.
     fn take(&mut self, bytes: &[u8]) -> io::Result<usize>
         ensures { IfOk result (λ count. count ≡ length bytes.now) }
     {
@@ -103,7 +104,7 @@ impl io::Write for Writer {
 
 const FAULT: DeviceFault = DeviceFault {};
 
-/// What a read of four bytes answers, what it leaves of them, and what the source tells then.
+/// The result of a read of four bytes, the buffer after it, and the counts of the source.
 #[derive(Clone, Copy, PartialEq, Eq)]
 struct Seen {
     answer: Result<usize, DeviceFault>,
@@ -112,7 +113,8 @@ struct Seen {
     failures: u64,
 }
 
-/// What is seen of the next read; none where the source has given too much for one more.
+/// Returns the result of the next read, or `None` if the counts of the source are too high for
+/// another one.
 fn next_read<R: Source>(source: &mut R) -> Option<Seen> {
     if source.given() >= 1_000 || source.failures() >= 1_000 {
         return None;
@@ -131,7 +133,7 @@ fn sees<R: Source>(source: &mut R, seen: &Seen) -> bool {
     next_read(source) == Some(*seen)
 }
 
-/// Asks for what is seen of the reads of a source over a reader that does this.
+/// Checks the results of the reads of a source over a reader that performs these steps.
 fn reads(rt: &impl Abort, steps: &'static [Read], wanted: &[Seen]) {
     let mut source = StdSource::new(Reader(steps));
     for seen in wanted {
@@ -139,14 +141,14 @@ fn reads(rt: &impl Abort, steps: &'static [Read], wanted: &[Seen]) {
     }
 }
 
-/// Reads that are interrupted before bytes come.
+/// Reads that are interrupted before they return bytes.
 const INTERRUPTED_READS: [Read; 3] = [
     Read::Fails(ErrorKind::Interrupted),
     Read::Fails(ErrorKind::Interrupted),
     Read::Gives(b"ab"),
 ];
 
-/// Two bytes come, and then the end.
+/// A read of two bytes, then the end.
 const TWO_BYTES: [Seen; 2] = [
     Seen {
         answer: Ok(2),
@@ -167,7 +169,7 @@ fn an_interrupted_read_is_made_again(rt: HostRuntime) {
     reads(&rt, &INTERRUPTED_READS, &TWO_BYTES);
 }
 
-/// Reads that fail, each with another error, before bytes come.
+/// Reads that fail, each with another error, before a read returns bytes.
 const FAILED_READS: [&[Read]; 4] = [
     &[Read::Fails(ErrorKind::UnexpectedEof), Read::Gives(b"ab")],
     &[Read::Fails(ErrorKind::WouldBlock), Read::Gives(b"ab")],
@@ -175,7 +177,7 @@ const FAILED_READS: [&[Read]; 4] = [
     &[Read::Fails(ErrorKind::BrokenPipe), Read::Gives(b"ab")],
 ];
 
-/// A read fails, and two bytes come at the next.
+/// A read that fails, then a read of two bytes.
 const FAILED_AND_TWO_BYTES: [Seen; 2] = [
     Seen {
         answer: Err(FAULT),
@@ -222,7 +224,7 @@ fn a_whole_input_stops_at_an_error(rt: HostRuntime) {
     assert!(rt; is_read_up_to_an_error(rt.alloc()));
 }
 
-/// How a text of four bytes is written, and what it leaves.
+/// A write of four bytes, and its outcome.
 #[derive(Clone, Copy)]
 struct Written {
     steps: &'static [Write],
@@ -233,7 +235,8 @@ struct Written {
     failures: u64,
 }
 
-/// Writes and flushes, and returns whether the writer and the sink are as the row says.
+/// Writes and flushes, and returns whether the writer and the sink are in the state that the row
+/// expects.
 fn writes(alloc: Global, written: &Written) -> bool {
     let mut writer = Writer::new(alloc, written.steps, written.failing_flushes);
     let mut sink = StdSink::new(&mut writer);
@@ -299,7 +302,7 @@ const NOT_FLUSHED: Written = Written {
     failures: 1,
 };
 
-/// As in std, who asks for a flush that was interrupted is told so, and may ask again.
+/// As in std, an interrupted flush is reported to the caller, who may flush again.
 const INTERRUPTED_FLUSH: Written = Written {
     failing_flushes: &[ErrorKind::Interrupted],
     ..NOT_FLUSHED

@@ -1,5 +1,5 @@
-//! Differences of two trees that are no messages, so that the path is that of the whole document or
-//! begins with a list.
+//! Tests the differences of two trees that are not messages: the path is that of the whole
+//! document, or starts with an array.
 use dap_difference::difference_text;
 use dap_tree::read_tree;
 use std::alloc::Global;

@@ -1,4 +1,4 @@
-//! A framer that is fed step by step, and frames written.
+//! Tests a framer step by step, and `write_frame`.
 use dap_frame::{Content, FrameFault, FrameLimits, Framer, write_frame};
 use std::alloc::Global;
 use std::process::Abort;
@@ -9,22 +9,22 @@ const LIMITS: FrameLimits = FrameLimits {
     content: 16_777_216,
 };
 
-/// A call on a framer, and its answer.
+/// A call on a framer, and its result.
 #[derive(Clone, Copy)]
 enum Step {
-    /// It takes the whole piece and gives no content.
+    /// It consumes the complete chunk and returns no content.
     Takes(&'static [u8]),
-    /// The same piece, so many times.
+    /// The same chunk, this many times.
     TakesAll(&'static [u8], usize),
-    /// It takes these bytes, one at a time, and gives no content.
+    /// It consumes these bytes one at a time and returns no content.
     TakesEach(&'static [u8]),
-    /// It takes so many bytes of the piece and gives this content.
+    /// It consumes this many bytes of the chunk and returns this content.
     Gives(&'static [u8], usize, &'static [u8]),
-    /// It refuses the piece.
+    /// It rejects the chunk.
     Refuses(&'static [u8], FrameFault),
-    /// It holds so many bytes.
+    /// It has consumed this many bytes of the incomplete frame.
     Holds(usize),
-    /// The end of the input comes here.
+    /// The input ends here.
     Ends(Result<(), FrameFault>),
 }
 
@@ -74,7 +74,7 @@ fn answers(framer: &mut Framer, step: Step) -> bool {
     }
 }
 
-/// Asks that a new framer answers these calls so.
+/// Checks that a new framer returns these results.
 fn answers_all(rt: &impl Abort, alloc: Global, steps: &[Step]) {
     let mut framer = Framer::new(alloc, LIMITS);
     for (number, step) in steps.iter().enumerate() {
@@ -143,8 +143,8 @@ fn after_a_fault(rt: HostRuntime) {
     answers_all(&rt, rt.alloc(), &AFTER_A_FAULT);
 }
 
-/// Whether `write_frame` answers so at the least limit of a header and this one of a content, and
-/// leaves this behind a text.
+/// Returns whether `write_frame` returns this result, with the smallest header limit and this
+/// content limit, and leaves this buffer.
 fn writes(
     alloc: Global,
     (before, content, most): (&[u8], &[u8], usize),
@@ -161,7 +161,7 @@ fn writes(
     limits.sound() && write_frame(&mut out, content, limits) == answer && out.as_slice() == after
 }
 
-/// What stands before a frame, its content, and the text with the frame after it.
+/// The buffer before a frame, the content of the frame, and the buffer with the frame.
 const WRITTEN: [(&[u8], &[u8], &[u8]); 2] = [
     (b"", b"{}", b"Content-Length: 2\r\n\r\n{}"),
     (

@@ -1,4 +1,4 @@
-//! Tests of the crates below `dapnorm`, through what they show.
+//! Tests of the crates below `dapnorm`, through their public interfaces.
 #![tactic(auto)]
 
 #[cfg(test)]

@@ -1,4 +1,4 @@
-//! The contents that the tests send, and their messages.
+//! Defines the contents that the tests send, and their messages.
 use dap_message::{Message, MessageFault, typed};
 use dap_tree::Side::{Adapter, Client};
 use dap_tree::{Side, read_tree};
@@ -37,7 +37,7 @@ pub const STOPPED: Line = (
     "{\"body\":{\"reason\":\"step\"},\"event\":\"stopped\",\"seq\":2,\"type\":\"event\"}",
 );
 
-/// The message of a line.
+/// Returns the message of a line.
 pub fn message(alloc: Global, line: Line) -> Result<Message, MessageFault> {
     let (side, content) = line;
     match read_tree(alloc, content.as_bytes()) {

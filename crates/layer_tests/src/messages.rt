@@ -1,4 +1,4 @@
-//! Calls on messages: their parts, copies, replaced ids and texts.
+//! Tests calls on messages: their parts, copies, replaced ids and contents.
 use crate::lines::{Line, message};
 use crate::trees::is_copied;
 use dap_message::{Kind, Message, MessageFault};
@@ -7,7 +7,7 @@ use dap_tree::Sort;
 use std::alloc::Global;
 use std::process::Abort;
 
-/// Whether the message has this content, also where it is appended.
+/// Returns whether the message has this content, including if it is appended to a buffer.
 fn has_content(alloc: Global, message: &Message, text: &str) -> bool {
     let mut appended = Vec::new(alloc);
     matches!(message.content(alloc), Ok(content) if content.as_str() == text)
@@ -22,7 +22,7 @@ fn becomes(alloc: Global, line: Line, text: &str) -> bool {
     }
 }
 
-/// Asks that the content of each line, read as a message, is as it was.
+/// Checks that the content of each line is unchanged after it is read as a message.
 fn are_unchanged(rt: &impl Abort, alloc: Global, table: &[Line]) {
     for line in table {
         let (_, text) = *line;
@@ -30,7 +30,7 @@ fn are_unchanged(rt: &impl Abort, alloc: Global, table: &[Line]) {
     }
 }
 
-/// Responses of the client, which no session accepts: nothing is filled in.
+/// Responses of the client, which no session accepts: no capability is added.
 const NOTHING_FILLED_IN_ELSEWHERE: [Line; 2] = [
     (
         Client,
@@ -47,7 +47,7 @@ fn nothing_filled_in_elsewhere(rt: HostRuntime) {
     are_unchanged(&rt, rt.alloc(), &NOTHING_FILLED_IN_ELSEWHERE);
 }
 
-/// Whether the tree of the message, and the content of a copy of it, are this text.
+/// Returns whether the tree of the message and the content of a copy have this text.
 fn is_told(alloc: Global, message: &Message, text: &str) -> bool {
     is_copied(alloc, message.tree(), text)
         && matches!(message.copy(alloc), Ok(copy) if has_content(alloc, &copy, text))
@@ -58,7 +58,7 @@ const REQUEST: Line = (
     "{\"arguments\":{\"expression\":\"x\",\"frameId\":5},\"command\":\"evaluate\",\"seq\":2,\"type\":\"request\"}",
 );
 
-/// Whether the message is that request, by its parts.
+/// Returns whether the message has the parts of that request.
 fn has_parts_of_request(request: &Message) -> bool {
     request.side() == Client
         && request.kind() == Kind::Request
@@ -81,7 +81,7 @@ const RESPONSE: Line = (
     "{\"body\":{\"result\":\"1\",\"variablesReference\":6},\"command\":\"evaluate\",\"request_seq\":2,\"seq\":2,\"success\":true,\"type\":\"response\"}",
 );
 
-/// Whether the message is that response, by its parts.
+/// Returns whether the message has the parts of that response.
 fn has_parts_of_response(response: &Message) -> bool {
     response.side() == Adapter
         && response.kind() == Kind::Response
@@ -100,7 +100,7 @@ fn parts_of_a_response(rt: HostRuntime) {
 const REPLACED: &str =
     "{\"arguments\":{\"expression\":\"x\",\"frameId\":4},\"command\":\"evaluate\",\"seq\":9,\"type\":\"request\"}";
 
-/// The request with 4 and 9 in the places of its two ids.
+/// Returns the request with its two ids replaced by 4 and 9.
 fn replaced(alloc: Global) -> Result<Message, MessageFault> {
     let request = message(alloc, REQUEST)?;
     let ids = request.ids(alloc)?;

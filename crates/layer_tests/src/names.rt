@@ -1,4 +1,4 @@
-//! Names for the ids of messages.
+//! Tests the canonical numbers of the ids of messages.
 use crate::lines::{INITIALIZE, Line, STOPPED, THREADS, message};
 use dap_message::Message;
 use dap_rename::{Mode, NameFault, Names, PlainNames, Tables, laws};
@@ -7,19 +7,19 @@ use dap_tree::Sort;
 use std::alloc::Global;
 use std::process::Abort;
 
-/// Names of whole recordings in plain tables of that limit.
+/// Returns names with `Mode::Whole` in plain tables with this limit.
 pub fn plain_names(alloc: Global, limit: u8) -> Names<PlainNames> {
     names_of_mode(alloc, (limit, limit), Mode::Whole)
 }
 
-/// Names in plain tables of these limits, of which the second is that of the frames.
+/// Returns names in plain tables with these limits, of which the second one applies to frames.
 pub fn names_of_mode(alloc: Global, (limit, frames): (u8, u8), mode: Mode) -> Names<PlainNames> {
     let mut tables = Tables::plain(alloc, limit as usize);
     tables.frame = PlainNames::new(alloc, frames as usize);
     Names::new(alloc, tables, mode)
 }
 
-/// The renamed message of a line.
+/// Returns the renamed message of a line.
 pub fn renamed(
     alloc: Global,
     names: &mut Names<PlainNames>,
@@ -31,20 +31,20 @@ pub fn renamed(
     }
 }
 
-/// A line that is renamed, and what it becomes.
+/// A line that is renamed, and its result.
 #[derive(Clone, Copy)]
 enum Step {
     /// This content.
     Text(Line, &'static str),
     /// A message with these ids.
     Ids(Line, &'static [(Sort, i64)]),
-    /// It is refused: there are too many names.
+    /// It is rejected, because it has too many ids.
     Full(Line),
-    /// No line: there are so many names of a sort.
+    /// No line: this many ids of one kind have numbers.
     Count(Sort, usize),
-    /// No line: so many stops were renamed.
+    /// No line: this many stops were renamed.
     Stops(u64),
-    /// No line: there are so many names of a sort in its class behind so many stops.
+    /// No line: this many ids of one kind have numbers in the class after this many stops.
     CountAt(Sort, u64, usize),
 }
 
@@ -77,13 +77,13 @@ fn answers(alloc: Global, names: &mut Names<PlainNames>, step: Step) -> bool {
     }
 }
 
-/// Asks that new names of that limit answer so.
+/// Checks these results for new names with this limit.
 fn answers_all(rt: &impl Abort, alloc: Global, limit: u8, steps: &[Step]) {
     let mut names = plain_names(alloc, limit);
     names_answer(rt, alloc, &mut names, steps);
 }
 
-/// Asks that the names answer so.
+/// Checks these results for the names.
 fn names_answer(rt: &impl Abort, alloc: Global, names: &mut Names<PlainNames>, steps: &[Step]) {
     for (number, step) in steps.iter().enumerate() {
         assert!(rt; answers(alloc, names, *step), "step {number}");
@@ -120,7 +120,7 @@ const CANCEL: Line = (
     "{\"arguments\":{\"requestId\":40},\"command\":\"cancel\",\"seq\":41,\"type\":\"request\"}",
 );
 
-/// The second of its sequence numbers is refused: the first gets no name either.
+/// The second of its sequence numbers is rejected, so the first one gets no number either.
 const FULL_IN_THE_MIDDLE: [Step; 3] = [
     Step::Full(CANCEL),
     Step::Count(Sort::ClientSeq, 0),
@@ -147,7 +147,7 @@ pub const FRAMES_EXCHANGED: Line = (
     "{\"body\":{\"stackFrames\":[{\"column\":1,\"id\":1001,\"line\":3,\"name\":\"f\"},{\"column\":1,\"id\":1000,\"line\":9,\"name\":\"g\"}]},\"command\":\"stackTrace\",\"request_seq\":2,\"seq\":2,\"success\":true,\"type\":\"response\"}",
 );
 
-/// A frame of a stop, and one of the next.
+/// A frame after one stop, and a frame after the next one.
 pub const FRAME: Line = (
     Adapter,
     "{\"body\":{\"stackFrames\":[{\"column\":1,\"id\":1000,\"line\":3,\"name\":\"f\"}]},\"command\":\"stackTrace\",\"request_seq\":2,\"seq\":3,\"success\":true,\"type\":\"response\"}",
@@ -164,7 +164,8 @@ const FRAME_IDS: &[(Sort, i64)] = &[
     (Sort::AdapterSeq, 1),
 ];
 
-/// Behind the stop the first frame gets the first name again; the other sorts go on.
+/// After the stop the first frame gets the number 1 again. The numbering of the other kinds
+/// continues.
 const BEGIN_AGAIN: [Step; 13] = [
     Step::Ids(FRAME, FRAME_IDS),
     Step::Stops(0),
@@ -188,7 +189,7 @@ fn frames_begin_again_behind_a_stop(rt: HostRuntime) {
     names_answer(&rt, rt.alloc(), &mut names, &BEGIN_AGAIN);
 }
 
-/// In a whole recording the second frame is one too many.
+/// With `Mode::Whole` the second frame exceeds the limit.
 const GO_ON: [Step; 6] = [
     Step::Ids(FRAME, FRAME_IDS),
     Step::Ids(STOPPED, &[(Sort::AdapterSeq, 2)]),

@@ -1,4 +1,4 @@
-//! Readers of records and traces that go on after a fault or step by step, and frames recorded.
+//! Tests readers of records and traces, after an error and step by step, and recorded frames.
 use dap_frame::{FrameFault, FrameLimits};
 use dap_recording::{
     FedRecord, FedTrace, Record, RecordCause, RecordFault, RecordReader, Recorder, RecorderFault,
@@ -17,12 +17,12 @@ fn is_record(record: &Record, side: Side, content: &[u8]) -> bool {
     record.side == side && record.content.as_slice() == content
 }
 
-/// Whether these bytes, and no more, were taken, with this record at their end.
+/// Returns whether exactly this many bytes were consumed, with this record at their end.
 fn gives(fed: &FedRecord, used: usize, side: Side, content: &[u8]) -> bool {
     fed.used == used && matches!(&fed.whole, Some(record) if is_record(record, side, content))
 }
 
-/// Whether a reader takes so many bytes with this record at their end.
+/// Returns whether a reader consumes this many bytes, with this record at their end.
 fn reads(reader: &mut RecordReader, bytes: &[u8], used: usize, side: Side, content: &[u8]) -> bool {
     match reader.feed(bytes) {
         Ok(fed) => gives(&fed, used, side, content),
@@ -35,10 +35,10 @@ const BAD_MARKER: RecordFault = RecordFault {
     cause: RecordCause::BadMarker,
 };
 
-/// A record of 27 bytes, and a byte that is no marker.
+/// A record of 27 bytes, and a byte that is not a marker.
 const FAULTY: &[u8] = b"<Content-Length: 4\r\n\r\nnull\n!";
 
-/// Returns whether a reader reports the fault, and reports it again at each later call.
+/// Returns whether a reader reports the error, and reports it again at each later call.
 fn shows_bad_marker(reader: &mut RecordReader) -> bool {
     reader.feed(b"!").err() == Some(BAD_MARKER)
         && reader.feed(FAULTY).err() == Some(BAD_MARKER)
@@ -54,7 +54,7 @@ fn second_record_and_its_fault(rt: HostRuntime) {
     assert!(rt; shows_bad_marker(&mut reader));
 }
 
-/// Contents of one byte.
+/// Limits for contents of one byte.
 const NARROW: FrameLimits = FrameLimits {
     header: 4096,
     content: 1,
@@ -68,8 +68,8 @@ fn written_content_too_long(rt: HostRuntime) {
     assert!(rt; out.as_slice() == b"before".as_slice());
 }
 
-/// The fault that a new reader tells of this trace, or of its end. After a fault its end is that
-/// fault.
+/// Returns the error that a new reader reports for this trace, or for its end. After an error,
+/// `finish` must return the same error.
 fn trace_fault(rt: &impl Abort, bytes: &[u8]) -> Option<TraceFault> {
     let mut reader = TraceReader::new();
     let mut rest = bytes;
@@ -100,7 +100,8 @@ fn is_empty_part(part: TracePart<'_>) -> bool {
     part.side == Side::Adapter && part.piece == 1 && part.bytes.is_empty()
 }
 
-/// How many parts a reader gives of this byte, where they are the empty first piece of the adapter.
+/// Returns the number of parts that a reader returns for this byte, or `None` if a part is not the
+/// empty first piece of the adapter.
 fn empty_parts(reader: &mut TraceReader, byte: u8) -> Option<u8> {
     match reader.feed(&[byte]) {
         Ok(FedTrace { part: None, .. }) => Some(0),
@@ -125,7 +126,7 @@ fn empty_piece_is_given_once(rt: HostRuntime) {
     assert!(rt; parts == 1);
 }
 
-/// Records a run of one side's bytes, which hold no fault.
+/// Records a run of bytes of one side, which contain no error.
 fn record_run(rt: &impl Abort, recorder: &mut Recorder, side: Side, run: &[u8]) {
     let mut rest = run;
     for _ in 0..run.len() {
@@ -136,7 +137,7 @@ fn record_run(rt: &impl Abort, recorder: &mut Recorder, side: Side, run: &[u8]) 
     }
 }
 
-/// Records what stands in these bytes of a trace, which hold no fault.
+/// Records these bytes of a trace, which contain no error.
 fn record_input(rt: &impl Abort, reader: &mut TraceReader, recorder: &mut Recorder, input: &[u8]) {
     let mut rest = input;
     for _ in 0..input.len() {
@@ -152,7 +153,7 @@ fn record_input(rt: &impl Abort, reader: &mut TraceReader, recorder: &mut Record
     }
 }
 
-/// Returns the recorder of a trace that comes this many bytes at a time.
+/// Returns the recorder of a trace that arrives in chunks of this size.
 fn recorder_of(rt: &impl Abort, alloc: Global, trace: &[u8], step: usize) -> Recorder {
     assert!(rt; 0 < step);
     let mut recorder = Recorder::new(alloc, LIMITS);
@@ -163,7 +164,7 @@ fn recorder_of(rt: &impl Abort, alloc: Global, trace: &[u8], step: usize) -> Rec
     recorder
 }
 
-/// Returns whether the recorder has these records and no fault.
+/// Returns whether the recorder has these records and no error.
 fn has_recorded(recorder: &Recorder, text: &[u8]) -> bool {
     recorder.text() == text && recorder.finish() == Ok(())
 }
@@ -185,7 +186,7 @@ const FRAME: &[u8] = b"Content-Length: 2\r\n\r\n{}";
 
 const NO_LENGTH: RecorderFault = RecorderFault::Frame(Side::Adapter, FrameFault::NoLength);
 
-/// A piece of a side, and what a recorder returns.
+/// A piece of a side, and the result of the recorder.
 type Piece = (Side, &'static [u8], Result<usize, RecorderFault>);
 
 const PIECES: [Piece; 3] = [

@@ -1,4 +1,5 @@
-//! Renamings: pairs that are one, the pairs between names, and the messages that one carries.
+//! Tests renamings: which pairs are a renaming, the pairs between names, and the messages that a
+//! renaming maps.
 use crate::lines::{INITIALIZE, INITIALIZE_RESPONSE, Line, STOPPED, THREADS, message};
 use crate::names::{
     FRAME, FRAMES_EXCHANGED, NEXT_FRAME, STACK_TRACE, TWO_FRAMES, names_of_mode, renamed,
@@ -23,7 +24,7 @@ const fn pair_at(sort: Sort, stop: u64, from: i64, to: i64) -> Pair {
     }
 }
 
-/// Whether the pairs are a renaming, or why they are none.
+/// Returns whether the pairs are a renaming, or are rejected with the expected error.
 fn is_renaming(alloc: Global, pairs: &[Pair], wanted: Result<(), PairFault>) -> bool {
     match Renaming::new(alloc, pairs) {
         Ok(renaming) => wanted == Ok(()) && renaming.pairs() == pairs,
@@ -79,7 +80,7 @@ fn pairs_that_are_none(rt: HostRuntime) {
     }
 }
 
-/// The messages of a session with those frames.
+/// Returns the messages of a session with these frames.
 fn session(rt: &impl Abort, alloc: Global, frames: Line) -> Vec<Message> {
     let mut messages = Vec::new(alloc);
     for line in &[INITIALIZE, INITIALIZE_RESPONSE, STACK_TRACE, frames] {
@@ -89,13 +90,13 @@ fn session(rt: &impl Abort, alloc: Global, frames: Line) -> Vec<Message> {
     messages
 }
 
-/// The pairs of names with themselves.
+/// Returns the pairs of names with themselves.
 fn own_pairs(alloc: Global, names: &Names<PlainNames>) -> Result<Renaming, NameFault> {
     Renaming::between(alloc, names, names)
 }
 
-/// The pairs of a session with a frame before a stop and one behind it, with itself, where the
-/// second frame is of this stop.
+/// Returns the pairs, with itself, of a session with a frame before a stop and one after it. The
+/// second frame has this stop.
 fn pairs_of_two_frames(stop: u64) -> [Pair; 5] {
     [
         pair(Sort::ClientSeq, 2, 2),
@@ -161,7 +162,7 @@ const PAIRS: [Pair; 7] = [
     },
 ];
 
-/// Asks whether the renaming carries so many messages to so many.
+/// Returns whether the renaming maps the first `count` messages to the first `other_count` others.
 fn carries_fronts(
     rt: &impl Abort,
     renaming: &Renaming,
@@ -173,7 +174,7 @@ fn carries_fronts(
     renaming.carries(messages, others, Mode::Whole)
 }
 
-/// How many messages are carried to how many, and whether they are.
+/// Numbers of messages and of others, and whether the renaming maps them.
 const FRONTS: [(usize, usize, bool); 5] = [
     (4, 4, true),
     (4, 3, false),
@@ -211,7 +212,7 @@ const SEVENS: [Pair; 2] = [
     },
 ];
 
-/// Lines, and whether `threads` is carried to each.
+/// Lines, and whether `threads` is mapped to each of them.
 const CARRIED: [(Line, bool); 4] = [
     (
         (
@@ -243,7 +244,7 @@ const CARRIED: [(Line, bool); 4] = [
     ),
 ];
 
-/// Whether the pairs carry the message of the one line to that of the other.
+/// Returns whether the pairs map the message of `from` to that of `to`.
 fn carries(rt: &impl Abort, alloc: Global, from: Line, to: Line) -> bool {
     let renaming = Renaming::new(alloc, &SEVENS).expect(rt, "no renaming");
     let from = [message(alloc, from).expect(rt, "no message")];
@@ -251,7 +252,7 @@ fn carries(rt: &impl Abort, alloc: Global, from: Line, to: Line) -> bool {
     renaming.carries(&from, &to, Mode::Whole)
 }
 
-/// Whether pairs carry the frames before a stop and behind it, in that mode.
+/// Returns whether the pairs map the frames before and after a stop, in this mode.
 fn carries_frames(rt: &impl Abort, alloc: Global, pairs: &[Pair], mode: Mode) -> bool {
     let renaming = Renaming::new(alloc, pairs).expect(rt, "no renaming");
     let mut messages = Vec::new(alloc);
@@ -262,7 +263,7 @@ fn carries_frames(rt: &impl Abort, alloc: Global, pairs: &[Pair], mode: Mode) ->
     renaming.carries(messages.as_slice(), messages.as_slice(), mode)
 }
 
-/// The stop of the second frame, the mode, and whether the frames are carried.
+/// The stop of the second frame, the mode, and whether the frames are mapped.
 const OF_STOPS: [(u64, Mode, bool); 4] = [
     (1, Mode::PerStop, true),
     (1, Mode::Whole, false),

@@ -1,4 +1,4 @@
-//! A session that goes on after it refused messages.
+//! Tests a session that continues after it rejected messages.
 use crate::lines::{
     CONFIGURATION_DONE, CONFIGURATION_DONE_RESPONSE, INITIALIZE, INITIALIZE_RESPONSE, Line,
     THREADS, message,
@@ -14,10 +14,10 @@ fn accepts(alloc: Global, session: &mut Session, line: Line) -> Result<(), Sessi
     }
 }
 
-/// A line, the rule that it breaks, and the number of requests that are open after it.
+/// A line, the rule that it violates, and the number of unanswered requests after it.
 type Sent = (Line, Option<Rule>, usize);
 
-/// Lines for one session.
+/// Lines of one session.
 const SENT: [Sent; 6] = [
     (INITIALIZE, None, 1),
     (INITIALIZE_RESPONSE, None, 0),

@@ -1,20 +1,20 @@
-//! Tables of names: a plain one, and those over an index set.
+//! Tests name tables: a plain one, and those over an index set.
 use dap_rename::{IndexNames, NameFault, NameTable, PlainNames};
 use std::hash::{BuildHasherDefault, FoldHasher, RandomState};
 use std::process::Abort;
 
-/// The default of an index set.
+/// Returns the default hasher of an index set.
 fn hasher() -> BuildHasherDefault<FoldHasher> {
     BuildHasherDefault::new()
 }
 
-/// A call on a table, and its answer.
+/// A call on a table, and its result.
 #[derive(Clone, Copy)]
 enum Step {
     Name(i64, Result<i64, NameFault>),
     Find(i64, Option<i64>),
     Len(usize),
-    /// The number with this name.
+    /// The first number is the canonical number of the second.
     At(i64, i64),
     Cut(usize),
 }
@@ -23,7 +23,7 @@ fn has_at<T: NameTable>(table: &T, place: i64, number: i64) -> bool {
     1 <= place && place <= table.len() as i64 && table.at(place) == number
 }
 
-/// Leaves the first names alone, if there are so many.
+/// Truncates a table to its first `keep` ids, if it has that many.
 fn cuts<T: NameTable>(table: &mut T, keep: usize) -> bool {
     if table.len() < keep {
         return false;
@@ -42,7 +42,7 @@ fn answers<T: NameTable>(table: &mut T, step: Step) -> bool {
     }
 }
 
-/// Asks that a table answers these calls so.
+/// Checks that a table returns these results.
 fn answers_all<T: NameTable>(rt: &impl Abort, table: &mut T, steps: &[Step]) {
     for (number, step) in steps.iter().enumerate() {
         assert!(rt; answers(table, *step), "step {number}");
@@ -136,22 +136,22 @@ fn numbers_at_both_ends(rt: HostRuntime) {
     answers_all(&rt, &mut table, &BOTH_ENDS);
 }
 
-/// A number for each index, in neither order, of both signs, and no two equal.
+/// Returns a distinct id for each index: unordered, and with both signs.
 fn scattered(index: u32) -> i64 {
     (index as i64 * 7919) % 100_003 - 50_000
 }
 
-/// Whether the tables have as many names, and tell the same name of this number.
+/// Returns whether the tables have the same length and the same canonical number for this id.
 fn agree<A: NameTable, B: NameTable>(a: &A, b: &B, number: i64) -> bool {
     a.len() == b.len() && a.find(number) == b.find(number)
 }
 
-/// Whether the tables give one name to this number, and agree behind that.
+/// Returns whether the tables intern this id with the same number, and agree afterwards.
 fn name_alike<A: NameTable, B: NameTable>(a: &mut A, b: &mut B, number: i64) -> bool {
     a.name(number) == b.name(number) && agree(a, b, number)
 }
 
-/// Whether the tables have the same numbers at the same places, so many.
+/// Returns whether both tables have `count` ids, in the same order.
 fn have_equal_numbers<A: NameTable, B: NameTable>(a: &A, b: &B, count: usize) -> bool {
     if a.len() != count || b.len() != count {
         return false;
@@ -165,7 +165,8 @@ fn have_equal_numbers<A: NameTable, B: NameTable>(a: &A, b: &B, count: usize) ->
     true
 }
 
-/// 45 numbers come, each of them twice, and the tables fill up; then all but 15 names are cut.
+/// Interns 45 ids, each of them twice, until the tables are full, then truncates the tables to 15
+/// ids.
 fn fills_and_cuts<A: NameTable, B: NameTable>(rt: &impl Abort, a: &mut A, b: &mut B, round: u32) {
     assert!(rt; round < 4);
     for step in 0..90u32 {
@@ -187,7 +188,7 @@ fn answers_as_a_plain_table(rt: HostRuntime) {
     }
 }
 
-/// Names so many scattered numbers, and finds them.
+/// Interns `count` scattered ids, and looks them up.
 fn names_scattered<T: NameTable>(rt: &impl Abort, table: &mut T, count: u32) {
     for index in 0..count {
         assert!(rt; table.name(scattered(index)) == Ok(index as i64 + 1));
@@ -197,7 +198,7 @@ fn names_scattered<T: NameTable>(rt: &impl Abort, table: &mut T, count: u32) {
     }
 }
 
-/// Whether just the first ten of so many scattered numbers have names.
+/// Returns whether exactly the first ten of `count` scattered ids have numbers.
 fn has_ten<T: NameTable>(table: &T, count: u32) -> bool {
     for index in 0..count {
         let name = if index < 10 {
@@ -218,7 +219,7 @@ const BEHIND_TEN: [Step; 3] = [
     Step::At(11, 18327),
 ];
 
-/// A scan from the front would take five thousand million steps here.
+/// A linear search would take five billion steps here.
 #[test]
 fn many_numbers_and_a_cut(rt: HostRuntime) {
     let mut table = IndexNames::new(rt.alloc(), 100_000, hasher());

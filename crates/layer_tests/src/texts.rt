@@ -1,4 +1,4 @@
-//! Texts of faults and sides that no command prints.
+//! Tests the messages of errors and sides that no command prints.
 use dap_frame::FrameFault;
 use dap_message::MessageFault;
 use dap_recording::{RecordCause, RecorderFault};
@@ -8,12 +8,12 @@ use dap_tree::{Side, TreeFault};
 use std::alloc::Global;
 use std::fmt::Display;
 
-/// Returns whether the value has this text.
+/// Returns whether the value is printed as this text.
 fn is_printed<D: Display>(alloc: Global, value: &D, text: &str) -> bool {
     matches!(format!(in alloc; "{value}"), Ok(printed) if printed.as_str() == text)
 }
 
-/// Returns whether each fault of a failed allocation has the text `Memory`.
+/// Returns whether each error for a failed allocation is printed as `Memory`.
 fn is_memory_printed(alloc: Global) -> bool {
     is_printed(alloc, &FrameFault::Memory, "Memory")
         && is_printed(alloc, &MessageFault::Memory, "Memory")
@@ -27,7 +27,7 @@ fn texts_of_memory(rt: HostRuntime) {
     assert!(rt; is_memory_printed(rt.alloc()));
 }
 
-/// Returns whether the sides and the faults of trees have their texts.
+/// Returns whether the sides and the errors of trees are printed correctly.
 fn are_trees_printed(alloc: Global) -> bool {
     is_printed(alloc, &Side::Client, "client")
         && is_printed(alloc, &Side::Adapter, "adapter")
@@ -41,7 +41,7 @@ fn texts_of_trees(rt: HostRuntime) {
     assert!(rt; are_trees_printed(rt.alloc()));
 }
 
-/// Returns whether the faults of names and of pairs have their texts.
+/// Returns whether the errors of names and of pairs are printed correctly.
 fn are_names_printed(alloc: Global) -> bool {
     is_printed(alloc, &NameFault::Full, "Full")
         && is_printed(alloc, &NameFault::Memory, "Memory")

@@ -1,15 +1,15 @@
-//! Calls on trees: members, ids, copies and texts.
+//! Tests calls on trees: members, ids, copies and texts.
 use dap_tree::{
     Scratch, Sort, Tree, TreeFault, laws, read_tree, read_tree_with, write_tree, write_tree_to,
 };
 use std::alloc::Global;
 
-/// Whether the tree is sound and written so.
+/// Returns whether the tree is serialisable and is written as this text.
 pub fn is_written(alloc: Global, tree: &Tree, text: &str) -> bool {
     tree.sound() && matches!(write_tree(alloc, tree), Ok(written) if written.as_str() == text)
 }
 
-/// Appends the text of the tree of a content. Whether it has one.
+/// Appends the text of the tree of a content. Returns whether it has one.
 fn appends(alloc: Global, content: &[u8], scratch: &mut Scratch, out: &mut Vec<u8>) -> bool {
     match read_tree_with(alloc, content, scratch) {
         Ok(tree) => tree.sound() && write_tree_to(alloc, &tree, out).is_ok(),
@@ -44,7 +44,7 @@ fn nested_tree(alloc: Global, levels: usize) -> Result<Tree, TreeFault> {
     Ok(tree)
 }
 
-/// Whether a copy of the tree is sound and written so.
+/// Returns whether a copy of the tree is serialisable and is written as this text.
 pub fn is_copied(alloc: Global, tree: &Tree, text: &str) -> bool {
     match tree.copy(alloc) {
         Ok(copy) => is_written(alloc, &copy, text),
@@ -52,7 +52,7 @@ pub fn is_copied(alloc: Global, tree: &Tree, text: &str) -> bool {
     }
 }
 
-/// Numbers, and whether a tree of each is sound.
+/// Integers, and whether a tree of each is serialisable.
 const WHOLE: [(i128, bool); 4] = [
     (18_446_744_073_709_551_615, true),
     (18_446_744_073_709_551_616, false),
@@ -80,22 +80,22 @@ fn sound_trees(rt: HostRuntime) {
     assert!(rt; is_sound_at(rt.alloc(), 128) == Some(false));
 }
 
-/// Whether the member is this number.
+/// Returns whether the member is this integer.
 fn has_number(tree: &Tree, name: &str, number: i128) -> bool {
     matches!(tree.child(name), Some(Tree::Whole(found)) if *found == number)
 }
 
-/// Whether the number takes the place of a member that was this one.
+/// Returns whether the integer replaces a member that was `before`.
 fn sets(tree: &mut Tree, name: &str, number: i128, before: i128) -> bool {
     matches!(tree.set_child(name, Tree::Whole(number)), Ok(Tree::Whole(found)) if found == before)
 }
 
-/// Whether there is no such member to be set: the value is given back.
+/// Returns whether no such member can be set and the value is returned.
 fn sets_none(tree: &mut Tree, name: &str) -> bool {
     matches!(tree.set_child(name, Tree::Null), Err(Tree::Null))
 }
 
-/// Whether there is no such member, to be read or changed.
+/// Returns whether no such member can be read or changed.
 fn has_none(tree: &mut Tree, name: &str) -> bool {
     tree.child(name).is_none() && tree.child_mut(name).is_none()
 }
@@ -106,7 +106,7 @@ fn put(tree: &mut Tree, name: &str, number: i128) {
     }
 }
 
-/// Whether members are told and changed.
+/// Returns whether members are read and changed correctly.
 fn has_members(alloc: Global) -> bool {
     let Ok(mut tree) = read_tree(alloc, b"{\"a\":1}") else {
         return false;
@@ -128,7 +128,7 @@ fn members(rt: HostRuntime) {
     assert!(rt; Tree::List(Vec::new(alloc)).child("a").is_none());
 }
 
-/// Whether members are lent, and those alone that are there.
+/// Returns whether existing members, and no others, are borrowed mutably.
 fn lends_members(tree: &mut Tree) -> bool {
     tree.with_child("a", |child| {
         *child = Tree::Bool(true);
@@ -155,7 +155,7 @@ fn lent_members(rt: HostRuntime) {
     assert!(rt; Tree::Null.members_mut().is_none());
 }
 
-/// The tree of an evaluate request, with ids in the place of its two numbers.
+/// Returns the tree of an `evaluate` request whose two numbers are ids.
 fn evaluate_request(alloc: Global) -> Result<Tree, TreeFault> {
     let mut tree = read_tree(
         alloc,
@@ -180,7 +180,8 @@ fn ids_in_the_order_of_the_text(rt: HostRuntime) {
     assert!(rt; matches!(evaluate_request(alloc), Ok(tree) if has_ids(alloc, &tree, &ids)));
 }
 
-/// Whether an evaluate request has two ids, and is written so when these numbers take their places.
+/// Returns whether an `evaluate` request has two ids, and is written as this text after these
+/// numbers replace them.
 fn is_replaced(alloc: Global, numbers: &[i64; 2], text: &str) -> bool {
     let Ok(mut tree) = evaluate_request(alloc) else {
         return false;
@@ -201,7 +202,7 @@ fn replaced_ids(rt: HostRuntime) {
     assert!(rt; is_replaced(rt.alloc(), &[4, 9], text));
 }
 
-/// Whether an evaluate request is sound and not plain.
+/// Returns whether an `evaluate` request is serialisable and contains ids.
 fn has_sound_ids(alloc: Global) -> bool {
     match evaluate_request(alloc) {
         Ok(tree) => tree.sound() && !tree.plain(),
@@ -217,7 +218,7 @@ fn plain_trees(rt: HostRuntime) {
     assert!(rt; has_sound_ids(rt.alloc()));
 }
 
-/// Whether a copy of the tree has the ids of an evaluate request in their places.
+/// Returns whether a copy of the tree has the ids of an `evaluate` request at the same paths.
 fn is_copied_with_ids(alloc: Global, tree: &Tree) -> bool {
     match tree.copy(alloc) {
         Ok(copy) => has_seq(&copy) && matches!(copy.child("arguments"), Some(it) if has_frame(it)),
@@ -239,7 +240,7 @@ fn copied_ids(rt: HostRuntime) {
     assert!(rt; matches!(evaluate_request(alloc), Ok(tree) if is_copied_with_ids(alloc, &tree)));
 }
 
-/// Returns whether a copy of this many nested lists has their text, two bytes for each list.
+/// Returns whether a copy of this many nested arrays has their text, two bytes for each array.
 fn is_nest_copied(alloc: Global, levels: usize) -> bool {
     match nested_tree(alloc, levels) {
         Ok(tree) if tree.sound() => match write_tree(alloc, &tree) {
@@ -255,7 +256,7 @@ fn copy_of_nested_lists(rt: HostRuntime) {
     assert!(rt; is_nest_copied(rt.alloc(), 127));
 }
 
-/// A list of two ids.
+/// Returns an array of two ids.
 fn ids(alloc: Global) -> Result<Tree, TreeFault> {
     let mut items = Vec::new(alloc);
     items.push(Tree::Id(Sort::AdapterSeq, -9223372036854775808))?;

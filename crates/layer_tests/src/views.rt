@@ -1,4 +1,4 @@
-//! The frames that a message lists after its ids are replaced.
+//! Tests the frames that a message lists after its ids are replaced.
 use crate::lines::{Line, message};
 use dap_message::{FrameView, Message, MessageFault};
 use dap_tree::Side::Adapter;
@@ -29,7 +29,7 @@ const ONE_FRAME: Line = (
     "{\"body\":{\"stackFrames\":[{\"column\":1,\"id\":1000,\"line\":3,\"name\":\"f\"}]},\"command\":\"stackTrace\",\"request_seq\":2,\"seq\":3,\"success\":true,\"type\":\"response\"}",
 );
 
-/// The response with other ids.
+/// Returns the response with other ids.
 fn replaced(alloc: Global) -> Result<Message, MessageFault> {
     let response = message(alloc, ONE_FRAME)?;
     let ids = response.ids(alloc)?;

@@ -1,7 +1,8 @@
-//! What reading alone takes: the limit that `make bench` prints beside the figures of `dapnorm`.
+//! Measures the cost of reading only: the baseline that `make bench` prints next to the figures of
+//! `dapnorm`.
 //!
-//! Takes the recording of the standard input apart into records and prints how many there are. With
-//! the argument `json` each content is also read as JSON, of which nothing is kept.
+//! Splits the recording on standard input into records and prints their number. With the argument
+//! `json`, also parses each content as JSON and discards the result.
 #![tactic(auto)]
 
 use dap_device::{StdSource, read_all};
@@ -17,10 +18,10 @@ const LIMITS: FrameLimits = FrameLimits {
     content: 16_777_216,
 };
 
-/// As many bytes as an input of `dapnorm` has at most.
+/// The maximum number of bytes of an input of `dapnorm`.
 const LONGEST: u64 = 4_294_967_296;
 
-/// Whether a content is JSON; it is taken for none where memory was refused.
+/// Returns whether a content is JSON. Returns `false` if an allocation fails.
 fn is_json(content: &[u8], scratch: &mut Scratch) -> bool {
     match simdutf8::compat::from_utf8(content) {
         Ok(text) => is_valid(text, scratch).unwrap_or(false),
@@ -28,7 +29,7 @@ fn is_json(content: &[u8], scratch: &mut Scratch) -> bool {
     }
 }
 
-/// How many whole records there are, if all are well formed.
+/// Returns the number of complete records, or `None` if a record is not well formed.
 fn count(alloc: Global, recording: &[u8], reads_json: bool) -> Option<u64> {
     let mut reader = RecordReader::new(alloc, LIMITS);
     let mut scratch = Scratch::new(alloc);

@@ -1,4 +1,4 @@
--- What the loop over the rest of a recording goes down by.
+-- The loop over the rest of a recording decreases the length of the rest.
 use Rattle.std.proofs.Common.{length}
 use Rattle.reading_alone.proofs.count.Given as goal
 

@@ -5,7 +5,7 @@ use lib.Pointwise.{pointwise}
 use Rattle.dap_normal.specs.Normalising.{Normalises}
 use Rattle.callers.proofs.golden_file.holds_to.Goals as goal
 
--- what the test of the bytes tells of the texts
+-- What the comparison of the bytes states about the texts.
 equal : (xs text golden : List ℕ) (r : Bool) → r ≡ pointwise eqb xs golden → xs ≡ text
     → (r ≡ true) ↔ (text ≡ golden)
 equal xs text golden r is shown =

@@ -3,7 +3,7 @@ use Rattle.dap_message.specs.ViewItems.{frames_left}
 use Rattle.callers.specs.Frames.{told, place_of_frame}
 use Rattle.callers.proofs.told_frames.places.Given as goal
 
--- the places so far, and those of the frames that are left, are those of all
+-- The locations so far, followed by those of the remaining frames, are those of all frames.
 abbrev pub invariant-loop-frame : goal.invariant-loop-frame
 invariant-loop-frame l =
     map told l.places.items ++ map place_of_frame (frames_left l.frame-iterator)

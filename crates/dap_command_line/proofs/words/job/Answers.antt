@@ -14,7 +14,7 @@ returns-clause-err c = λ taken named.
     c.fault_of.ensures.memory (c.in-Err.ensures.passes
     (ap (λ a. takes a (map (λ w. w.now) c.args.words.now)) c.in-Ok.ensures ∙ taken))
 
--- words that a parse takes with a subcommand name a job
+-- Arguments that the parser accepts with a subcommand select a job.
 pub returns-in-Ok-try_get_matches_from-clause-err :
     goal.returns-in-Ok-try_get_matches_from-clause-err
 returns-in-Ok-try_get_matches_from-clause-err c = λ taken named.

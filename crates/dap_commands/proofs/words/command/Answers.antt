@@ -16,7 +16,7 @@ use Rattle.dap_commands.proofs.FirstArguments.{program_splits}
 use Rattle.dap_commands.proofs.TakenCommands.{accepted_command}
 use Rattle.dap_commands.proofs.words.command.Goals as goal
 
--- what is returned for an error is returned for the kinds that a parse finds
+-- The `UsageFault` returned for an error matches the kinds that the parser finds.
 fault_for : (kinds : Kinds) (error : Error) (fault : UsageFault) → HasKind kinds error
     → (kind_of error ≡ kind.OutOfMemory → fault ≡ usage.Memory) → IsToldOf (kind_of error) fault
     → IsFaultFor kinds fault
@@ -56,7 +56,7 @@ returns-in-Some-clause-taken c =
     ap (λ a. faults_of a (texts c.args.words.now)) (sym c.in-Ok.ensures)
     ∙ c.in-Ok-try_get_matches_from.ensures.kinds (ap is_simple_and_free c.in-Ok.ensures ∙ refl)
 
--- arguments in which a parse finds no fault name a command
+-- Arguments in which the parser finds no error select a command.
 pub unreachable-requires : goal.unreachable-requires
 unreachable-requires c =
     let words = texts c.args.words.now in

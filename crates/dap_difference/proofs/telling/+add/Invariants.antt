@@ -4,7 +4,7 @@ use Rattle.dap_difference.specs.Shown.{path_of, told}
 use Rattle.dap_difference.specs.Telling.{below, items_differences, members_differences}
 use Rattle.dap_difference.proofs.telling.+add.Given as goal
 
--- what is told so far and what is left to tell are all
+-- the differences found so far and the remaining ones are all differences
 abbrev pub invariant-add_items-loop-place : goal.invariant-add_items-loop-place
 invariant-add_items-loop-place l = record {
   told_so_far : told l.found.items ++ map (below (path_of l.initial.path.items))

@@ -5,7 +5,7 @@ use Rattle.dap_normal.proofs.StreamLoop.{Going}
 use Rattle.dap_normal.proofs.WholeInput.{memory}
 use Rattle.dap_golden.proofs.normal_session.normalise_records.Given as goal
 
--- the text has the records of the normal form of the messages so far
+-- The text consists of the records of the normal form of the messages so far.
 abbrev pub invariant-loop-bytes : goal.invariant-loop-bytes
 invariant-loop-bytes g l =
     record {

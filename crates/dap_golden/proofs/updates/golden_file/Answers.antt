@@ -4,7 +4,7 @@ use Rattle.dap_golden.specs.Golden.{mask_given}
 use Rattle.dap_golden.specs.GoldenUpdates.{RunsOn}
 use Rattle.dap_golden.proofs.updates.golden_file.Goals as goal
 
--- what a crash leaves has a property that follows from another one
+-- Every content that a crash leaves has a property, if it has one that implies it.
 leaves_either : {F : Type 0} (moment : F → ℕ) (left_since : F → ℕ → Content → Type 0)
     (P Q : Content → Type 0) (old new : F) → LeavesOnly moment left_since P old new
     → ((c : Content) → P c → Q c) → LeavesOnly moment left_since Q old new

@@ -18,7 +18,7 @@ decreases-mark_list l = 3 * length l.path.now + 2
 abbrev pub decreases-mark_each : goal.decreases-mark_each
 decreases-mark_each l = 3 * length l.path.now + 1
 
--- the items before the index are done, and those after it are as they were
+-- the items before the index are processed, and those after it are unchanged
 abbrev pub invariant-mark_each-loop-item : goal.invariant-mark_each-loop-item
 invariant-mark_each-loop-item l =
     items_join (take l.item-index l.item-items)

@@ -4,7 +4,7 @@ use Rattle.dap_profile.specs.ProfileRows.{row_of}
 use Rattle.dap_message.specs.AskedRows.{marks_by}
 use Rattle.dap_message.proofs.marks.mark_rows.Given as goal
 
--- the rows that are left make of the tree what all make of the first one
+-- the remaining rows have the same effect on this tree as all rows on the initial one
 abbrev pub invariant-loop-row : goal.invariant-loop-row
 invariant-loop-row l =
     marks_by (map row_of (drop l.row-index l.rows)) l.side (view l.tree)

@@ -5,7 +5,7 @@ use Rattle.dap_recording.specs.Recording.{record_text}
 use Rattle.dap_normal.specs.JudgingSteps.{record_of}
 use Rattle.dap_normal.proofs.messages.append_record.Goals as goal
 
--- what was appended is as long as the text has grown
+-- the appended bytes are as many as the text has grown by
 counted : (old added new : List ℕ) (written before after : ℕ) → new ≡ old ++ added
     → before ≡ length old → after ≡ length new → written + (after - before) ≡ written + length added
 counted old added new written before after is first last =

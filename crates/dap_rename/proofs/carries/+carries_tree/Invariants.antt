@@ -3,7 +3,7 @@ use Rattle.dap_tree.specs.View.{items_view, members_view}
 use Rattle.dap_rename.specs.Carrying.{carries_items, carries_members}
 use Rattle.dap_rename.proofs.carries.+carries_tree.Given as goal
 
--- what is left to look at has the answer of the whole
+-- the remaining items have the same result as all items
 abbrev pub invariant-carries_items-loop-item : goal.invariant-carries_items-loop-item
 invariant-carries_items-loop-item l =
     let ps = l.renaming.pairs.items in

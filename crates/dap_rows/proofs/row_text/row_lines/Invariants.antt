@@ -4,7 +4,7 @@ use Rattle.dap_profile.specs.ProfileRows.{row_of}
 use Rattle.dap_rows.specs.RowLines.{asked_line, lines_of}
 use Rattle.dap_rows.proofs.row_text.row_lines.Given as goal
 
--- the lines so far, and those of the rows that are left, are those of all
+-- The lines so far, followed by those of the remaining rows, are all lines.
 abbrev pub invariant-loop-row : goal.invariant-loop-row
 invariant-loop-row l =
     string_bytes l.out

@@ -4,7 +4,7 @@ use Rattle.dap_tree.specs.Doc.{items_in_range, members_in_range}
 use Rattle.dap_tree.specs.View.{items_view, members_view}
 use Rattle.dap_show.proofs.indented.+push_indented.Given as goal
 
--- the text so far, and that of what is left, are that of all
+-- The text so far, followed by that of the remaining elements, is the complete text.
 abbrev pub invariant-push_list-loop-item : goal.invariant-push_list-loop-item
 invariant-push_list-loop-item l = record {
   text : l.out.items

@@ -5,7 +5,7 @@ use Rattle.dap_tree.specs.Doc.{items_in_range, members_in_range}
 use Rattle.dap_tree.specs.View.{items_view, members_view}
 use Rattle.dap_show.proofs.leaves.+push_leaves.Given as goal
 
--- the lines so far, and those of what is left, are those of all
+-- The lines so far, followed by those of the remaining elements, are all lines.
 abbrev pub invariant-push_items-loop-place : goal.invariant-push_items-loop-place
 invariant-push_items-loop-place l = record {
   lines : l.out.items

@@ -4,7 +4,7 @@ use Rattle.dap_message.specs.ViewItems.{frames_left}
 use Rattle.dap_show.specs.Showing.{frame_line}
 use Rattle.dap_show.proofs.message_lines.push_frames.Given as goal
 
--- the lines so far, and those of what is left, are those of all
+-- The lines so far, followed by those of the remaining frames, are all lines.
 abbrev pub invariant-loop-frame : goal.invariant-loop-frame
 invariant-loop-frame l =
     string_bytes l.out ++ flat_map frame_line (frames_left l.frame-iterator)

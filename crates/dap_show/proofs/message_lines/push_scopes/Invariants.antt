@@ -4,7 +4,7 @@ use Rattle.dap_message.specs.ViewItems.{scopes_left}
 use Rattle.dap_show.specs.Showing.{scope_line}
 use Rattle.dap_show.proofs.message_lines.push_scopes.Given as goal
 
--- the lines so far, and those of what is left, are those of all
+-- The lines so far, followed by those of the remaining scopes, are all lines.
 abbrev pub invariant-loop-scope : goal.invariant-loop-scope
 invariant-loop-scope l =
     string_bytes l.out ++ flat_map scope_line (scopes_left l.scope-iterator)

@@ -4,7 +4,7 @@ use Rattle.dap_message.specs.ViewItems.{variables_left}
 use Rattle.dap_show.specs.Showing.{variable_line}
 use Rattle.dap_show.proofs.message_lines.push_variables.Given as goal
 
--- the lines so far, and those of what is left, are those of all
+-- The lines so far, followed by those of the remaining variables, are all lines.
 abbrev pub invariant-loop-variable : goal.invariant-loop-variable
 invariant-loop-variable l =
     string_bytes l.out ++ flat_map variable_line (variables_left l.variable-iterator)

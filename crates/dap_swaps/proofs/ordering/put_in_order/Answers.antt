@@ -17,7 +17,7 @@ use Rattle.dap_swaps.specs.Order.{message_labels, ordered}
 use Rattle.dap_swaps.proofs.PlacesInOrder.{are_swaps_of_places, places_in_order}
 use Rattle.dap_swaps.proofs.ordering.put_in_order.Goals as goal
 
--- the order of the places of these messages
+-- The order of the places of these messages.
 abbrev order_of : List SwapRule → List Sent → Swaps ℕ
 order_of rules ms = by_place (by_label (message_labels rules)) (label (message_labels rules) ms)
 

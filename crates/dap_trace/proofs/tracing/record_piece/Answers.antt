@@ -11,7 +11,7 @@ use Rattle.dap_trace.proofs.TracingLoop.{no_run}
 use Rattle.dap_trace.proofs.TracingLoop.{piece_done, recorded_before, run_faulty, run_recorded}
 use Rattle.dap_trace.proofs.tracing.record_piece.Goals as goal
 
--- no byte is left where a slice is found empty
+-- A slice that is found empty has no bytes left.
 ended : (rest : List ℕ) → true ≡ eqb (length rest) 0 → rest ≡ []
 ended rest is = nil_from_length rest (eqb-true _ 0 (sym is))
 
@@ -24,7 +24,7 @@ loop-rest-init c = λ limits bytes sound short was.
     longer limits sound bytes [] c.args.trace.now c.args.recorder.now c.args.last was
     c.args.piece.now short
 
--- What has come is taken as a whole.
+-- Bytes within the limit are all consumed.
 all_taken : (limits : Limits) (whole : List ℕ) → length whole ≤ limits.input
     → whole ≡ take limits.input whole
 all_taken limits whole short = sym (take_all limits.input whole short)

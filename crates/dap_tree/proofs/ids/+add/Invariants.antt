@@ -6,7 +6,7 @@ use Rattle.dap_tree.specs.Ids.{items_ids, members_ids, Extends}
 use Rattle.dap_tree.specs.View.{items_view, members_view}
 use Rattle.dap_tree.proofs.ids.+add.Given as goal
 
--- what is found so far and what is left to find are all
+-- the ids found so far and the remaining ids are all ids
 abbrev pub invariant-add_items-loop-item : goal.invariant-add_items-loop-item
 invariant-add_items-loop-item l = record {
   all : l.found.items ++ items_ids (items_view (drop l.item-index l.item-items))

@@ -17,7 +17,7 @@ decreases-put_items l = 3 * l.levels + 1
 abbrev pub decreases-put_members : goal.decreases-put_members
 decreases-put_members l = 3 * l.levels + 2
 
--- the items before the index are done, and those after it are as they were
+-- the items before the index are processed, and those after it are unchanged
 abbrev pub invariant-put_items-loop-item : goal.invariant-put_items-loop-item
 invariant-put_items-loop-item l = record {
   shallow : items_depth (items_view (drop l.item-index l.item-items)) ≤ l.levels;

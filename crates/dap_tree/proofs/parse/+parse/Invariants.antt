@@ -17,7 +17,7 @@ decreases-parse_items l = 2 * l.depth + 1
 abbrev pub decreases-parse_members : goal.decreases-parse_members
 decreases-parse_members l = 2 * l.depth + 1
 
--- what is found so far goes before what is read of the tokens that are left, for which n turns are
+-- the items found so far precede those read from the remaining tokens, for which n iterations are
 -- enough
 abbrev pub invariant-parse_items-items : goal.invariant-parse_items-items
 invariant-parse_items-items l =

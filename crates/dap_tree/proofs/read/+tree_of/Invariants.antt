@@ -7,7 +7,7 @@ use Rattle.dap_tree.specs.Json.{ItemsStand, MembersStand}
 use Rattle.dap_tree.specs.View.{items_view, members_view}
 use Rattle.dap_tree.proofs.read.+tree_of.Given as goal
 
--- what is done stands for the values so far
+-- the trees so far represent the values so far
 abbrev pub invariant-items_of-loop-value : goal.invariant-items_of-loop-value
 invariant-items_of-loop-value l = record {
   all : l.fn.values.items ≡ l.yielded ++ into_iter_items l.value-iterator;

@@ -3,7 +3,7 @@ use Rattle.dap_tree.specs.Doc.{items_fit, members_fit}
 use Rattle.dap_tree.specs.View.{items_view, members_view}
 use Rattle.dap_tree.proofs.sound.+fits.Given as goal
 
--- what is left decides
+-- the remaining items decide
 abbrev pub invariant-items_fit-loop-item : goal.invariant-items_fit-loop-item
 invariant-items_fit-loop-item l =
     items_fit l.levels (items_view (drop l.item-index l.item-items))

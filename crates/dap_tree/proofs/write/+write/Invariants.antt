@@ -9,7 +9,8 @@ use Rattle.dap_tree.specs.WrittenTokens.{items_json, members_json}
 use Rattle.dap_tree.proofs.Views.{Entry}
 use Rattle.dap_tree.proofs.write.+write.Given as goal
 
--- the tokens so far and those of the items that are left are all, and all reads back where those do
+-- the tokens so far and those of the remaining items are all tokens, and all tokens read back if
+-- those of the remaining items do
 abbrev pub invariant-write_items-loop-item : goal.invariant-write_items-loop-item
 invariant-write_items-loop-item l =
     let left = items_view (drop l.item-index l.item-items) in
@@ -22,7 +23,7 @@ invariant-write_items-loop-item l =
           → of_items (items_json all) ≡ Some (items_data all);
     }
 
--- the tokens so far and those of the members that are left are all, and the members so far have
+-- the tokens so far and those of the remaining members are all tokens, and the members so far have
 -- been read
 abbrev pub invariant-write_members-loop-name : goal.invariant-write_members-loop-name
 invariant-write_members-loop-name l =

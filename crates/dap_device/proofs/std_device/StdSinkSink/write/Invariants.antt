@@ -1,7 +1,7 @@
 use Rattle.std.proofs.Common.{◌≡◌}
 use Rattle.dap_device.proofs.std_device.StdSinkSink.write.Given as goal
 
--- an interrupted write takes nothing and is not counted
+-- an interrupted write writes nothing and is not counted
 abbrev pub invariant-loop : goal.invariant-loop
 invariant-loop g l =
     record {

@@ -5,7 +5,7 @@ use lib.Pointwise.{pointwise}
 use Rattle.dap_normal.proofs.HeldMessages.{equal_hold, hold_equal, equal_recordings}
 use Rattle.dap_normal.proofs.normalised.Normalised.same.Goals as goal
 
--- what the test of the bytes tells of the texts
+-- what the comparison of the bytes implies for the outputs
 told : (xs ys bytes others : List ℕ) (r : Bool) → r ≡ pointwise eqb xs ys → xs ≡ bytes → ys ≡ others
     → (r ≡ true) ↔ (bytes ≡ others)
 told xs ys bytes others r is one two =

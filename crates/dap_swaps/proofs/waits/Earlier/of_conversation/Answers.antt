@@ -13,7 +13,7 @@ use Rattle.dap_swaps.proofs.Covering.{covers_back, covers_none, covers_last}
 use Rattle.dap_swaps.proofs.waits.Earlier.of_conversation.Goals as goal
 use Rattle.dap_swaps.proofs.waits.Earlier.of_conversation.Goals.{in-Some+in_ok-push, in_default}
 
--- The place is one of each list of messages that the parts describe.
+-- The place is within each list of messages that the parts describe.
 within : (e : Earlier) (ms ns : List Sent) (place : ℕ) → IsEarlier ms e → IsEarlier ns e
     → place < length ns → place < length ms
 within e ms ns place is was low =
@@ -25,7 +25,7 @@ within e ms ns place is was low =
       len_map is_numbered_response ns,
     )
 
--- The test that was read is that of the message.
+-- The test result that was read is that of the message.
 tested : (ms : List Sent) (bs : List Bool) (place : ℕ) (b : Bool) (y : Sent)
     → bs ≡ map is_numbered_response ms → slice_get ms place ≡ Some y → place < length ms
     → slice_get bs place ≡ Some b → is_numbered_response y ≡ b

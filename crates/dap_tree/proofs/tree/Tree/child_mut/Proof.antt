@@ -1,4 +1,4 @@
--- `child_mut` passes its reference on to `lend_child`, and hands on what that lends.
+-- `child_mut` passes its reference on to `lend_child`, and returns what that function lends.
 use mathlib.Core.Path.{refl}
 use mathlib.Core.List.{List, [], ◌∷◌}
 use seplogic.Ra.Ura.{Ura}
@@ -55,7 +55,7 @@ stayed = (
   (stay_dropped (StrRefOf (1 ∷ []) tt) yes, tt),
 )
 
--- a tree as `lend_child` has it, at the layout that a call passes
+-- a tree in the form that `lend_child` uses, with the layout that a call passes
 abbrev Passed : RattleType
 Passed = arg (raw_of (layout the_row)) no the_row
 
@@ -118,7 +118,7 @@ child_mut_spec {M} 𝓤 𝓛 𝓜 𝓡 wired =
     use0 𝓛 (raw (fact 𝓤 ([] ⊑ the_row.lives))) (fact_i 𝓤 _ (emp 𝓤) (⊑_refl [])) $ move ! (0 ∷ 2
     ∷ []) $ join ! $ move ! (1 ∷ 0 ∷ []) $ join ! $
     use1 𝓛 (raw (G.pre z)) (id⊢ 𝓤 _) $
-    -- [what the call asks; the locals]
+    -- [the precondition of the call; the locals]
     enter ! _ _ _ _ _ $ alloc_all !
     (λ l. pass_all ! refl ((tt, tt), (text_Lawful 𝓛 κs.1.0).typed a.1.0 vss.1.0 are.1.0) $
     sets ! (addr ! (through ! refl (stop !))) refl (tt, tt) $
