@@ -3,9 +3,11 @@
 # make test       the gate and the runs around it
 # make mutants    tries all wrong bodies, also those that the gate leaves out; CRATES="a b" tries those of some crates
 # make try        a first look, unproved: two runs of one session normalised
+# make documents  writes the parts of the documents that are generated from the code
 # make bench      speed and memory; SIZE=small takes seconds, FIGURES=FOLDER also writes the figures there as JSON
-# make dist       the sources of the last commit, their proof pack and a Debian package, in dist/
-# make install    puts program, man page, completions, guides and examples under DESTDIR and PREFIX; make uninstall removes them
+# make dist       the sources of the last commit, their proof pack and two Debian packages, in dist/
+# make install    puts program, man page, completions, guides, examples and the Python package under DESTDIR and PREFIX; make uninstall removes them
+# make real       installs four debuggers and Emacs (Debian), and runs their sessions ten times each; not a part of make test
 
 PREFIX ?= /usr/local
 PROGRAM ?= bin/dapnorm
@@ -21,11 +23,17 @@ AS_ZSH := share/zsh/site-functions/_dapnorm
 AS_FISH := share/fish/vendor_completions.d/dapnorm.fish
 # The guides and the examples keep their folders below this one, so that their links work there.
 AS_SHARED := share/dapnorm
-GUIDES := $(addprefix docs/,$(addsuffix .md,FAULTS FORMATS GLOSSARY NORMAL-FORM ORDER PROFILE TUTORIAL))
+GUIDES := $(addprefix docs/,$(addsuffix .md,COMMANDS ERRORS FORMATS GLOSSARY NORMAL-FORM PROFILE RULES TUTORIAL)) docs/session.svg
 EXAMPLES := examples/README.md examples/program.py examples/session.rules $(sort $(wildcard examples/rules/*.rules))
 RECIPES := $(addprefix examples/,golden_test.py trace_tee.py trace_proxy.py from_debugpy_log.py from_lldb_log.py)
 SHELL_RECIPES := $(addprefix examples/,golden.sh ci.sh git_setup.sh)
 SHARED := $(GUIDES) $(EXAMPLES) $(RECIPES) $(SHELL_RECIPES)
+# The Python package. Debian's python3 looks into this folder below /usr; for another one set PYTHONPATH, or AS_PYTHON.
+AS_PYTHON := lib/python3/dist-packages
+KIT := $(sort $(wildcard python/dapnorm/*.py)) python/dapnorm/py.typed
+KIT_METADATA := METADATA entry_points.txt
+KIT_VERSION := $(shell sed -n 's/^__version__ = "\(.*\)"$$/\1/p' python/dapnorm/__init__.py)
+AS_METADATA := $(AS_PYTHON)/dapnorm-$(KIT_VERSION).dist-info
 SHELL := bash
 .SHELLFLAGS := -o pipefail -c
 
@@ -33,7 +41,7 @@ SHELL := bash
 CRATES := $(filter dap%,$(shell sed -n 's/^\([a-z0-9_]*\)[ :].*/\1/p' crates.txt))
 SOURCES := crates.txt $(shell find $(addprefix crates/,$(CRATES)) -type f -not -path '*/out/*' -not -path '*/must-fail/*' -not -path '*/mutants/*')
 
-.PHONY: all proofs test mutants try bench dist install uninstall clean need-rt need-python need-commit
+.PHONY: all proofs test mutants try bench documents dist install uninstall real clean need-rt need-python need-commit
 
 all: bin/dapnorm
 
@@ -92,6 +100,13 @@ bin/reading_alone: $(wildcard crates/reading_alone/src/*) bin/dapnorm
 SIZE ?= full
 MEASURE = python3 scripts/$(1).py --size "$(SIZE)" --program "$(PROGRAM)" $(if $(FIGURES),--json "$(FIGURES)/$(1).json")
 
+# Each script writes its part of the documents. The pictures come last: they show what the others have.
+GENERATORS := contracts errors architecture library benchmarks pictures
+
+documents: need-python
+	@echo "Writes the generated parts of the documents: a second."
+	@for it in $(GENERATORS) profile; do python3 "tests/$$it.py" write > /dev/null || exit; done
+
 bench: need-python $(PROGRAM) bin/reading_alone
 	@echo "Measures each command on generated inputs, and compares it with short Python scripts: $(if $(filter small,$(SIZE)),seconds,some minutes)."
 	@$(call MEASURE,bench)
@@ -99,7 +114,7 @@ bench: need-python $(PROGRAM) bin/reading_alone
 
 # PROGRAM may name a program that is built already. The folders of completions are those that the shells look into.
 install: $(PROGRAM)
-	@echo "Puts the program, its man page, completions, guides and examples below $(DESTDIR)$(PREFIX): at once."
+	@echo "Puts the program, its man page, completions, guides, examples and Python package below $(DESTDIR)$(PREFIX): at once."
 	install -D -m 755 "$(PROGRAM)" "$(BELOW)/$(AS_PROGRAM)"
 	install -D -m 644 docs/dapnorm.1 "$(BELOW)/$(AS_MANUAL)"
 	install -D -m 644 completions/dapnorm.bash "$(BELOW)/$(AS_BASH)"
@@ -107,12 +122,20 @@ install: $(PROGRAM)
 	install -D -m 644 completions/dapnorm.fish "$(BELOW)/$(AS_FISH)"
 	@for it in $(filter-out $(SHELL_RECIPES),$(SHARED)); do install -D -m 644 "$$it" "$(BELOW)/$(AS_SHARED)/$$it" || exit; done
 	@for it in $(SHELL_RECIPES); do install -D -m 755 "$$it" "$(BELOW)/$(AS_SHARED)/$$it" || exit; done
+	@for it in $(KIT); do install -D -m 644 "$$it" "$(BELOW)/$(AS_PYTHON)/$${it#python/}" || exit; done
+	@for it in $(KIT_METADATA); do install -D -m 644 "python/dapnorm.dist-info/$$it" "$(BELOW)/$(AS_METADATA)/$$it" || exit; done
+	@test -n "$(DESTDIR)" || python3 -c 'import sys; sys.exit(sys.argv[1] not in sys.path)' "$(PREFIX)/$(AS_PYTHON)" 2> /dev/null \
+		|| echo "python3 does not look into $(PREFIX)/$(AS_PYTHON): export PYTHONPATH=$(PREFIX)/$(AS_PYTHON), or choose another folder below PREFIX by AS_PYTHON="
 
 uninstall:
 	@echo "Removes the files that make install put below $(DESTDIR)$(PREFIX)."
 	rm -f "$(BELOW)/$(AS_PROGRAM)" "$(BELOW)/$(AS_MANUAL)" "$(BELOW)/$(AS_BASH)" "$(BELOW)/$(AS_ZSH)" "$(BELOW)/$(AS_FISH)"
 	@for it in $(SHARED); do rm -f "$(BELOW)/$(AS_SHARED)/$$it" || exit; done
 	@for it in /examples/rules /examples /docs ""; do rmdir "$(BELOW)/$(AS_SHARED)$$it" 2> /dev/null || true; done
+	@for it in $(KIT); do rm -f "$(BELOW)/$(AS_PYTHON)/$${it#python/}" || exit; done
+	@for it in $(KIT_METADATA); do rm -f "$(BELOW)"/$(AS_PYTHON)/dapnorm-*.dist-info/"$$it" || exit; done
+	@rm -rf "$(BELOW)/$(AS_PYTHON)/dapnorm/__pycache__"
+	@for it in "$(BELOW)"/$(AS_PYTHON)/dapnorm "$(BELOW)"/$(AS_PYTHON)/dapnorm-*.dist-info; do rmdir "$$it" 2> /dev/null || true; done
 
 # The packages are made of the last commit, so the program has to be built of it too.
 need-commit:
@@ -120,8 +143,12 @@ need-commit:
 	@git diff --quiet HEAD -- && test -z "$$(git ls-files --others --exclude-standard crates)" || { echo "the packages are made of the last commit: commit first, or set aside what has changed"; exit 1; }
 
 dist: need-commit need-python $(PROGRAM) $(PACK)
-	@echo "Packs the sources of the last commit with their proof pack, and makes a Debian package: seconds."
+	@echo "Packs the sources of the last commit with their proof pack, and makes the Debian packages: seconds."
 	@python3 scripts/make_package.py "$(PROGRAM)" "$(PACK)" dist
+
+real: need-python $(PROGRAM)
+	@echo "Installs debugpy, lldb, delve, Go, Ruby, Emacs and dap-mode by apt-get, and runs each session ten times: about three minutes."
+	@python3 tests/real/run.py --install "$(PROGRAM)"
 
 clean:
 	@echo "Removes bin, dist and the folder out of each crate: the next make proves every crate again."

@@ -1,9 +1,10 @@
 """Makes what a release gives out: python3 scripts/make_package.py PROGRAM PACK FOLDER
 
 FOLDER then has dapnorm-VERSION.proofs, which is the proof pack PACK, dapnorm-VERSION.tar.gz, the
-sources of the last commit with that pack, and dapnorm_VERSION_amd64.deb, a package of PROGRAM,
-which has to be built of that commit. A pack of other sources is refused. The version is that of
-the first heading of CHANGELOG.md. The same commit, PROGRAM and PACK give the same bytes.
+sources of the last commit with that pack, dapnorm_VERSION_amd64.deb, a package of PROGRAM,
+which has to be built of that commit, and python3-dapnorm_VERSION_all.deb, a package of the Python
+package in python/. A pack of other sources is refused. The version is that of the first heading of
+CHANGELOG.md. The same commit, PROGRAM and PACK give the same bytes.
 """
 import gzip
 import hashlib
@@ -39,15 +40,45 @@ Architecture: amd64
 Maintainer: {maintainer}
 Installed-Size: {size}
 Depends: libc6 (>= {libc})
+Suggests: python3-dapnorm
 Section: devel
 Priority: optional
 Description: recorder and normaliser of Debug Adapter Protocol sessions
  dapnorm keeps golden tests of debug adapters stable. It records a session of
  a client and an adapter, checks it against a profile of the protocol, and
- numbers sequence numbers, frame ids and variables references anew by first
+ renumbers sequence numbers, frame ids and variables references by first
  appearance. Two runs that differ in nothing but such numbers then give equal
  bytes.
 """
+KIT_CONTROL = """\
+Package: python3-dapnorm
+Source: dapnorm
+Version: {version}
+Architecture: all
+Maintainer: {maintainer}
+Installed-Size: {size}
+Depends: python3 (>= 3.9), dapnorm (= {version})
+Suggests: python3-pytest
+Section: python
+Priority: optional
+Description: golden tests of debug adapters in Python
+ A client of the Debug Adapter Protocol that records its sessions, a plugin
+ for pytest that compares them with golden files by means of dapnorm, and
+ recorders for sessions of other clients over standard streams and TCP.
+"""
+# Python's byte code is made after the installation, and removed with the package.
+KIT_SCRIPTS = {
+    "postinst": """\
+#!/bin/sh
+set -e
+if [ "$1" = configure ] && [ -z "$DPKG_ROOT" ] && command -v py3compile > /dev/null; then py3compile -p python3-dapnorm; fi
+""",
+    "prerm": """\
+#!/bin/sh
+set -e
+if [ -z "$DPKG_ROOT" ] && command -v py3clean > /dev/null; then py3clean -p python3-dapnorm; fi
+""",
+}
 COPYRIGHT = """\
 Format: https://www.debian.org/doc/packaging-manuals/copyright-format/1.0/
 Upstream-Name: dapnorm
@@ -115,11 +146,11 @@ def libraries(tree):
     return sorted(used - {name for name, _ in lines})
 
 
-def copyright_file(tree):
+def copyright_file(tree, with_program=True):
     form = r"Copyright \(c\) (.*)\n\n((?:.|\n)*)"
     holder, terms = re.search(form, read(tree, "LICENSE-MIT")).groups()
     terms = "\n".join(" " + (line or ".") for line in terms.strip().splitlines())
-    comment = filled(COMMENT.format(libraries=", ".join(libraries(tree))))
+    comment = filled(COMMENT.format(libraries=", ".join(libraries(tree)))) if with_program else " This package has Python code only."
     return COPYRIGHT.format(holder=holder, comment=comment, terms=terms)
 
 
@@ -167,7 +198,17 @@ def package(tree, program, date, stage):
     write(compressed(changelog(tree, date)), documents, "changelog.Debian.gz")
 
 
-def control(tree, libc, stage):
+def kit_package(tree, date, stage, kit):
+    """Moves the Python package out of the folder that `make install` filled into one of its own, with the documents of a package."""
+    os.makedirs(os.path.join(kit, "usr"))
+    os.rename(os.path.join(stage, "usr", "lib"), os.path.join(kit, "usr", "lib"))
+    documents = os.path.join(kit, "usr", "share", "doc", "python3-dapnorm")
+    write(copyright_file(tree, False).encode(), documents, "copyright")
+    write(compressed(read(tree, "CHANGELOG.md")), documents, "changelog.gz")
+    write(compressed(changelog(tree, date)), documents, "changelog.Debian.gz")
+
+
+def control(form, tree, stage, **more):
     """What dpkg asks of the package, and the sums of its files."""
     sums, size = [], 0
     for name in files(stage):
@@ -175,8 +216,8 @@ def control(tree, libc, stage):
             text = file.read()
         sums.append(f"{hashlib.md5(text).hexdigest()}  {name}\n")
         size += (len(text) + 1023) // 1024
-    said = {"version": newest(tree)[0], "maintainer": MAINTAINER, "size": size, "libc": libc}
-    write(CONTROL.format(**said).encode(), stage, "DEBIAN", "control")
+    said = {"version": newest(tree)[0], "maintainer": MAINTAINER, "size": size, **more}
+    write(form.format(**said).encode(), stage, "DEBIAN", "control")
     write("".join(sums).encode(), stage, "DEBIAN", "md5sums")
 
 
@@ -192,25 +233,31 @@ def archive(sources, name, pack, seconds):
 
 
 def make(program, pack, folder):
-    """The three files, made in this folder; gives their paths."""
+    """The four files, made in this folder; gives their paths."""
     libc = oldest_libc(program)
     seconds, date = git("log", "-1", "--format=%ct%n%cD").decode().splitlines()
-    tree, stage = os.path.join(folder, "tree"), os.path.join(folder, "stage")
-    for it in (tree, stage):
+    tree, stage, kit = (os.path.join(folder, it) for it in ("tree", "stage", "kit"))
+    for it in (tree, stage, kit):
         os.mkdir(it)
     subprocess.run(["tar", "-x", "-C", tree], input=git("archive", "HEAD"), check=True)
     pack_file.refuse(pack_file.read(pack), tree, CRATE)
     name = f"dapnorm-{newest(tree)[0]}"
     sources, proofs = (os.path.join(folder, f"{name}.{end}") for end in ("tar.gz", "proofs"))
-    binary = os.path.join(folder, f"dapnorm_{newest(tree)[0]}_amd64.deb")
+    debian = [(stage, f"dapnorm_{newest(tree)[0]}_amd64.deb"), (kit, f"python3-dapnorm_{newest(tree)[0]}_all.deb")]
     archive(sources, name, pack, seconds)
     shutil.copyfile(pack, proofs)
     package(tree, program, date, stage)
-    control(tree, libc, stage)
-    words = ["dpkg-deb", "--root-owner-group", "-Zxz", "--build", stage, binary]
+    kit_package(tree, date, stage, kit)
+    control(CONTROL, tree, stage, libc=libc)
+    control(KIT_CONTROL, tree, kit)
+    for name, text in KIT_SCRIPTS.items():
+        write(text.encode(), kit, "DEBIAN", name)
+        os.chmod(os.path.join(kit, "DEBIAN", name), 0o755)
     environment = {**os.environ, "SOURCE_DATE_EPOCH": seconds}
-    subprocess.run(words, stdout=subprocess.DEVNULL, check=True, env=environment)
-    return sources, proofs, binary
+    for at, file_name in debian:
+        words = ["dpkg-deb", "--root-owner-group", "-Zxz", "--build", at, os.path.join(folder, file_name)]
+        subprocess.run(words, stdout=subprocess.DEVNULL, check=True, env=environment)
+    return sources, proofs, *(os.path.join(folder, file_name) for _, file_name in debian)
 
 
 def main():

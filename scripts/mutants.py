@@ -61,7 +61,7 @@ class CrateRun:
         self.scratch, self.report, self.name = scratch, report, name
         self.crate = scratch.crates[name]
         self.is_proved = scratch.is_proved(name)
-        # a check over kept work takes a third of the memory of one from nothing, as measured
+        # a check over kept work takes a third of the memory of one from scratch, as measured
         self.need = scratch.rt.need(self.crate) // (2 if self.is_proved else 1)
         self.lock = threading.Lock()
         self.left = 1
@@ -153,7 +153,7 @@ def tried(scratch: Scratch, names: List[str], jobs: int) -> Report:
     rt = scratch.rt
     report = Report(sum(counts(scratch.folder, it) for it in names))
     scratch.take_libraries(names)
-    # the dearest crate begins first, so it stands last
+    # the most expensive crate starts first
     names = sorted(names, key=lambda it: counts(scratch.folder, it) * scratch.crates[it].count(rb"\n"))
     runs = [CrateRun(scratch, it, report) for it in names]
     memory = float("inf") if jobs else 0.85 * rt.free()

@@ -187,7 +187,7 @@ def refused_alone(rt, crate, edit: Edit, *kept: str) -> Tuple[bool, str]:
 
 
 def tried_alone(rt, crate, edit: Edit, kept: str) -> Verdict:
-    """Tries one edit as `rt must-fail` does, over kept work; what is not refused so is tried again from nothing."""
+    """Tries one edit as `rt must-fail` does, over kept work; an edit that is not rejected so is tried again from scratch."""
     label = f"must-fail {crate.name}/{os.path.basename(edit.file)}: "
     is_refused, said = refused_alone(rt, crate, edit, kept)
     if not is_refused and "NOT REFUSED" in said:

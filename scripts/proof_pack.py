@@ -1,6 +1,6 @@
 """Makes and uses proof packs. A pack has what the prover recorded of each crate, so that the program can be built without a proof.
 
-    python3 scripts/proof_pack.py make CRATE PACK [PROGRAM]   proves each crate from nothing and writes the file PACK
+    python3 scripts/proof_pack.py make CRATE PACK [PROGRAM]   proves each crate from scratch and writes the file PACK
     python3 scripts/proof_pack.py build CRATE PACK PROGRAM    builds the file PROGRAM from the sources over the file PACK
 
 CRATE is the folder of the program's crate. `make` also builds the program over the pack. If PROGRAM is given and has other bytes, it
@@ -49,13 +49,13 @@ class Room:
         return os.path.join(self.folder, self.crates[-1].name)
 
     def prove(self, crate: object, jobs: int) -> int:
-        """Proves a crate from nothing, records that and builds the crate, and returns the status."""
+        """Proves a crate from scratch, records that and builds the crate, and returns the status."""
         words = crate.words(["--jobs", str(jobs)], keeps=False)
         words += [] if crate.is_program else ["--statements"]
         return crate.prove(["check", *words, "-o", self.checked(crate)]) or self.build(crate, crate.rlib)
 
     def compare(self, crate: object, _: int) -> int:
-        """Builds a crate anew over its record, and returns 0 if a library has the bytes of the pack's."""
+        """Builds a crate again over its record, and returns 0 if a library has the bytes of the pack's."""
         again = os.path.join(self.folder, "again", f"{crate.name}.rlib")
         status = self.build(crate, again)
         if status == 0 and not crate.is_program and not same(again, crate.rlib):

@@ -102,14 +102,22 @@ def main():
             ("the elements that messages list", "views.py"),
             ("growths of memory refused in turn", "fault_injection.py"),
             ("hostile inputs and failing devices", "hostile.py"),
+            ("the test kit for adapters", "adapter_kit.py"),
             ("the examples", "examples.py"),
             ("the man page, completions and installation", "manual.py"),
+            ("the synopses and the completions", "usage.py"),
             ("the packages", "package.py"),
             ("the script of make mutants", "mutants.py"),
             ("the scripts and the targets of the Makefile", "scripts.py"),
             ("what the documents name", "documents.py"),
-            ("the tests that are listed", "listed.py"),
             ("the document of the profile", "profile.py"),
+            ("the document of the contracts", "contracts.py"),
+            ("the document of the errors", "errors.py"),
+            ("the document of the crates", "architecture.py"),
+            ("the document of the library", "library.py"),
+            ("the figures of the benchmarks", "benchmarks.py"),
+            ("the prose", "prose.py"),
+            ("the drawn pictures", "pictures.py"),
         ]:
             more_passed, more_failed = counted(name, [sys.executable, os.path.join(tests, script)])
             passed, failed = passed + more_passed, failed + more_failed

@@ -113,7 +113,7 @@ def every_pair(report, names):
 
 
 def refused_sessions(report):
-    """A refusal is told where the records before it are the same, and not behind a difference."""
+    """An error is reported if the records before it are the same, and not after a difference."""
     for name, reason in REFUSED_RECORDINGS.items():
         answer = compare(path(name), path(name))
         report.check(f"{name} is refused beside itself", answer == (2, b"", f"dapnorm: A: {reason}\n".encode()), repr(answer))

@@ -1,6 +1,5 @@
-"""Checks that the documents name what there is: the contracts of docs/PROMISES.md, the files that links lead to and that are named, the make
-targets; that docs/FAULTS.md has each fault, that docs/CALLING.md shows each caller as it is, and that the README has a line for each crate and
-short sentences."""
+"""Checks that the documents name what exists: the contracts of docs/GUARANTEES.md, the files that links lead to and that are named, and the
+targets of make; that docs/GUARANTEES.md has a line for each crate, and that the README has short sentences."""
 import glob
 import os
 import re
@@ -42,7 +41,7 @@ def contract(crate, path):
 
 
 def promises(report):
-    with open(os.path.join(TOP, "docs", "PROMISES.md"), encoding="utf-8") as file:
+    with open(os.path.join(TOP, "docs", "GUARANTEES.md"), encoding="utf-8") as file:
         text = file.read()
     for crate, path, clauses in NAMED.findall(text):
         text = contract(crate, path)
@@ -74,12 +73,12 @@ def links(report):
 
 
 def crates(report):
-    """The README has a line for each crate of the program."""
+    """docs/GUARANTEES.md has a line for each crate that is not a crate of tests."""
     with open(os.path.join(TOP, "crates.txt"), encoding="utf-8") as file:
         names = set(re.findall(r"^(\w+):", file.read(), re.MULTILINE)) - {"layer_tests", "allocation_tests", "conformance", "driver", "fault_injection"}
-    with open(os.path.join(TOP, "README.md"), encoding="utf-8") as file:
-        told = set(re.findall(r"^\| `(\w+)` \|", file.read(), re.MULTILINE))
-    report.check("the README has each crate of the program", told == names, repr(told ^ names))
+    with open(os.path.join(TOP, "docs", "GUARANTEES.md"), encoding="utf-8") as file:
+        listed = re.findall(r"^\| `(\w+)` \|", file.read().split("## Crate by crate\n")[1].split("\n## ")[0], re.MULTILINE)
+    report.check("docs/GUARANTEES.md has each crate once", sorted(listed) == sorted(names), repr(sorted(listed)))
 
 
 def sentences(report):
@@ -98,54 +97,6 @@ def files(report):
                 report.check(f"{os.path.relpath(path, TOP)} names the file {name}", os.path.exists(os.path.join(TOP, "crates", name)))
 
 
-def told_faults():
-    """The words of each fault line that the program can tell, by the code: the names of faults and the texts of refusals, without numbers."""
-    words = set()
-    for crate in ("dap_frame", "dap_recording", "dap_session"):
-        for text in sources(crate):
-            words |= set(re.findall(r"\w+::\w+ => \"([A-Z]\w+)\"", text))
-    for crate in ("dap_tree", "dap_message", "dap_input", "dap_mask"):
-        for text in sources(crate):
-            for fault in re.findall(r"#\[error\(\"([^\"]+)\"\)\]", text):
-                words.add(re.sub(r"^(?:record|piece) \{0\}: | ?\{\d\}", "", fault).strip())
-    return {word for word in words if word not in ("", "Memory", "line {line}: {cause}")}
-
-
-def faults(report):
-    """Each fault has a line in a table of docs/FAULTS.md, with its meaning, its usual cause and what to do; and no line is of a fault that is none."""
-    with open(os.path.join(TOP, "docs", "FAULTS.md"), encoding="utf-8") as file:
-        rows = [[cell.strip() for cell in line.strip().strip("|").split("|")] for line in file if line.startswith("| `")]
-    for row in rows:
-        report.check(f"docs/FAULTS.md says all of {row[0]}", len(row) == 4 and all(row), repr(row))
-    lines = {re.sub(r"^(?:record|piece) N: |^rules: (?:line L: )?| R$|\b[CA] ", "", name) for row in rows for name in re.findall(r"`([^`]+)`", row[0])}
-    known = told_faults()
-    report.check("the code has faults", len(known) > 30, repr(known))
-    for fault in sorted(known):
-        report.check(f"docs/FAULTS.md has {fault}", fault in lines, repr(sorted(lines)))
-    for line in sorted(lines - {"client F", "adapter F"}):
-        report.check(f"{line} of docs/FAULTS.md is a fault", line in known)
-
-
-SHOWN = re.compile(r"`callers/((?:src|specs|proofs)/[\w/]+\.(?:rt|antt))`:\n\n```(?:rust|antt)\n(.*?)```", re.DOTALL)
-
-
-def callers(report):
-    """docs/CALLING.md shows each caller, in a few lines that stand so in its file."""
-    with open(os.path.join(TOP, "docs", "CALLING.md"), encoding="utf-8") as file:
-        text = file.read()
-    shown = SHOWN.findall(text)
-    for name, code in shown:
-        with open(os.path.join(TOP, "crates", "callers", name), encoding="utf-8") as file:
-            report.check(f"docs/CALLING.md shows what stands in {name}", code in file.read())
-        report.check(f"docs/CALLING.md shows few lines of {name}", len(code.splitlines()) < 30)
-    with open(os.path.join(TOP, "crates", "callers", "src", "lib.rt"), encoding="utf-8") as file:
-        modules = re.findall(r"^mod (\w+);", file.read(), re.MULTILINE)
-    for module in modules:
-        report.check(f"docs/CALLING.md shows the caller {module}", any(name == f"src/{module}.rt" for name, _ in shown))
-    with open(os.path.join(TOP, "crates.txt"), encoding="utf-8") as file:
-        report.check("docs/CALLING.md has the line of callers", re.search(r"^callers: .*$", file.read(), re.MULTILINE)[0] in text)
-
-
 def targets(report):
     with open(os.path.join(TOP, "Makefile"), encoding="utf-8") as file:
         made = set(re.findall(r"^(\w+):", file.read(), re.MULTILINE))
@@ -162,8 +113,6 @@ def main():
     sentences(report)
     targets(report)
     files(report)
-    faults(report)
-    callers(report)
     return report.close()
 
 

@@ -42,7 +42,7 @@ class Limits(NamedTuple):
 
 class Call(NamedTuple):
     """A function of the library, by the name that the driver has for it, and what it is called with. The tables of names are the engine's
-    own, `plain` or `indexed`; growth number `turn` of memory is refused, if it is not 0."""
+    own, `plain` or `indexed`; allocation number `turn` fails, if it is not 0."""
     name: str
     a: Input = Input()
     b: Input = Input()
@@ -56,7 +56,7 @@ class Call(NamedTuple):
 
 class Answer(NamedTuple):
     """The result, as Rust writes it; what was written, or what a normal text or the pairs of a renaming are; what was reported of an error;
-    how many bytes each input gave; how often the output was flushed; and whether the growth was refused."""
+    how many bytes each input gave; how often the output was flushed; and whether the allocation failed."""
     result: str
     output: bytes
     errors: bytes

@@ -1,5 +1,5 @@
 """Each growth of memory of an engine refused in turn, over the shim tests/fault_injection.c: the answer is that of ample memory, or says
-that memory was refused, and never another. The same call made next, with memory, gives the answer of ample memory."""
+that an allocation failed, and never another. The same call made next, with memory, returns what it returns with ample memory."""
 import sys
 import tempfile
 
@@ -21,7 +21,7 @@ def leading(lines):
 
 
 def wrong_turns(found, wanted, texts):
-    """The turns whose answer is neither the wanted one nor, if a growth was refused, want of memory with one of these texts written and not
+    """The turns whose answer is neither the expected one nor, if an allocation failed, `Memory` with one of these texts written and not
     flushed; and those after which the same call with memory does not give the wanted answer."""
     wrong = []
     for turn, (each, again) in enumerate(found, 1):
@@ -88,7 +88,7 @@ def want_of_memory_is_told_without_memory(report, shim):
 
 
 def named(more):
-    """What is particular to a call, behind its name."""
+    """What is particular to a call, after its name."""
     return "".join(f", {name} {value}" for name, value in more.items())
 
 

@@ -87,7 +87,7 @@ def compare(a, b):
 
 
 def asks_accepted(report, accepted):
-    """An accepted recording is the same as its normal form, which is its own, and as another one exactly if their normal texts are
+    """An accepted recording is the same as its normal form, which is its own, and as another one if and only if their normal texts are
     equal."""
     other, calls = b"", []
     for text, normal in accepted:

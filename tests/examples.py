@@ -3,7 +3,6 @@ what the program prints. golden_sessions.py has the tests of golden_test.py, and
 import io
 import os
 import re
-import runpy
 import shutil
 import socket
 import subprocess
@@ -17,6 +16,9 @@ import recipes
 from report import PROGRAM, TOP, Report, run
 from tracing import REQUESTS
 
+sys.path.insert(0, os.path.join(TOP, "python"))
+from dapnorm import proxy as proxy_module
+
 EXAMPLES = os.path.join(TOP, "examples")
 LOGS = os.path.join(EXAMPLES, "logs")
 # The logs of real adapters: the script that reads them, the answer of `check`, and whether the log
@@ -29,7 +31,7 @@ LOG_ANSWERS = {
 }
 BROKEN = ("lldb-vscode-14", "lldb-dap-22", "debugpy-1.6.3")
 # The variables that would change the examples.
-OURS = ("UPDATE_GOLDEN", "ADAPTER", "ADAPTER_TIMEOUT")
+OURS = ("UPDATE_GOLDEN", "ADAPTER", "ADAPTER_TIMEOUT", "DAPNORM", "DAPNORM_TRACES")
 
 
 def read(path):
@@ -48,7 +50,7 @@ def with_program(folder):
     os.symlink(PROGRAM, os.path.join(folder, "bin", "dapnorm"))
     kept = {name: value for name, value in os.environ.items() if name not in OURS and not name.startswith("GIT_")}
     path = os.path.join(folder, "bin") + os.pathsep + os.environ["PATH"]
-    return {**kept, "PATH": path, "HOME": folder, "PYTHONDONTWRITEBYTECODE": "1"}
+    return {**kept, "PATH": path, "HOME": folder, "PYTHONDONTWRITEBYTECODE": "1", "PYTHONPATH": os.path.join(TOP, "python")}
 
 
 def picture(report):
@@ -142,10 +144,9 @@ ADDRESSES = (
 
 
 def addresses(report, _folder):
-    proxy_address = runpy.run_path(os.path.join(EXAMPLES, "trace_proxy.py"))["address"]
     for text, wanted in ADDRESSES:
         try:
-            found = proxy_address(text)
+            found = proxy_module.address(text)
         except SystemExit as refused:
             found = None if str(refused).startswith(f"{text}: ") else refused
         report.check(f"the proxy reads the address {text!r}", found == wanted, repr(found))
@@ -155,14 +156,15 @@ def proxy_alone(report, folder):
     """No adapter listens: the proxy says so, leaves no process, and leaves an earlier trace unchanged."""
     with socket.create_server(("127.0.0.1", 0)) as unused:
         port = unused.getsockname()[1]
-    script, trace = os.path.join(EXAMPLES, "trace_proxy.py"), os.path.join(folder, "trace")
+    trace = os.path.join(folder, "trace")
     write(trace, b"as it was")
     code = "\n".join((
-        "import runpy, sys",
+        "import sys",
         f"sys.argv = ['trace_proxy.py', {trace!r}, '0', '{port}']",
-        f"proxy = runpy.run_path({script!r})",
-        "proxy['connected'].__globals__['PATIENCE'] = 0",
-        "proxy['main']()",
+        f"sys.path.insert(0, {os.path.join(TOP, 'python')!r})",
+        "from dapnorm import proxy",
+        "proxy.PATIENCE = 0",
+        "proxy.main()",
     ))
     with subprocess.Popen([sys.executable, "-c", code], stderr=subprocess.PIPE, text=True) as process:
         listening = int(process.stderr.readline().rsplit(":", 1)[1])
@@ -219,20 +221,20 @@ def logs(report, folder):
 
 def broken_texts(lldb, dap, debugpy):
     """Texts that are no such log, each with the script that says so and its words."""
-    behind = {text: text.count(b"\n") + 1 for text in (lldb, debugpy)}
+    after = {text: text.count(b"\n") + 1 for text in (lldb, debugpy)}
     return (
         ("from_lldb_log.py", b"", "line 1: the log has no message"),
         ("from_lldb_log.py", b"no log\n" + lldb, "line 1: neither a message nor a note"),
-        ("from_lldb_log.py", lldb + b"no log\n", f"line {behind[lldb]}: neither a message"),
-        ("from_lldb_log.py", lldb[:-9], f"line {behind[lldb] - 1}: the message is no JSON"),
-        ("from_lldb_log.py", lldb[:-1] + b"}\n", f"line {behind[lldb] - 1}: something stands"),
-        ("from_lldb_log.py", lldb + b"\xff\n", f"line {behind[lldb]}: the log is not UTF-8"),
+        ("from_lldb_log.py", lldb + b"no log\n", f"line {after[lldb]}: neither a message"),
+        ("from_lldb_log.py", lldb[:-9], f"line {after[lldb] - 1}: the message is no JSON"),
+        ("from_lldb_log.py", lldb[:-1] + b"}\n", f"line {after[lldb] - 1}: something stands"),
+        ("from_lldb_log.py", lldb + b"\xff\n", f"line {after[lldb]}: the log is not UTF-8"),
         ("from_lldb_log.py", dap + dap.replace(b"(stdio)", b"(client)"), "a second client"),
         ("from_debugpy_log.py", b"", "line 1: the log has no message of Client[1]"),
         ("from_debugpy_log.py", lldb, "line 1: no whole entry"),
-        ("from_debugpy_log.py", debugpy + b"I+0", f"line {behind[debugpy]}: no whole entry"),
+        ("from_debugpy_log.py", debugpy + b"I+0", f"line {after[debugpy]}: no whole entry"),
         ("from_debugpy_log.py", debugpy.replace(b'"seq": 2,', b'"seq" 2,', 1), "is no JSON"),
-        ("from_debugpy_log.py", debugpy + b"\xff", f"line {behind[debugpy]}: the log is not UTF-8"),
+        ("from_debugpy_log.py", debugpy + b"\xff", f"line {after[debugpy]}: the log is not UTF-8"),
     )
 
 
@@ -283,7 +285,7 @@ def main():
     with tempfile.TemporaryDirectory() as top:
         environment = with_program(top)
         alone = (first_look, proxy, addresses, proxy_alone, tee, logs, broken_logs, clients, golden_sessions.rules)
-        with_tools = (*golden_sessions.PARTS, recipes.golden_script, recipes.git_recipe, recipes.ci)
+        with_tools = (*golden_sessions.PARTS, recipes.golden_script, recipes.git_recipe, recipes.ci, recipes.ci_with_pytest)
         parts = [(it, ()) for it in alone] + [(it, (environment,)) for it in with_tools]
         for part, arguments in parts:
             folder = os.path.join(top, part.__name__)

@@ -39,7 +39,7 @@ def run_tests(report, shim):
 
 
 def fronts(run):
-    """What may have been written where memory is wanting: some leading records of what is written, or nothing."""
+    """What may have been written if an allocation fails: some leading records of what is written, or nothing."""
     text = run.answer[1] if run.arguments[:1] and run.arguments[0] in WRITE_RECORDS else b""
     ends = [0]
     while ends[-1] < len(text):

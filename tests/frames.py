@@ -15,6 +15,10 @@ FRAMES = {
         (b"Content-Length: 2\r\nContent-Length: 2\r\n\r\n", "TwoLengths"),
         (b"Content-Length: +5\r\n\r\n", "BadLength"),
         (b"Content-Length: 12345678901\r\n\r\n", "BadLength"),
+        (b"Content-Length: 00000000002\r\n\r\n{}", "BadLength"),
+        (b"Content-Length: \r\n\r\n", "BadLength"),
+        (b"Content-Length: 2\r\r\n\r\n{}", "HeaderLine"),
+        (b"Content-Length: 2\r\n\r", "Cut"),
     ],
     "the first fault of the whole header part": [
         (b"Content-Length: +5\r\nContent-Length 5\r\n\r\n", "HeaderLine"),
@@ -28,6 +32,18 @@ FRAMES = {
     ],
     "a header part that is too long": [(b"a" * 4096, "HeaderTooLong"), (b"a" * 4095, "Cut")],
 }
+
+# Header parts of a content of two bytes: the usual one, and others that state the same length.
+HEADERS = [
+    b"Content-Length: 2\r\n\r\n",
+    b"Content-Length: 000000002\r\n\r\n",
+    b"Content-Length: 0000000002\r\n\r\n",
+    b"Content-Length: 2 \r\n\r\n",
+    b"Content-Length:2\r\n\r\n",
+    b"content-length: 2\r\n\r\n",
+    b"Content-Length: 2\r\nX: 1\r\n\r\n",
+    b"X: 1\r\nContent-Length: 2\r\n\r\n",
+]
 
 # A recording of at most one record, and its fault.
 RECORDS = [
@@ -67,6 +83,14 @@ def faults_of_frames(report):
             refuses(report, f"{name}, row {number}", ["compact"], given, f"record 1: {fault}")
 
 
+def header_parts(report):
+    """Checks that header parts that state the same length are read alike, one after another."""
+    for number, header in enumerate(HEADERS, 1):
+        asks(report, f"header part {number}", ["compact"], 2 * (header + b"{}"), (0, 2 * frame("{}"), b""))
+    given = b"".join(b">" + header + b"{}\n" for header in HEADERS)
+    asks_of_files(report, "header parts", ["mask", "rules"], {"rules": b""}, given, (0, len(HEADERS) * record(">{}"), b""))
+
+
 def faults_of_records(report):
     report.check("the cut content lacks a byte", record(INITIALIZE).startswith(b">Content-Length: 82\r\n\r\n"))
     for number, (given, fault) in enumerate(RECORDS, 1):
@@ -104,4 +128,4 @@ def records_written_again(report):
 
 
 if __name__ == "__main__":
-    sys.exit(judged(faults_of_frames, faults_of_records, faults_of_traces, order_of_last_bytes, records_written_again))
+    sys.exit(judged(faults_of_frames, header_parts, faults_of_records, faults_of_traces, order_of_last_bytes, records_written_again))

@@ -51,7 +51,7 @@ def asks_each(report, title, faulty, run, cases):
 
 
 def ends(lines):
-    """Behind how many bytes each of the lines' records ends."""
+    """After how many bytes each of the lines' records ends."""
     found = [0]
     for line in lines:
         found.append(found[-1] + len(record(line)))
@@ -69,7 +69,7 @@ MASKING, NORMALISING = "mask rules of a configuration", "normalise of a configur
 
 
 def failing_readers(report, faulty):
-    """A reader that fails behind each number of bytes: what the records before it are made into has gone out."""
+    """A reader that fails after each number of bytes: what the records before it are made into has been written."""
     for name, texts in ((MASKING, MASKED_TEXTS), (NORMALISING, NORMAL_TEXTS)):
         for read in (5, PIECE):
             cases = [({"read_fails": place, "read": read}, (4, so_far(place, texts), READ_FAULT)) for place in range(len(SESSION) + 1)]
@@ -88,7 +88,7 @@ def failing_readers(report, faulty):
 
 
 def failing_writers(report, faulty):
-    """A writer that fails, or takes nothing, behind each number of bytes: just these have gone out."""
+    """A writer that fails, or takes nothing, after each number of bytes: exactly these have been written."""
     for name, write in [*((name, 7) for name in COMMANDS), *OTHER_WRITES]:
         run = named(name)
         text = run.answer[1]
@@ -199,7 +199,7 @@ def read_of(path, run, folder, out):
 
 
 def bounded_reading(report, faulty):
-    """At most a piece is read behind the record at which a run ends."""
+    """At most a chunk is read after the record at which a run ends."""
     path = os.path.join(faulty.folder, "long")
     runs = [named(name) for name in (NORMALISING, "check of a configuration", MASKING)]
     with open(path, "wb") as file:
@@ -213,12 +213,12 @@ def bounded_reading(report, faulty):
     for run in (runs[0], runs[2]):
         with open("/dev/full", "wb") as full:
             status, errors, taken = read_of(path, run, faulty.place(run.files), full)
-        report.check(f"{run.arguments[0]} reads no more than a piece behind a failed write", (status, errors) == (4, WRITE_FAULT), repr(errors))
-        report.check(f"{run.arguments[0]} has read little behind it", taken <= 88 + PIECE, str(taken))
+        report.check(f"{run.arguments[0]} reads no more than a chunk after a failed write", (status, errors) == (4, WRITE_FAULT), repr(errors))
+        report.check(f"{run.arguments[0]} has read little after it", taken <= 88 + PIECE, str(taken))
 
 
 def long_inputs(report, faulty):
-    """A hundred thousand records, and a fault behind them."""
+    """A hundred thousand records, and an error after them."""
     long = record(OUTPUT) * 100_000
     same = b"same\nadapter-seq 1 1\n"
     for rest, told in ((b"", b""), (b"!", refusal("record 100001: BadMarker"))):

@@ -18,11 +18,15 @@ COMPLETIONS = {shell: os.path.join(TOP, "completions", name) for shell, name in 
 INSTALLED = {
     "bin/dapnorm": 0o755, "share/man/man1/dapnorm.1": 0o644, "share/bash-completion/completions/dapnorm": 0o644,
     "share/zsh/site-functions/_dapnorm": 0o644, "share/fish/vendor_completions.d/dapnorm.fish": 0o644,
-    **{f"share/dapnorm/docs/{it}.md": 0o644 for it in ("FAULTS", "FORMATS", "GLOSSARY", "NORMAL-FORM", "ORDER", "PROFILE", "TUTORIAL")},
+    **{f"share/dapnorm/docs/{it}.md": 0o644 for it in ("COMMANDS", "ERRORS", "FORMATS", "GLOSSARY", "NORMAL-FORM", "PROFILE", "RULES", "TUTORIAL")},
+    "share/dapnorm/docs/session.svg": 0o644,
     **{f"share/dapnorm/examples/{it}": 0o644 for it in ("README.md", "program.py", "session.rules", "golden_test.py")},
     **{f"share/dapnorm/examples/{it}.py": 0o644 for it in ("trace_tee", "trace_proxy", "from_debugpy_log", "from_lldb_log")},
     **{f"share/dapnorm/examples/{it}.sh": 0o755 for it in ("golden", "ci", "git_setup")},
     **{f"share/dapnorm/examples/rules/{it}.rules": 0o644 for it in ("debugpy", "delve", "lldb", "rdbg")},
+    **{f"lib/python3/dist-packages/dapnorm/{os.path.basename(it)}": 0o644 for it in glob.glob(os.path.join(TOP, "python", "dapnorm", "*.py"))},
+    "lib/python3/dist-packages/dapnorm/py.typed": 0o644,
+    **{f"lib/python3/dist-packages/dapnorm-0.1.0.dist-info/{it}": 0o644 for it in ("METADATA", "entry_points.txt")},
 }
 
 
@@ -146,6 +150,29 @@ def links(report, folder):
             report.check(f"the installed {os.path.basename(path)} leads to {target}", os.path.exists(os.path.join(os.path.dirname(path), target)))
 
 
+def installed_kit(report, prefix):
+    """The installed Python package is found by Python and by pytest, and the installed recorder runs."""
+    place = os.path.join(prefix, "lib", "python3", "dist-packages")
+    environment = {**os.environ, "PYTHONPATH": place}
+    code = "import dapnorm, importlib.metadata as m; print(dapnorm.__file__, m.version('dapnorm'), *(it.value for it in m.distribution('dapnorm').entry_points))"
+    ran = subprocess.run([sys.executable, "-c", code], capture_output=True, text=True, env=environment)
+    wanted = f"{os.path.join(place, 'dapnorm', '__init__.py')} 0.1.0 dapnorm.pytest_plugin\n"
+    report.check("the installed Python package is found", ran.stdout == wanted, ran.stdout + ran.stderr)
+    words = [sys.executable, os.path.join(prefix, "share", "dapnorm", "examples", "trace_tee.py"), os.devnull, "sh", "-c", "exit 5"]
+    ran = subprocess.run(words, capture_output=True, text=True, stdin=subprocess.DEVNULL)
+    report.check("the installed recorder runs", (ran.returncode, ran.stderr) == (5, ""), ran.stderr)
+
+
+def hints(report, folder, program):
+    """`make install` says how Python finds the package, if it does not look there."""
+    prefix = os.path.join(folder, "home")
+    ran = made(["install", f"PROGRAM={program}", f"PREFIX={prefix}", "DESTDIR="])
+    place = os.path.join(prefix, "lib", "python3", "dist-packages")
+    report.check("make install says how Python finds the package", f"export PYTHONPATH={place}" in ran.stdout, ran.stdout)
+    ran = subprocess.run(["make", "-C", TOP, "install", f"PROGRAM={program}", f"PREFIX={prefix}", "DESTDIR="], capture_output=True, text=True, env={**os.environ, "PYTHONPATH": place})
+    report.check("and does not, if it looks there", "PYTHONPATH" not in ran.stdout and ran.returncode == 0, ran.stdout)
+
+
 def install(report):
     """Into a folder of its own, with a file in the place of the program, so that nothing is built."""
     with tempfile.TemporaryDirectory() as folder:
@@ -158,13 +185,16 @@ def install(report):
         report.check("make install ends well", ran.returncode == 0, ran.stderr)
         report.check("it installs the program and what belongs to it", below(staged) == {f"opt/dapnorm/{it}": mode for it, mode in INSTALLED.items()}, repr(below(staged)))
         links(report, os.path.join(prefix, "share", "dapnorm"))
+        installed_kit(report, prefix)
         with open(os.path.join(prefix, "other"), "w", encoding="utf-8"):
             pass
         ran = made(["uninstall", *words])
         report.check("make uninstall ends well", ran.returncode == 0, ran.stderr)
         report.check("it removes these alone", list(below(staged)) == ["opt/dapnorm/other"], repr(below(staged)))
         report.check("it removes the folder of the guides and examples", not os.path.exists(os.path.join(prefix, "share", "dapnorm")))
+        report.check("it removes the folder of the Python package", sorted(os.listdir(prefix + "/lib/python3/dist-packages")) == [])
         report.check("make uninstall again ends well", made(["uninstall", *words]).returncode == 0)
+        hints(report, folder, program)
 
 
 def main():

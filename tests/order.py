@@ -135,8 +135,8 @@ def worked(report, folder):
 
 
 def document(report, folder):
-    """The sessions that docs/ORDER.md shows."""
-    with open(os.path.join(TOP, "docs", "ORDER.md"), encoding="utf-8") as file:
+    """The sessions that docs/RULES.md shows."""
+    with open(os.path.join(TOP, "docs", "RULES.md"), encoding="utf-8") as file:
         text = file.read()
     steps, stack = [*BEGUN, NEXT], [renumbered(STACK, seq=(2, 3)), FRAME % (1000, 3, 4)]
     before, after, late = [*steps, STOPPED_2, STEPPED, *stack], [*steps, STEPPED, STOPPED_2, *stack], [*steps, STEPPED, *stack, STOPPED_2]

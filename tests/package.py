@@ -1,5 +1,5 @@
 """Makes the packages of the last commit with the program that the gate built, and looks into them:
-the sources with their proof pack, the Debian package unpacked and installed below a folder, and what `make dist` says.
+the sources with their proof pack, the Debian packages unpacked and installed below a folder, and what `make dist` says.
 tests/small_repository.py proves and packs a program; the packs here say of which sources they are, and hold no proofs."""
 import gzip
 import os
@@ -75,7 +75,7 @@ def made(report, pack, folder):
     report.check("the same commit, program and pack give the same bytes", outputs[0] == outputs[1] != {})
     changes = subprocess.check_output(["git", "show", "HEAD:CHANGELOG.md"], cwd=TOP, text=True)
     version = re.search(r"^## (\S+),", changes, re.MULTILINE)[1]
-    names = [f"dapnorm-{version}.proofs", f"dapnorm-{version}.tar.gz", f"dapnorm_{version}_amd64.deb"]
+    names = [f"dapnorm-{version}.proofs", f"dapnorm-{version}.tar.gz", f"dapnorm_{version}_amd64.deb", f"python3-dapnorm_{version}_all.deb"]
     there = sorted(outputs[0])
     report.check("their names have the version", there == names, repr(there))
     proofs, *others = (os.path.join(folder, "one", name) for name in names)
@@ -135,7 +135,7 @@ def contents(report, root, tree, folder):
     documents = {name for name in packed if name.startswith("usr/share/doc/")}
     wanted = {f"usr/share/doc/dapnorm/{name}" for name in DOCUMENTS}
     report.check("the package has the documents", documents == wanted, repr(documents))
-    installed = {MOVED.get(name, name): it for name, it in below(stage).items()}
+    installed = {MOVED.get(name, name): it for name, it in below(stage).items() if not name.startswith("usr/lib/python3/")}
     there = {name: it for name, it in packed.items() if name not in documents}
     for name in there:
         if name.endswith(".gz"):
@@ -145,21 +145,44 @@ def contents(report, root, tree, folder):
     for target in targets:
         led = os.path.normpath(os.path.join("usr/share/doc/dapnorm", target))
         report.check(f"the README of the package leads to {target}", os.path.exists(os.path.join(root, led)))
-    report.check("it leads to the guide to faults", "../../dapnorm/docs/FAULTS.md" in targets)
+    report.check("it leads to the guide to errors", "../../dapnorm/docs/ERRORS.md" in targets)
     same = there == installed
     report.check("its other files are those of make install", same, repr(sorted(there)))
     log = gzip.decompress(packed["usr/share/doc/dapnorm/changelog.gz"][0])
     report.check("the changes are the last commit's", log == read(tree, "CHANGELOG.md"))
 
 
-def package(report, path, version, root):
-    """What dpkg-deb reads of the package, which it unpacks below root."""
-    for field, wanted in (("Package", "dapnorm"), ("Version", version), ("Architecture", "amd64")):
+def kit(report, path, version, root, folder):
+    """The package of the Python package: its files are those that `make install` puts there, and Python imports it."""
+    unpacked(report, path, {"Package": "python3-dapnorm", "Version": version, "Architecture": "all"}, root)
+    documents = {f"usr/share/doc/python3-dapnorm/{name}" for name in DOCUMENTS if name != "README.md"}
+    installed = {name: it for name, it in below(os.path.join(folder, "stage")).items() if name.startswith("usr/lib/python3/")}
+    packed = below(root)
+    same = {name: it for name, it in packed.items() if name not in documents} == installed != {}
+    report.check("the files of the Python package are those of make install", same, repr(sorted(packed)))
+    report.check("it has the documents", documents <= set(packed))
+    place = os.path.join(root, "usr", "lib", "python3", "dist-packages")
+    answer = ran(sys.executable, "-c", "import dapnorm; print(dapnorm.__version__)", env={**os.environ, "PYTHONPATH": place, "PYTHONDONTWRITEBYTECODE": "1"})
+    report.check("Python imports it", answer.stdout == f"{version}\n", answer.stdout + answer.stderr)
+
+
+def unpacked(report, path, fields, root):
+    for field, wanted in fields.items():
         told = ran("dpkg-deb", "-f", path, field).stdout.strip()
         report.check(f"the package says its {field}", told == wanted, told)
     answer = ran("dpkg-deb", "-x", path, root)
     report.check("the package is unpacked", answer.returncode == 0, answer.stderr)
+    sound(report, path, root)
+
+
+def package(report, path, version, root):
+    """What dpkg-deb reads of the package, which it unpacks below root."""
+    unpacked(report, path, {"Package": "dapnorm", "Version": version, "Architecture": "amd64"}, root)
     program_runs(report, "unpacked", root)
+
+
+def sound(report, path, root):
+    """The files of a package belong to root, and have its sums; lintian finds nothing wrong, if it is installed."""
     listed = ran("dpkg-deb", "-c", path).stdout.splitlines()
     report.check("root owns its files", all(line.split()[1] == "root/root" for line in listed))
     control = root + ".control"
@@ -202,8 +225,8 @@ def installs_elsewhere(folder):
     return dpkg(root, "-i", path).returncode == 0
 
 
-def install(report, path, folder):
-    """The package installed below a folder and removed again."""
+def install(report, path, kit_path, folder):
+    """The packages installed below a folder and removed again."""
     if not installs_elsewhere(os.path.join(folder, "trial")):
         print("dpkg installs nothing below a folder here: that is not tried", flush=True)
         return
@@ -212,10 +235,12 @@ def install(report, path, folder):
     answer = dpkg(root, "-i", path)
     report.check("dpkg installs the package", answer.returncode == 0, answer.stderr)
     program_runs(report, "installed", root)
-    answer = dpkg(root, "-r", "dapnorm")
+    answer = dpkg(root, "--force-script-chrootless", "-i", kit_path)
+    report.check("dpkg installs the Python package", answer.returncode == 0, answer.stderr)
+    answer = dpkg(root, "--force-script-chrootless", "-r", "python3-dapnorm", "dapnorm")
     left = [name for name in below(root) if not name.startswith("var/lib/dpkg/")]
     gone = (answer.returncode, left) == (0, [])
-    report.check("dpkg removes it", gone, repr((answer.stderr, left)))
+    report.check("dpkg removes them", gone, repr((answer.stderr, left)))
 
 
 def refused(report, copy, folder):
@@ -223,8 +248,8 @@ def refused(report, copy, folder):
     pack, target = pack_of(copy, os.path.join(folder, "copy.proofs")), os.path.join(copy, "dist")
     words = ["make", "-C", copy, "dist"]
     answer = ran(*words, f"PROGRAM={PROGRAM}", f"PACK={pack}")
-    good = answer.returncode == 0 and len(os.listdir(target)) == 3
-    report.check("make dist makes three files", good, answer.stdout + answer.stderr)
+    good = answer.returncode == 0 and len(os.listdir(target)) == 4
+    report.check("make dist makes four files", good, answer.stdout + answer.stderr)
     shutil.rmtree(target, ignore_errors=True)
     other = pack_of(copy, os.path.join(folder, "other.proofs"), sources={"crates/dap_items/src/lib.rt": "other"})
     for program, given, why in ((SCRIPT, pack, "is no program"), (PROGRAM, other, "other sources"), (PROGRAM, SCRIPT, "it is damaged")):
@@ -277,7 +302,7 @@ def main():
     with tempfile.TemporaryDirectory() as folder:
         copy = cloned(folder)
         failed, pack = report.failed, pack_of(copy, os.path.join(folder, "pack"))
-        (archive, debian), version = made(report, pack, folder)
+        (archive, debian, debian_kit), version = made(report, pack, folder)
         if report.failed == failed:
             unpacked, root = os.path.join(folder, "sources"), os.path.join(folder, "root")
             os.mkdir(unpacked)
@@ -285,7 +310,8 @@ def main():
             default_pack(report, tree)
             package(report, debian, version, root)
             contents(report, root, tree, folder)
-            install(report, debian, folder)
+            kit(report, debian_kit, version, os.path.join(folder, "kit"), folder)
+            install(report, debian, debian_kit, folder)
         pack_targets(report, copy)
         refused(report, copy, folder)
     return report.close()

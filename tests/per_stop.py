@@ -1,5 +1,5 @@
 """Takes recordings through `normalise`, `check`, `compare` and `diff` with `--per-stop`, by which the names of frame ids and of references begin again
-behind each stop: those of real adapters, sessions by hand, and the example of the document. The scripts in the place of `normalise` and of
+after each stop: those of real adapters, sessions by hand, and the example of the document. The scripts in the place of `normalise` and of
 `compare` are a second opinion."""
 import json
 import os
@@ -22,7 +22,7 @@ OPTION = "--per-stop"
 LINE = re.compile(rb"(client-seq|adapter-seq|frame@\d+|reference@\d+|thread|breakpoint) (-?\d+) (-?\d+)\n")
 WORDS = ["client-seq", "adapter-seq", "frame", "reference", "thread", "breakpoint"]
 
-# The captures whose adapter goes on behind a stop with numbers of before and others, so that their names are other ones with the option.
+# The captures whose adapter continues after a stop with earlier numbers and others, so that their names are others with the option.
 OTHER_NAMES = {"debugpy-a-basic.1.rec", "debugpy-l-stopentry.1.rec", "lldb14-b-loop.1.rec", "rdbg-e-errors.3.rec", "rdbg-e-errors.5.rec"}
 
 # Two runs of one session each, and the mask by which they are compared.

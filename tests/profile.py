@@ -14,51 +14,21 @@ ROW = re.compile(r"^\s*(\d+) (every|request|response|event)(?:\(\"(\w+)\"\))? (M
 COUNT = re.compile(r"^pub static PROFILE: \[Row; (\d+)\]", re.MULTILINE)
 
 WANTS = {
-    "Bool": "true or false",
-    "Whole": "a whole number",
-    "Text": "a text",
-    "Object": "an object",
-    "List": "a list",
-    "OwnSeq": "a sequence number of the sender",
-    "OtherSeq": "a sequence number of the other side",
-    "Frame": "a frame id",
-    "Reference": "a variables reference",
-    "Thread": "a thread id",
-    "Breakpoint": "a breakpoint id",
+    "Bool": "boolean",
+    "Whole": "integer",
+    "Text": "string",
+    "Object": "object",
+    "List": "list",
+    "OwnSeq": "sequence number of the sender",
+    "OtherSeq": "sequence number of the other side",
+    "Frame": "frame id",
+    "Reference": "variables reference",
+    "Thread": "thread id",
+    "Breakpoint": "breakpoint id",
 }
 
-# Rows that ask less than the protocol's schema and its text do.
-LENIENT = {
-    1: "it need not begin at 1 and count up",
-    10: "the schema requires it",
-    86: "the schema requires it",
-    91: "the schema requires it",
-    97: "the schema requires it",
-    98: "the schema requires it",
-    99: "the schema requires it",
-    100: "the schema requires it",
-    101: "the schema requires it",
-    103: "the schema requires it",
-    153: "the schema requires it",
-    154: "the schema requires it",
-    156: "the schema requires it",
-    157: "the schema requires it",
-    158: "the schema requires it",
-    159: "the schema requires it",
-    160: "the schema requires it",
-    161: "the schema requires it",
-    162: "the schema requires it",
-    163: "the schema requires it",
-    164: "the schema requires it",
-    170: "the schema requires it",
-    171: "the schema requires it",
-    173: "the schema requires it",
-    174: "the schema requires it",
-    177: "the schema requires it",
-    178: "the schema requires it",
-    181: "the schema requires it",
-    182: "the schema requires it",
-}
+# Rows whose member the protocol's schema requires and this project does not.
+LENIENT = {10, 86, 91, 97, 98, 99, 100, 101, 103, 153, 154, 156, 157, 158, 159, 160, 161, 162, 163, 164, 170, 171, 173, 174, 177, 178, 181, 182}
 
 
 def place(form, parts):
@@ -90,22 +60,11 @@ def message(kind, name):
     return f"`{name}` {kind}"
 
 
-def source(kind, name, where):
-    """The definition of the protocol's schema that has the message, or the capabilities of an adapter."""
-    if kind == "every":
-        return "ProtocolMessage"
-    if name is None:
-        return kind.capitalize()
-    title = name[0].upper() + name[1:] + kind.capitalize()
-    if title == "InitializeResponse" and where.startswith("body."):
-        return "Capabilities"
-    return title
-
-
 def table(found):
-    lines = ["| Row | Message | Member | Wants | Needed | Schema | More lenient than the protocol |", "|---|---|---|---|---|---|---|"]
+    lines = ["| Row | Message | Member | Type | Required |", "|---|---|---|---|---|"]
     for number, kind, name, where, want, needed in found:
-        lines.append(f"| {number} | {message(kind, name)} | `{where}` | {WANTS[want]} | {'yes' if needed else 'no'} | {source(kind, name, where)} | {LENIENT.get(number, '')} |")
+        required = "yes" if needed else "no; the schema requires it" if number in LENIENT else "no"
+        lines.append(f"| {number} | {message(kind, name)} | `{where}` | {WANTS[want]} | {required} |")
     return "\n".join(lines)
 
 

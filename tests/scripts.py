@@ -124,6 +124,17 @@ def build(report, scratch):
     os.utime(source, (0, 0))
 
 
+def documents(report, scratch):
+    """`make documents` writes what the documents of the sources have."""
+    paths = [os.path.join("docs", name) for name in sorted(os.listdir(os.path.join(TOP, "docs")))]
+    write(scratch.path("docs", "CONTRACTS.md"))
+    ran = scratch.make("documents")
+    report.check("make documents ends well", ran.returncode == 0, output_of(ran))
+    for path in paths:
+        with open(scratch.path(path), encoding="utf-8") as file:
+            report.check(f"make documents writes {path} as it is", file.read() == read(path))
+
+
 def figures_of(scratch, name):
     """The rows of figures that a benchmark has written."""
     try:
@@ -316,9 +327,11 @@ SCRIPTS = {
 # The function that runs a target, or the test that does.
 TARGETS = {
     "all": build, "bin/dapnorm": build, "bin/reading_alone": bench, "bench": bench, "try": first_look, "clean": clean,
+    "documents": documents,
     "install": "manual.py", "uninstall": "manual.py",
     "dist": "package.py", "proofs": "package.py", "bin/dapnorm.proofs": "package.py",
     "mutants": "mutants.py",
+    "real": "adapter_kit.py",
 }
 
 

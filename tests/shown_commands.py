@@ -1,4 +1,4 @@
-"""Runs each block of dapnorm's commands that the README, the man page, FORMATS.md, ORDER.md and the help show: as it is written, with each of its input
+"""Runs each block of dapnorm's commands that the README, the man page, COMMANDS.md, RULES.md and the help show: as it is written, with each of its input
 files damaged, and with each of its commands failing. No golden file may come out of it that the block as it is written would not write."""
 import os
 import re
@@ -54,7 +54,7 @@ def blocks():
     """The blocks of which each line is a command of dapnorm, each with the document that shows it."""
     manual = read(os.path.join(TOP, "docs", "dapnorm.1")).decode()
     shown = [("the README", it) for it in indented(os.path.join(TOP, "README.md"))]
-    shown += [(name, it) for name in ("FORMATS.md", "ORDER.md") for it in indented(os.path.join(TOP, "docs", name))]
+    shown += [(name, it) for name in ("COMMANDS.md", "RULES.md") for it in indented(os.path.join(TOP, "docs", name))]
     shown += [("the man page", it.strip()) for it in re.findall(r"^\.Bd -literal.*\n((?:.*\n)*?)\.Ed", manual, re.MULTILINE)]
     shown += [(f"the help of {it}", re.search(r"^Example: (.*)$", run([it, "--help"])[1].decode(), re.MULTILINE)[1]) for it in COMMANDS]
     return [(where, it) for where, it in shown if all(line.startswith("dapnorm ") for line in it.splitlines())]

@@ -16,7 +16,7 @@ REQUESTS = [
 
 
 def trace_session(path, first_seq, first_frame):
-    """One session with the fake adapter behind the tee: the client's numbers begin with the one, the frames' with the other."""
+    """One session with the fake adapter after the tee: the client's numbers begin with the one, the frames' with the other."""
     tee = [sys.executable, os.path.join(TOP, "examples", "trace_tee.py"), path]
     adapter = [sys.executable, os.path.join(TOP, "tests", "fake_adapter.py"), str(first_frame)]
     with subprocess.Popen([*tee, *adapter], stdin=subprocess.PIPE, stdout=subprocess.PIPE) as process:

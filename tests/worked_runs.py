@@ -167,7 +167,7 @@ SESSIONS = {
     "an old golden file with breakpoints": ([*NORMAL_BEGUN, *HIT_BREAKPOINTS], NORMAL_BREAKPOINTS, (0, 0)),
 }
 
-# Lines that are refused as messages or for a rule behind others, by all that judges messages or sessions.
+# Lines that are rejected as messages or for a rule after others, by everything that checks messages or sessions.
 REFUSED_LINES = {
     "answered twice": (BEGUN, RESPONSE, "record 3: AnsweredTwice"),
     "not initialized": ([], STOPPED, "record 1: NotInitialized"),
@@ -201,7 +201,7 @@ REFUSED_LINES = {
     "answered twice, and OtherCommand": (BEGUN, PAUSED % ("<", 1, 1), "record 3: AnsweredTwice"),
 }
 
-# Bytes that are refused behind lines, as records or contents, by all that reads recordings.
+# Bytes that are rejected after lines, as records or contents, by everything that reads recordings.
 REFUSED_BYTES = {
     "a cut content": ([], record(INITIALIZE)[:-2], "record 1: Cut"),
     "no line's end": ([], record(INITIALIZE)[:-1], "record 1: Cut"),
