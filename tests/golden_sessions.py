@@ -10,7 +10,7 @@ import subprocess
 import sys
 import time
 
-from report import TOP, run
+from report import PROGRAM, TOP, run
 
 EXAMPLES = os.path.join(TOP, "examples")
 FAKE = f"{sys.executable} {os.path.join(TOP, 'tests', 'fake_adapter.py')}"
@@ -512,7 +512,7 @@ def clone_of_examples(folder, environment):
     for words in (["init", "-q"], ["add", "examples", "python"], [*identity, "commit", "-qm", "examples"]):
         subprocess.run(["git", *words], cwd=folder, env=environment, check=True, capture_output=True, timeout=60)
     os.makedirs(os.path.join(folder, "bin"))
-    shutil.copy(shutil.which("dapnorm", path=environment["PATH"]), os.path.join(folder, "bin", "dapnorm"))
+    shutil.copy(PROGRAM, os.path.join(folder, "bin", "dapnorm"))
 
 
 def followed(report, folder, environment, name):
