@@ -1,5 +1,5 @@
 # make            proves and builds bin/dapnorm; PROOFS=FILE builds it over that proof pack, PROOFS= without any
-# make proofs     proves all of it again from nothing and writes a proof pack, bin/dapnorm.proofs
+# make proofs     proves all of it again from scratch and writes a proof pack, bin/dapnorm.proofs
 # make test       the gate and the runs around it
 # make mutants    tries all wrong bodies, also those that the gate leaves out; CRATES="a b" tries those of some crates
 # make try        a first look, unproved: two runs of one session normalised
@@ -57,7 +57,7 @@ TO_PROVE := $(if $(PROOFS),,$(and $(filter all bin/dapnorm proofs dist,$(or $(MA
 bin/dapnorm: $(SOURCES) $(PROOFS) $(if $(TO_PROVE),need-rt) | need-rt need-python
 	@mkdir -p bin
 ifeq ($(PROOFS),)
-	@echo "Proves the $(words $(CRATES)) crates of the program and builds it: about 25 minutes from nothing on 4 processors. Prints a line for each crate."
+	@echo "Proves the $(words $(CRATES)) crates of the program and builds it: about 25 minutes from scratch on 4 processors. Prints a line for each crate."
 	@python3 scripts/prove_all.py crates/dapnorm_main
 	@cp crates/dapnorm_main/out/dapnorm_main bin/dapnorm
 	@rm -f bin/over_pack
@@ -70,7 +70,7 @@ endif
 	@echo "bin/dapnorm is built."
 
 bin/dapnorm.proofs: $(SOURCES) bin/dapnorm | need-rt need-python
-	@echo "Proves the $(words $(CRATES)) crates of the program once more, from nothing, for a proof pack. This takes longer than make."
+	@echo "Proves the $(words $(CRATES)) crates of the program once more, from scratch, for a proof pack. This takes longer than make."
 	@python3 scripts/proof_pack.py make crates/dapnorm_main $@ bin/dapnorm
 
 proofs: $(PACK)

@@ -1,9 +1,11 @@
-"""Checks the table of crates in docs/ARCHITECTURE.md against crates.txt and the crates. With `write` it writes the table."""
+"""Checks the table of crates in docs/ARCHITECTURE.md against crates.txt and the crates: those that docs/CONTRACTS.md does not have. With `write`
+it writes the table."""
 import os
 import re
 import sys
 
 from generated import between
+from public_calls import NOT_LIBRARIES
 from report import TOP, Report
 
 DOCUMENT = os.path.join(TOP, "docs", "ARCHITECTURE.md")
@@ -35,11 +37,7 @@ def drawn(used, own):
 
 
 def table():
-    own = dict(crates())
-    lines = ["| Crate | Purpose | Builds on |", "|---|---|---|"]
-    for crate, used in crates():
-        lines.append(f"| `{crate}` | {purpose(crate)} | {', '.join(f'`{it}`' for it in drawn(used, own))} |")
-    return "\n".join(lines)
+    return "\n".join(["| Crate | Purpose |", "|---|---|", *(f"| `{crate}` | {purpose(crate)} |" for crate, _ in crates() if crate in NOT_LIBRARIES)])
 
 
 def filled(text):
@@ -56,7 +54,7 @@ def main():
     report = Report()
     report.check("docs/ARCHITECTURE.md has the crates: python3 tests/architecture.py write", filled(text) == text)
     for crate, _ in crates():
-        report.check(f"docs/ARCHITECTURE.md says what {crate} is for", f"| `{crate}` | " in text)
+        report.check(f"docs/ARCHITECTURE.md has the crate {crate}", f"`{crate}`" in text)
     return report.close()
 
 

@@ -11,6 +11,12 @@ from report import TOP, Report
 
 DOCUMENT = os.path.join(TOP, "docs", "BENCHMARKS.md")
 FIGURES = os.path.join(TOP, "docs", "benchmarks.json")
+# The columns of the costs that the document shows.
+OF_COSTS = (0, 1, 5, 6, 7, 8)
+# Figures that only the file has.
+UNSHOWN = {"renamings"}
+# Processor minutes of a crate that has a line of its own.
+LITTLE = 5.0
 
 
 def read(path):
@@ -23,9 +29,38 @@ def table(figures):
     return "\n".join(f"| {' | '.join(line)} |".replace("|  |", "| |").replace("|---", "| ---") for line in lines)
 
 
+def shortened(figures):
+    """Returns the figures of the gate with one line for all crates that take less than LITTLE minutes."""
+    *crates, total = figures["rows"]
+    large = [row for row in crates if float(row[-1]) >= LITTLE]
+    rest = sum(float(row[-1]) for row in crates) - sum(float(row[-1]) for row in large)
+    other = [f"{len(crates) - len(large)} other crates", *[""] * (len(total) - 2), f"{rest:.1f}"]
+    return {"head": figures["head"], "rows": [*large, other, total]}
+
+
+def with_units_above(figures):
+    """Returns the figures with the unit of a column in its head, if all its figures have one unit."""
+    columns = list(zip(figures["head"], *figures["rows"]))
+    for i, (head, *cells) in enumerate(columns):
+        units = {it.partition(" ")[2] for it in cells}
+        if units in ({"s"}, {"MB"}, {"MiB"}):
+            columns[i] = (f"{head} ({units.pop()})", *(it.partition(" ")[0] for it in cells))
+    head, *rows = (list(it) for it in zip(*columns))
+    return {"head": head, "rows": rows}
+
+
+def shown(name, figures):
+    """Returns what the document shows of some figures: of the costs the larger size, of the gate the larger crates."""
+    if name == "costs":
+        figures = {"head": [figures["head"][i] for i in OF_COSTS], "rows": [[row[i] for i in OF_COSTS] for row in figures["rows"]]}
+    return with_units_above(shortened(figures) if name == "gate" else figures)
+
+
 def filled(text, tables):
     for name, figures in tables.items():
-        text = between(text, f"<!-- {name}: start -->", f"\n{table(figures)}\n", f"<!-- {name}: end -->")
+        start, end = f"<!-- {name}: start -->", f"<!-- {name}: end -->"
+        if name not in UNSHOWN:
+            text = between(text, start, f"\n{table(shown(name, figures))}\n", end)
     return text
 
 

@@ -19,24 +19,24 @@ RULES = ("dap_mask", "fault", "RulesCause")
 # For each table, the form of the line and the errors that it has, in this order.
 TABLES = {
     "bytes": [
-        ("record N: {}", RECORD, ["BadMarker"]),
-        ("record N: {}", FRAME, ["HeaderLine", "NoLength", "TwoLengths", "BadLength", "HeaderTooLong", "ContentTooLong"]),
-        ("record N: {}", RECORD, ["NoLineEnd", "Cut"]),
-        ("record N: {}", REFUSED, ["InputTooLong"]),
+        ("{}", RECORD, ["BadMarker"]),
+        ("{}", FRAME, ["HeaderLine", "NoLength", "TwoLengths", "BadLength", "HeaderTooLong", "ContentTooLong"]),
+        ("{}", RECORD, ["NoLineEnd", "Cut"]),
+        ("{}", REFUSED, ["InputTooLong"]),
     ],
     "contents": [
-        ("record N: {}", TREE, ["Json", "Fraction"]),
-        ("record N: {}", MESSAGE, ["NotObject", "UnknownType"]),
-        ("record N: {} row R", MESSAGE, ["Missing", "WrongType"]),
+        ("{}", TREE, ["Json", "Fraction"]),
+        ("{}", MESSAGE, ["NotObject", "UnknownType"]),
+        ("{} row R", MESSAGE, ["Missing", "WrongType"]),
     ],
-    "session": [("record N: {}", RULE, None), ("incomplete: C client, A adapter", REFUSED, ["Incomplete"])],
-    "limits": [("record N: {}", REFUSED, ["TooManyIds", "Grew"])],
+    "session": [("{}", RULE, None), ("incomplete: C client, A adapter", REFUSED, ["Incomplete"])],
+    "limits": [("{}", REFUSED, ["TooManyIds", "Grew"])],
     "traces": [
         ("piece N: {}", TRACE, None),
         ("piece N: client F`, `piece N: adapter F", REFUSED, ["Recorder"]),
         ("piece N: {}", REFUSED, ["TraceTooLong"]),
     ],
-    "rules": [("rules: line L: {}", RULES, None)],
+    "rules": [("{}", RULES, None)],
     "system": [
         ("read fault` (status 4) `", REFUSED, ["ReadFault"]),
         ("write fault` (status 4) `", REFUSED, ["WriteFault"]),

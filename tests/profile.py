@@ -60,12 +60,23 @@ def message(kind, name):
     return f"`{name}` {kind}"
 
 
+def member(row):
+    """A row as the document writes it: its number, its member and its type."""
+    number, _, _, where, want, needed = row
+    return f"{number} `{where}`: {WANTS[want]}{'' if needed else '?†' if number in LENIENT else '?'}"
+
+
 def table(found):
-    lines = ["| Row | Message | Member | Type | Required |", "|---|---|---|---|---|"]
-    for number, kind, name, where, want, needed in found:
-        required = "yes" if needed else "no; the schema requires it" if number in LENIENT else "no"
-        lines.append(f"| {number} | {message(kind, name)} | `{where}` | {WANTS[want]} | {required} |")
-    return "\n".join(lines)
+    """A line for each message, with its rows."""
+    groups = {}
+    for row in found:
+        groups.setdefault(message(row[1], row[2]), []).append(member(row))
+    return "\n".join(["| Message | Rows |", "|---|---|", *(f"| {title} | {'<br>'.join(rows)} |" for title, rows in groups.items())])
+
+
+def numbers(document):
+    """The numbers of the rows that the document has, in its order."""
+    return [int(it) for it in re.findall(r"(?:\| |<br>)(\d+) `", document)]
 
 
 def main():
@@ -85,7 +96,8 @@ def main():
     report.check("the rows are numbered from 1", [row[0] for row in found] == list(range(1, len(found) + 1)))
     report.check("the document tells how many", f"{len(found)} rows" in before)
     lines, wanted = told.strip().splitlines(), table(found).splitlines()
-    report.check("the document has a line for each row", len(lines) == len(wanted), f"{len(lines)} lines, {len(wanted)} wanted")
+    report.check("the document has each row once", sorted(numbers(told)) == [row[0] for row in found])
+    report.check("the document has a line for each message", len(lines) == len(wanted), f"{len(lines)} lines, {len(wanted)} wanted")
     for line, want in zip(lines, wanted):
         report.check("the document tells", line == want, f"{line}, wanted {want}")
     return report.close()

@@ -76,6 +76,11 @@ def arguments_that_are_no_text(report):
         report.check(f"{words} is a usage fault", answer == (3, b"", b"error: an argument is not valid UTF-8\n"), repr(answer))
 
 
+def numbers_of_rows():
+    """The numbers of the rows that docs/PROFILE.md has."""
+    return sorted(re.findall(rb"(?:\| |<br>)(\d+) `", read("../docs/PROFILE.md")), key=int)
+
+
 def usage(report):
     status, output, errors = run([])
     report.check("no subcommand is a usage fault", status == 3 and output == b"" and errors.startswith(b"error: "))
@@ -83,8 +88,7 @@ def usage(report):
     report.check("help goes to the output", status == 0 and b"compact" in output and b"check" in output and errors == b"")
     status, output, errors = run(["--version"])
     version = re.search(r"^## ([\d.]+)", read("../CHANGELOG.md").decode(), re.MULTILINE)[1]
-    rows = len(re.findall(rb"^\| \d+ \|", read("../docs/PROFILE.md"), re.MULTILINE))
-    wanted = f"dapnorm {version} (profile of {rows} rows)\n".encode()
+    wanted = f"dapnorm {version} (profile of {len(numbers_of_rows())} rows)\n".encode()
     report.check("the version is that of the changelog", (status, output, errors) == (0, wanted, b""), repr(output))
     told = [re.findall(rb"^const VERSION.*", read(f"../crates/{crate}/src/definition.rt"), re.MULTILINE) for crate in ("dap_commands", "dap_command_line")]
     report.check("both definitions of the command line have the version", told[0] == told[1] and len(told[0]) == 1, repr(told))
@@ -95,7 +99,7 @@ def usage(report):
 
 
 def rows(report):
-    numbers = re.findall(rb"^\| (\d+) \|", read("../docs/PROFILE.md"), re.MULTILINE)
+    numbers = numbers_of_rows()
     status, output, errors = run(["rows"])
     printed = [line.split()[0] for line in output.splitlines()]
     version = run(["--version"])[1]
