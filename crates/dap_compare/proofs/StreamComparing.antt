@@ -6,7 +6,7 @@ use Rattle.std.proofs.Common.{append_assoc, append-nil}
 use Rattle.std.proofs.lemmas.Bool.{true≢false}
 use Rattle.std.proofs.lemmas.List.{length_push}
 use Rattle.dap_device.specs.declared.device.Source.{Ghosts as Source}
-use Rattle.dap_device.specs.Pieces.{HasComeSoFar}
+use Rattle.dap_device.specs.Pieces.{HasComeSoFar, HasPaused}
 use Rattle.dap_device.specs.declared.reading.Stop.{Stop}
 use Rattle.dap_device.specs.declared.reading.Stop.TheVariants.{End}
 use Rattle.dap_message.specs.Message.{Sent}
@@ -46,9 +46,51 @@ use Rattle.dap_recording.proofs.Records.{readable}
 use Rattle.dap_compare.proofs.ComparingLoop.{are_apart, both_have_ended, front_of, goes_on}
 use Rattle.dap_compare.proofs.ComparingLoop.{has_ended, not_the_same, one_form, taken_in}
 use Rattle.dap_compare.proofs.ComparingLoop.{x_has_ended, y_has_ended}
-use Rattle.dap_input.proofs.Coming.{came_on}
+use Rattle.dap_input.proofs.Coming.{came_on, nothing_came}
+use Rattle.dap_input.proofs.InputLoop.{read_later}
+use Rattle.dap_input.proofs.Runs.{run_none}
+use Rattle.dap_normal.proofs.NormalTexts.{normal}
 use Rattle.dap_normal.proofs.StreamLoop.{Going, before_in, next_in, normal_before}
 use Rattle.dap_compare.proofs.Verdicts.{same_lengths}
+
+-- Nothing of both inputs has been read.
+pub none_compared : {R S : Type 0} (source_a : Source R) (source_b : Source S) (limits : Limits)
+    (mode : Mode) (start_a : R) (start_b : S)
+    → Compares source_a source_b limits mode start_a start_a start_b start_b (Err because.Memory)
+none_compared source_a source_b limits mode start_a start_b =
+    let accepted =
+    (accepted_facts limits mode).accepted_of_run [] [] (run_none (accepting limits mode) [] 0) in
+    let none : IsReadTo (accepting limits mode) [] 1 =
+    record { before = []; last = []; split = refl; few = omega arith; ends = inl refl } in
+    let before : (input : Input) → AcceptedBefore (accepting limits mode) input 1 =
+    λ input.
+    record {
+      values = [];
+      front = [];
+      rest = input.bytes;
+      split = refl;
+      accepted = accepted;
+      is_number = omega arith;
+    } in
+    record {
+      number = 1;
+      bytes_a = [];
+      stop_a = None;
+      came_a = nothing_came source_a start_a;
+      read_a = none;
+      bytes_b = [];
+      stop_b = None;
+      came_b = nothing_came source_b start_b;
+      read_b = none;
+      tells = λ x y is_x is_y.
+          record {
+            of_a = before x;
+            of_b = before y;
+            same = normal_is_complete (stop_in mode) [] [] [] (normal mode [] tt)
+                (normal mode [] tt);
+          };
+      none_fails = (refl, refl);
+    }
 
 -- The result for the next record is an allocation failure, or an error at that record.
 pub as_told : {T R : Type 0} {numbers : T → List ℤ} {table_limit : T → ℕ} (source : Source R)
@@ -157,12 +199,14 @@ module _ {T R S : Type 0} {numbers : T → List ℤ} {table_limit : T → ℕ} (
             here.is_refused,
           );
         };
+    none_fails = tt;
   }
 
   -- what is known about the record of A when that of B is read
   pub record Passed (after : R) (more : List ℕ) (stop : Option Stop) : Type 0 where
     pub came : HasComeSoFar source_a reader_a after more stop
     pub read_to : IsReadTo (accepting limits mode) (a.bytes ++ more) number
+    pub no_failure : source_a.failures after ≡ source_a.failures reader_a
     pub passes : (x : Input) → IsOf (a.bytes ++ more) stop x
         → IsNotRefusedAt (accepting limits mode) x number
 
@@ -205,7 +249,65 @@ module _ {T R S : Type 0} {numbers : T → List ℤ} {table_limit : T → ℕ} (
             here.is_refused,
           );
         };
+    none_fails = tt;
   }
+
+  -- ---- an allocation failure
+
+  -- These bytes of both inputs were read, and neither reader failed.
+  pub gave_up : (after_a : R) (more_a : List ℕ) (stop_a : Option Stop)
+      → HasComeSoFar source_a reader_a after_a more_a stop_a
+      → IsReadTo (accepting limits mode) (a.bytes ++ more_a) number
+      → source_a.failures after_a ≡ source_a.failures reader_a
+      → (after_b : S) (more_b : List ℕ) (stop_b : Option Stop)
+      → HasComeSoFar source_b reader_b after_b more_b stop_b
+      → IsReadTo (accepting limits mode) (b.bytes ++ more_b) number
+      → source_b.failures after_b ≡ source_b.failures reader_b
+      → Compares source_a source_b limits mode start_a after_a start_b after_b
+      (Err because.Memory)
+  gave_up after_a more_a stop_a came_a read_a kept_a after_b more_b stop_b came_b read_b kept_b =
+      record {
+        number = number;
+        bytes_a = a.bytes ++ more_a;
+        stop_a = stop_a;
+        came_a = came_on source_a start_a reader_a after_a a.bytes more_a stop_a a.came came_a;
+        read_a = read_a;
+        bytes_b = b.bytes ++ more_b;
+        stop_b = stop_b;
+        came_b = came_on source_b start_b reader_b after_b b.bytes more_b stop_b b.came came_b;
+        read_b = read_b;
+        tells = λ x y is_x is_y.
+            before (a.bytes ++ more_a) (b.bytes ++ more_b) more_a more_b refl refl stop_a stop_b
+            x y is_x is_y;
+        none_fails = (kept_a ∙ a.came.paused, kept_b ∙ b.came.paused);
+      }
+
+  gave_up_by_a : (new : NormalRecords T) (after : R) (refused : Refused) → refused ≡ why.Memory
+      → HasStoppedAt numbers table_limit source_a limits mode a.bytes a.messages
+      a.normal records_a new reader_a after refused
+      → Compares source_a source_b limits mode start_a after start_b reader_b (Err because.Memory)
+  gave_up_by_a new after refused is stopped =
+      gave_up after stopped.more stopped.stop stopped.came stopped.read_to
+      (subst (HasPaused source_a reader_a after) (stopped.goes_on is) stopped.came.paused)
+      reader_b [] None (nothing_came source_b reader_b)
+      (subst (λ bytes. IsReadTo (accepting limits mode) bytes number) (sym (append-nil b.bytes))
+      (read_later (accepting limits mode) b.bytes (length b.messages) number
+      (let is = b.stands.number_is in omega (arith, is, one_number)) b.stands.read_to))
+      refl
+
+  gave_up_by_b : (passed_to : R) (more : List ℕ) (stop : Option Stop)
+      → Passed passed_to more stop
+      → (new : NormalRecords T) (after : S) (refused : Refused) → refused ≡ why.Memory
+      → HasStoppedAt numbers table_limit source_b limits mode b.bytes b.messages
+      b.normal records_b new reader_b after refused
+      → Compares source_a source_b limits mode start_a passed_to start_b after
+      (Err because.Memory)
+  gave_up_by_b passed_to more stop passed new after refused is stopped =
+      gave_up passed_to more stop passed.came passed.read_to passed.no_failure
+      after stopped.more stopped.stop stopped.came
+      (subst (IsReadTo (accepting limits mode) (b.bytes ++ stopped.more)) one_number
+      stopped.read_to)
+      (subst (HasPaused source_b reader_b after) (stopped.goes_on is) stopped.came.paused)
 
   -- The error that is returned, stated by its two clauses.
   pub told_by_a : (new : NormalRecords T) (after : R) (refused : Refused) (refusal : CompareRefused)
@@ -215,7 +317,7 @@ module _ {T R S : Type 0} {numbers : T → List ℤ} {table_limit : T → ℕ} (
       → Compares source_a source_b limits mode start_a after start_b
       reader_b (Err refusal)
   told_by_a new after refused refusal of_it stopped =
-      ⊎_elim (λ is. rw (of_it.0 is) tt)
+      ⊎_elim (λ is. rw (of_it.0 is) (gave_up_by_a new after refused is stopped))
       (λ told. rw (of_it.1 told.0) (refused_by_a new after refused stopped told.1))
       (as_told source_a limits mode a.bytes a.messages a.normal records_a new reader_a
       after refused stopped)
@@ -229,7 +331,8 @@ module _ {T R S : Type 0} {numbers : T → List ℤ} {table_limit : T → ℕ} (
       → Compares source_a source_b limits mode start_a passed_to
       start_b after (Err refusal)
   told_by_b passed_to more stop passed new after refused refusal of_it stopped =
-      ⊎_elim (λ is. rw (of_it.0 is) tt)
+      ⊎_elim (λ is. rw (of_it.0 is)
+      (gave_up_by_b passed_to more stop passed new after refused is stopped))
       (λ told. rw (of_it.1 told.0)
       (refused_by_b passed_to more stop passed new after refused stopped told.1))
       (as_told source_b limits mode b.bytes b.messages b.normal records_b new reader_b
@@ -244,6 +347,7 @@ module _ {T R S : Type 0} {numbers : T → List ℤ} {table_limit : T → ℕ} (
     gone_passed gone = record {
       came = gone.came;
       read_to = gone.read_to;
+      no_failure = gone.came.paused;
       passes = λ x is_x.
           goes_on limits mode number x
           (next_in source_a limits mode start_a reader_a records_a a new_a after_a
@@ -256,6 +360,7 @@ module _ {T R S : Type 0} {numbers : T → List ℤ} {table_limit : T → ℕ} (
     ended_passed ended = record {
       came = ended.came;
       read_to = ended.read_to;
+      no_failure = ended.came.paused.1;
       passes = λ x is_x. has_ended limits mode number x a.messages
           (taken_in limits mode (a.bytes ++ ended.more) x a.messages is_x ended.accepted);
     }
@@ -305,9 +410,11 @@ module _ {T R S : Type 0} {numbers : T → List ℤ} {table_limit : T → ℕ} (
     module _ (more_a : List ℕ) (stop_a : Option Stop)
         (came_a : HasComeSoFar source_a reader_a after_a more_a stop_a)
         (read_a : IsReadTo (accepting limits mode) (a.bytes ++ more_a) number)
+        (kept_a : source_a.failures after_a ≡ source_a.failures reader_a)
         (more_b : List ℕ) (stop_b : Option Stop)
         (came_b : HasComeSoFar source_b reader_b after_b more_b stop_b)
         (read_b : IsReadTo (accepting limits mode) (b.bytes ++ more_b) records_b.records.number)
+        (kept_b : source_b.failures after_b ≡ source_b.failures reader_b)
       where
         differs : (n : ℕ) → n ≡ number
             → ((x y : Input) → IsOf (a.bytes ++ more_a) stop_a x → IsOf (b.bytes ++ more_b) stop_b y
@@ -327,14 +434,15 @@ module _ {T R S : Type 0} {numbers : T → List ℤ} {table_limit : T → ℕ} (
               b.came came_b;
           read_b = subst (IsReadTo (accepting limits mode) (b.bytes ++ more_b)) one_number read_b;
           tells = λ x y is_x is_y. (is, verdict x y is_x is_y);
+          none_fails = (kept_a ∙ a.came.paused, kept_b ∙ b.came.paused);
         }
 
     pub some_and_none : (n : ℕ) → n ≡ number → Gone_a → Ended_b
         → HasCompared source_a source_b limits mode start_a after_a
         start_b after_b (Ok (code.Differ n))
     some_and_none n is gone ended =
-        differs gone.more None gone.came gone.read_to ended.more (Some End) ended.came ended.read_to
-        n is
+        differs gone.more None gone.came gone.read_to gone.came.paused
+        ended.more (Some End) ended.came ended.read_to ended.came.paused.1 n is
         (λ x y is_x is_y.
         y_has_ended limits mode x y number
         (before (a.bytes ++ gone.more) (b.bytes ++ ended.more) gone.more ended.more refl refl
@@ -347,8 +455,8 @@ module _ {T R S : Type 0} {numbers : T → List ℤ} {table_limit : T → ℕ} (
         → HasCompared source_a source_b limits mode start_a after_a
         start_b after_b (Ok (code.Differ n))
     none_and_some n is ended gone =
-        differs ended.more (Some End) ended.came ended.read_to gone.more None gone.came gone.read_to
-        n is
+        differs ended.more (Some End) ended.came ended.read_to ended.came.paused.1
+        gone.more None gone.came gone.read_to gone.came.paused n is
         (λ x y is_x is_y.
         x_has_ended limits mode x y number
         (before (a.bytes ++ ended.more) (b.bytes ++ gone.more) ended.more gone.more refl refl
@@ -370,7 +478,8 @@ module _ {T R S : Type 0} {numbers : T → List ℤ} {table_limit : T → ℕ} (
           → HasCompared source_a source_b limits mode start_a after_a
           start_b after_b (Ok (code.Differ n))
       texts_apart none nothing n is apart =
-          differs gone.more None gone.came gone.read_to went.more None went.came went.read_to n is
+          differs gone.more None gone.came gone.read_to gone.came.paused
+          went.more None went.came went.read_to went.came.paused n is
           (λ x y is_x is_y.
           are_apart limits mode x y number
           (before (a.bytes ++ gone.more) (b.bytes ++ went.more) gone.more went.more refl refl
@@ -505,4 +614,15 @@ module _ {T R S : Type 0} {numbers : T → List ℤ} {table_limit : T → ℕ} (
             (both_have_ended limits mode x y a.messages b.messages
             (taken_in limits mode (a.bytes ++ end_a.more) x a.messages is_x end_a.accepted)
             (taken_in limits mode (b.bytes ++ end_b.more) y b.messages is_y end_b.accepted) are);
+        none_fails = (end_a.came.paused.1 ∙ a.came.paused, end_b.came.paused.1 ∙ b.came.paused);
       }
+
+      -- Both inputs have ended, and an allocation failed after that.
+      pub gave_up_at_end : Compares source_a source_b limits mode start_a after_a start_b after_b
+          (Err because.Memory)
+      gave_up_at_end =
+          gave_up after_a end_a.more (Some End) end_a.came end_a.read_to end_a.came.paused.1
+          after_b end_b.more (Some End) end_b.came
+          (subst (IsReadTo (accepting limits mode) (b.bytes ++ end_b.more)) one_number
+          end_b.read_to)
+          end_b.came.paused.1

@@ -24,7 +24,7 @@ use Rattle.dap_device.specs.Pieces.{HasComeSoFar}
 use Rattle.dap_input.specs.ReadTo.{IsOf, IsReadTo}
 use Rattle.dap_input.specs.Inputs.{Input, Fault, IsTaken}
 use Rattle.dap_compare.specs.Comparing.{Verdict, IsVerdict, are_same, differ, refused_a, refused_b}
-use Rattle.dap_compare.specs.Comparing.{HasOneVerdict}
+use Rattle.dap_compare.specs.Comparing.{AreSameBefore, HasOneVerdict}
 
 -- Two recordings are the same if a renaming maps the messages of the first to those of the second.
 -- The evidence is pairing by position. Both use the classes of the mode.
@@ -39,19 +39,22 @@ IsRecordingVerdict limits mode a b verdict =
     verdict
 
 -- The verdict on the inputs is that one of them is rejected at this record, for the error that is
--- returned. `Memory` implies nothing.
+-- returned.
 pub record IsRefusalOf (limits : Limits) (mode : Mode) (number : ℕ) (why : Refused) (verdict : Fault
     → RecordingVerdict limits mode) (a b : Input) : Type 0 where
   pub fault : Fault
   pub tells : Tells why number fault
   pub is_verdict : IsRecordingVerdict limits mode a b (verdict fault)
 
+-- If an allocation failed at this record, the records before it are accepted in both inputs, and
+-- are the same.
 abbrev pub TellsRefusal : Limits → Mode → Input → Input → ℕ → CompareRefused → Type 0
 TellsRefusal limits mode a b number (because.Input A why) =
     IsRefusalOf limits mode number why (refused_a number) a b
 TellsRefusal limits mode a b number (because.Input B why) =
     IsRefusalOf limits mode number why (refused_b number) a b
-TellsRefusal limits mode a b number because.Memory = Unit {0}
+TellsRefusal limits mode a b number because.Memory =
+    AreSameBefore (accepting limits mode) (AreSame (stop_in mode)) a b number
 
 -- The verdict is returned. It is that of this record, unless the inputs are the same.
 abbrev pub TellsVerdict : Limits → Mode → Input → Input → ℕ → Result CodeVerdict CompareRefused
@@ -71,8 +74,14 @@ read_of_b number answer = number
 -- Two readers, in terms of the bytes that they report and of their counts.
 module _ {R S : Type 0} (source_a : Source R) (source_b : Source S) (limits : Limits) (mode : Mode)
   where
+    -- Neither reader failed, unless the error of an input is returned.
+    abbrev pub NoneFails : R → R → S → S → Result CodeVerdict CompareRefused → Type 0
+    NoneFails old_a new_a old_b new_b (Err (because.Input which why)) = Unit {0}
+    NoneFails old_a new_a old_b new_b answer = (source_a.failures new_a ≡ source_a.failures old_a)
+        × (source_b.failures new_b ≡ source_b.failures old_b)
+
     -- These bytes were read, no more than this record requires, and the verdict on the inputs is
-    -- returned, whatever bytes follow in the inputs.
+    -- returned, whatever bytes follow in the inputs; or an allocation failed.
     pub record HasCompared (old_a new_a : R) (old_b new_b : S)
         (answer : Result CodeVerdict CompareRefused) : Type 0 where
       pub number : ℕ
@@ -86,9 +95,9 @@ module _ {R S : Type 0} (source_a : Source R) (source_b : Source S) (limits : Li
       pub read_b : IsReadTo (accepting limits mode) bytes_b (read_of_b number answer)
       pub tells : (a b : Input) → IsOf bytes_a stop_a a → IsOf bytes_b stop_b b
           → TellsVerdict limits mode a b number answer
+      pub none_fails : NoneFails old_a new_a old_b new_b answer
 
     abbrev pub Compares : R → R → S → S → Result CodeVerdict CompareRefused → Type 0
-    Compares old_a new_a old_b new_b (Err because.Memory) = Unit {0}
     Compares old_a new_a old_b new_b answer = HasCompared old_a new_a old_b new_b answer
 
 -- Two inputs have exactly one verdict. If they differ, no earlier record differs.

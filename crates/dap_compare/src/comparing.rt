@@ -102,7 +102,8 @@ pub fn compare<A: Source, B: Source>(
     requires failures_b { B.failures reader_b.old < 2 ^ 62 }
 
     // The result is the one verdict on the two inputs. `ReadFault` is returned only if the reader
-    // failed.
+    // failed. With a verdict or `Memory`, neither reader failed. With `Memory`, no more was read
+    // than some record requires, and the records before it are the same.
     ensures answer { Compares A.Source B.Source limits mode reader_a.old reader_a.new reader_b.old
         reader_b.new result }
 

@@ -30,3 +30,11 @@ module _ {S : Type 0} (source : Source S) (old new : S) where
     pub counted : source.given new ≡ source.given old + length bytes
     pub has_length : HasLength limit bytes stop
     pub stopped : HasStopped stop
+
+  -- At most this many bytes were read from the source, they are counted, and it did not fail.
+  pub record HasComePartly (limit : ℕ) : Type 0 where
+    pub bytes : List ℕ
+    pub came : Consumes (source.left old) (source.left new) bytes
+    pub counted : source.given new ≡ source.given old + length bytes
+    pub within : length bytes ≤ limit
+    pub no_failure : source.failures new ≡ source.failures old

@@ -1,7 +1,8 @@
 //! Reads a complete input.
-ghost use Rattle.std.specs.Prelude.{◌≡◌, ◌≤◌, ◌+◌, ◌^◌, ◌<◌, IfOk, OnOk, drop, length, take};
+ghost use Rattle.std.specs.Prelude.{◌≡◌, ◌≤◌, ◌+◌, ◌^◌, ◌<◌, IfOk, OnErr, OnOk, drop, length};
+ghost use Rattle.std.specs.Prelude.{take};
 ghost use Rattle.dap_device.specs.Device.{HasRead};
-ghost use Rattle.dap_device.specs.Reading.{HasCome};
+ghost use Rattle.dap_device.specs.Reading.{HasCome, HasComePartly};
 
 use crate::device::{DeviceFault, Source};
 use std::alloc::{AllocError, Global};
@@ -84,6 +85,9 @@ pub fn read_all<R: Source>(alloc: Global, reader: &mut R, limit: u64) -> Result<
     ensures given { R.given reader.new ≤ R.given reader.old + limit + 1 }
     ensures came { IfOk result
         (λ input. HasCome R.Source reader.old reader.new limit input.bytes.items input.stop) }
+
+    // If an allocation failed, a prefix of the input was read, and the source did not fail.
+    ensures partly { OnErr result (HasComePartly R.Source reader.old reader.new limit) }
 {
     let most = limit as usize + 1;
     let mut bytes = Vec::new(alloc);

@@ -1,6 +1,6 @@
 -- The messages in the texts that `compare` stores, and that each text has at most one.
 use Rattle.std.proofs.Common.{◌≡◌, inl, inr, ℕ, ◌≤◌, List, [], ◌∷◌, ◌++◌, length, Option}
-use Rattle.std.proofs.Common.{Some, None, refl, sym, ◌∙◌, ap, subst, append-nil}
+use Rattle.std.proofs.Common.{Some, None, Ok, Err, refl, sym, ◌∙◌, ap, subst, append-nil}
 use Rattle.std.specs.List.{AllByRecursion}
 use Rattle.dap_device.specs.declared.device.Source.{Ghosts as Source}
 use Rattle.dap_device.specs.declared.reading.Stop.{Stop}
@@ -24,6 +24,9 @@ use Rattle.dap_normal.specs.JudgingSteps.{record_of}
 use Rattle.dap_normal.proofs.AcceptingFacts.{message_once}
 use Rattle.dap_normal.proofs.NormalFormLaws.{normal_accepted}
 use Rattle.dap_compare.specs.LeftTexts.{IsRecordAt, LeavesRecord}
+use Rattle.dap_compare.specs.Verdicts.{Compares}
+use Rattle.dap_compare.specs.declared.verdict.CompareRefused.TheVariants.{Memory}
+use Rattle.dap_compare.specs.declared.verdict.Verdict.TheVariants.{Differ}
 use Rattle.dap_diff.specs.Diffs.{HasAt, HasRead, TellsRecord}
 use Rattle.dap_diff.specs.Texts.{IsRecordOf, Holds, IsLeftText, TellsTexts}
 
@@ -160,3 +163,22 @@ module _ (limits : Limits) (mode : Mode) (sound : AreSound limits) where
       read_b = has_read source_b old_b new_b number text_b left_b tells.of_b tells.holds_b;
       lines_are = tells.lines_are;
     }
+
+-- An allocation failed after the first record that differs was found.
+pub gave_up_after : {R S : Type 0} (source_a : Source R) (source_b : Source S) (limits : Limits)
+    (mode : Mode) (old_a new_a : R) (old_b new_b : S) (number : ℕ)
+    → Compares source_a source_b limits mode old_a new_a old_b new_b (Ok (Differ number))
+    → Compares source_a source_b limits mode old_a new_a old_b new_b (Err Memory)
+gave_up_after source_a source_b limits mode old_a new_a old_b new_b number compared = record {
+  number = compared.number;
+  bytes_a = compared.bytes_a;
+  stop_a = compared.stop_a;
+  came_a = compared.came_a;
+  read_a = compared.read_a;
+  bytes_b = compared.bytes_b;
+  stop_b = compared.stop_b;
+  came_b = compared.came_b;
+  read_b = compared.read_b;
+  tells = λ x y is_x is_y. (compared.tells x y is_x is_y).1.0;
+  none_fails = compared.none_fails;
+}

@@ -110,9 +110,10 @@ module _ {T R : Type 0} {numbers : T → List ℤ} {table_limit : T → ℕ} (so
       → Says (accepting limits mode) (bytes ++ read.more) read.stop old.records.number because
       × ((n : ℕ) → because ≡ Record n Cut → read.stop ≡ Some End)
       → (because ≡ Memory → new.number ≤ old.records.number + 1)
+      → (because ≡ Memory → read.stop ≡ None)
       → HasStoppedAt numbers table_limit source limits mode bytes messages normal old record
       { records = new; judge = judge; scratch = left.scratch } before after because
-  stopped_for judge left answer read because told last = record {
+  stopped_for judge left answer read because told last goes_on = record {
     more = read.more;
     stop = read.stop;
     came = read.came;
@@ -125,6 +126,7 @@ module _ {T R : Type 0} {numbers : T → List ℤ} {table_limit : T → ℕ} (so
     says = told.0;
     cut = told.1;
     last = last;
+    goes_on = goes_on;
   }
 
   -- if the record is buffered, nothing is read
@@ -162,6 +164,9 @@ module _ {T R : Type 0} {numbers : T → List ℤ} {table_limit : T → ℕ} (so
       (λ is. let same = (subst (λ b. Finds (record_items limits.frame)
       (StandsForRecord limits.frame) old.records new (old.records.pieces.unread ++ read.more)
       read.more read.stop (Err b)) is read.finds).1 in omega (arith, same))
+      (λ is. (subst (λ b. Finds (record_items limits.frame)
+      (StandsForRecord limits.frame) old.records new (old.records.pieces.unread ++ read.more)
+      read.more read.stop (Err b)) is read.finds).0)
 
   pub none_left : (text : List ℕ) → Reads (Ok None)
       → HasEnded numbers table_limit source limits mode bytes messages normal old record
@@ -205,6 +210,7 @@ module _ {T R : Type 0} {numbers : T → List ℤ} {table_limit : T → ℕ} (so
         (subst (λ k. RefusesHeld (Objects (judge_limits old.judge) k messages (held_of whole))
         old.records.number because) was.judge_mode_is (judged messages normal was.stands))))
         (λ is. let number = read.finds.1.number_is in omega (arith, number))
+        (λ is. read.finds.0)
 
     -- the record is accepted
     pub gone_on : judge_limits judge ≡ judge_limits old.judge

@@ -1,6 +1,6 @@
 -- The results of the command functions that check a recording record by record.
-use Rattle.std.proofs.Common.{◌≡◌, ℕ, ℤ, ◌+◌, ◌<◌, Bool, true, false, List, ◌++◌, Result}
-use Rattle.std.proofs.Common.{Ok, Err, refl, sym, ◌∙◌, subst, arith}
+use Rattle.std.proofs.Common.{◌≡◌, inl, ℕ, ℤ, ◌+◌, ◌<◌, Bool, true, false, List, [], ◌++◌, None}
+use Rattle.std.proofs.Common.{Result, Ok, Err, refl, sym, ◌∙◌, subst, arith}
 use Rattle.std.proofs.lemmas.Bool.{true≢false}
 use Rattle.dap_device.specs.declared.device.Source.{Ghosts as Source}
 use Rattle.dap_message.specs.Message.{Sent}
@@ -13,12 +13,17 @@ use Rattle.dap_normal.specs.declared.normal_records.NormalRecords.{NormalRecords
 use Rattle.dap_input.specs.declared.refused.Refused.{Refused}
 use Rattle.dap_input.specs.declared.refused.Refused.TheVariants.{Incomplete, WriteFault, Memory}
 use Rattle.dap_input.proofs.Refusals.{untold}
-use Rattle.dap_normal.specs.Accepting.{IsAccepted, text}
+use Rattle.dap_input.proofs.Coming.{nothing_came}
+use Rattle.dap_input.proofs.Runs.{run_none}
+use Rattle.dap_normal.specs.Accepting.{IsAccepted, accepting, text}
 use Rattle.dap_normal.specs.Checking.{Checks}
 use Rattle.dap_input.specs.Engine.{Accepts}
 use Rattle.dap_normal.specs.JudgingSteps.{StandsFor}
 use Rattle.dap_normal.specs.NormalSteps.{HasEnded, HasGone, HasNext, HasStoppedAt}
-use Rattle.dap_normal.proofs.StreamLoop.{Going, all_came, refuses_next}
+use Rattle.dap_normal.specs.Streaming.{HasComeTo}
+use Rattle.dap_normal.proofs.AcceptingFacts.{accepted_facts}
+use Rattle.dap_normal.proofs.NormalTexts.{normal}
+use Rattle.dap_normal.proofs.StreamLoop.{Going, all_came, refused_to, refuses_next}
 
 module _ {T R : Type 0} {numbers : T → List ℤ} {table_limit : T → ℕ} (source : Source R)
     (limits : Limits) (mode : Mode) (start reader : R) (records : NormalRecords T)
@@ -55,7 +60,13 @@ module _ {T R : Type 0} {numbers : T → List ℤ} {table_limit : T → ℕ} (so
     check_refuses WriteFault stopped =
         absurd (untold WriteFault records.records.number stopped.says.fault refl
         (λ e. absurd (let same = e in cc)) stopped.says.tells)
-    check_refuses Memory stopped = tt
+    check_refuses Memory stopped = (
+      records.records.number,
+      text was.normal,
+      subst (λ stop. HasComeTo source limits mode start after stop records.records.number
+          (text was.normal)) (stopped.goes_on refl)
+          (refused_to source limits mode start reader records was after new Memory stopped),
+    )
     check_refuses because stopped = (
       text was.normal,
       refuses_next source limits mode start reader records was after new because stopped
@@ -108,6 +119,37 @@ module _ {T R : Type 0} {numbers : T → List ℤ} {table_limit : T → ℕ} (so
           answered = λ asked. let none =
               answered asked in (client_is ∙ none.0, adapter_is ∙ none.1);
         }
+
+-- Nothing has been read.
+none_come : {R : Type 0} (source : Source R) (limits : Limits) (mode : Mode) (start : R)
+    → HasComeTo source limits mode start start None 1 []
+none_come source limits mode start =
+    let accepted =
+    (accepted_facts limits mode).accepted_of_run [] [] (run_none (accepting limits mode) [] 0) in
+    record {
+      bytes = [];
+      came = nothing_came source start;
+      read_to = record { before = []; last = []; split = refl; few = omega arith; ends = inl refl };
+      before = record {
+        values = [];
+        front = [];
+        rest = [];
+        split = refl;
+        accepted = accepted;
+        is_number = omega arith;
+      };
+      gives = record {
+        messages = [];
+        accepts = accepted;
+        normal = [];
+        is_normal = normal mode [] tt;
+        text_is = refl;
+      };
+    }
+
+pub check_gives_up : {R : Type 0} (source : Source R) (limits : Limits) (mode : Mode)
+    (complete : Bool) (start : R) → Checks source limits mode complete start start (Err Memory)
+check_gives_up source limits mode complete start = (1, [], none_come source limits mode start)
 
 -- An error does not depend on whether each request must have a response.
 pub refuses_all_the_same : {R : Type 0} (source : Source R) (limits : Limits) (mode : Mode)

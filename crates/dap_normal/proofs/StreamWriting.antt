@@ -3,7 +3,7 @@ use Rattle.std.proofs.Common.{◌≡◌, inl, inr, ℕ, ℤ, List, [], ◌++◌,
 use Rattle.std.proofs.Common.{Err, refl, sym, ◌∙◌, subst}
 use Rattle.dap_device.specs.declared.device.Source.{Ghosts as Source}
 use Rattle.dap_device.specs.declared.device.Sink.{Ghosts as Sink}
-use Rattle.dap_device.specs.Pieces.{HasComeSoFar}
+use Rattle.dap_device.specs.Pieces.{HasComeSoFar, HasPaused}
 use Rattle.dap_device.specs.Written.{AllWritten, FrontWritten}
 use Rattle.dap_device.specs.declared.reading.Stop.{Stop}
 use Rattle.dap_device.specs.declared.reading.Stop.TheVariants.{End}
@@ -29,6 +29,30 @@ use Rattle.dap_normal.proofs.NormalFormLaws.{canonical}
 use Rattle.dap_normal.proofs.NormalTexts.{normal}
 use Rattle.dap_normal.proofs.PendingTexts.{Waiting, failed_inside, stops_before}
 use Rattle.dap_normal.proofs.StreamLoop.{Going, all_came, come_to, normal_before, refused_to}
+
+-- If an allocation fails at a record, the reader has not failed.
+pub unfailed : {T R : Type 0} {numbers : T → List ℤ} {table_limit : T → ℕ} (source : Source R)
+    (limits : Limits) (mode : Mode) (start reader : R) (records : NormalRecords T)
+    (was : Going numbers table_limit source limits mode start reader records)
+    (new : NormalRecords T) (after : R) (because : Refused)
+    → HasStoppedAt numbers table_limit source limits mode was.bytes was.messages was.normal
+    records new reader after because
+    → because ≡ Memory → source.failures after ≡ source.failures start
+unfailed source limits mode start reader records was new after because stopped memory =
+    subst (HasPaused source reader after) (stopped.goes_on memory) stopped.came.paused
+    ∙ was.came.paused
+
+-- If `Memory` is returned after the remaining output, an allocation failed at the record.
+pub memory_of : {W : Type 0} (sink : Sink W) (waiting : List ℕ) (writer end : W)
+    (because : Refused) (answer : Result (Unit {0}) Refused)
+    → Ends sink waiting writer end (Err because) answer → answer ≡ Err Memory → because ≡ Memory
+memory_of sink waiting writer end Memory answer ends memory = refl
+memory_of sink waiting writer end because answer (inl (mid, all, inl done)) memory =
+    let e = sym done.0 ∙ memory in cc
+memory_of sink waiting writer end because answer (inl (mid, all, inr failed)) memory =
+    let e = sym failed.0 ∙ memory in cc
+memory_of sink waiting writer end because answer (inr (front, is)) memory =
+    let e = sym is ∙ memory in cc
 
 module _ {R W : Type 0} (source : Source R) (sink : Sink W) (limits : Limits) (mode : Mode) (start :
     R)

@@ -1,5 +1,5 @@
 -- The results of `check`. Source: own.
-use Rattle.std.specs.Prelude.{◌≡◌, ℕ, Bool, true, List, length, Result, Ok, Err}
+use Rattle.std.specs.Prelude.{◌≡◌, ℕ, Bool, true, List, length, None, Result, Ok, Err}
 use Rattle.dap_device.specs.declared.device.Source.{Ghosts as Source}
 use Rattle.dap_tree.specs.declared.side.Side.TheVariants.{Client, Adapter}
 use Rattle.dap_message.specs.Message.{Sent}
@@ -11,7 +11,7 @@ use Rattle.dap_input.specs.declared.refused.Refused.{Refused}
 use Rattle.dap_input.specs.declared.refused.Refused.TheVariants.{Incomplete, WriteFault, Memory}
 use Rattle.dap_normal.specs.Accepting.{IsAccepted}
 use Rattle.dap_input.specs.Engine.{Accepts}
-use Rattle.dap_normal.specs.Streaming.{RefusesNext}
+use Rattle.dap_normal.specs.Streaming.{HasComeTo, RefusesNext}
 
 -- The counts of accepted messages: their number, and the number of requests of each side that have
 -- no response.
@@ -40,10 +40,16 @@ module _ {R : Type 0} (source : Source R) (limits : Limits) (mode : Mode) (compl
     pub adapter_is : adapter ≡ open_requests Adapter messages
     pub some : client ≡ 0 → adapter ≡ 0 → ⊥
 
+  -- An allocation failed at this record. No more was read than the record requires, the reader did
+  -- not fail, and the records before it are accepted.
+  abbrev pub HasGivenUp : R → R → Type 0
+  HasGivenUp old new = (number : ℕ) × (text : List ℕ)
+      × HasComeTo source limits mode old new None number text
+
   abbrev pub Checks : R → R → Result Checked Refused → Type 0
   Checks old new (Ok checked) = HasChecked old new checked
   Checks old new (Err (Incomplete client adapter)) = IsIncomplete old new client adapter
   Checks old new (Err WriteFault) = ⊥
-  Checks old new (Err Memory) = Unit {0}
+  Checks old new (Err Memory) = HasGivenUp old new
   Checks old new (Err refused) = (text : List ℕ)
       × RefusesNext source limits mode old new refused text

@@ -86,6 +86,7 @@ module _ {T R : Type 0} (numbers : T → List ℤ) (table_limit : T → ℕ) (so
     pub says : Says (accepting limits mode) (bytes ++ more) stop old.records.number refused
     pub cut : (n : ℕ) → refused ≡ Record n Cut → stop ≡ Some End
     pub last : refused ≡ Memory → new.records.number ≤ old.records.number + 1
+    pub goes_on : refused ≡ Memory → stop ≡ None
 
   abbrev pub HasNext : List ℕ → List ℕ → Result Bool Refused → Type 0
   HasNext text longer (Ok true) = HasGone text longer

@@ -42,7 +42,8 @@ pub fn check<R: Source>(
 
     // The result is the counts of an accepted recording, or its first error. `Incomplete` is
     // returned if and only if `complete` is true and a request has no response. `ReadFault` is
-    // returned if and only if the reader failed.
+    // returned if and only if the reader failed. If an allocation failed, no more was read than
+    // some record requires, and the records before it are accepted.
     ensures answer { Checks R.Source limits mode complete reader.old reader.new result }
 
     // It reads at most one byte beyond the limit.

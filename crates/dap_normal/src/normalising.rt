@@ -148,6 +148,10 @@ pub fn normalise<R: Source, W: Sink>(
     ensures answer { Streams R.Source W.Sink limits mode reader.old reader.new
         writer.old writer.new result }
 
+    // If an allocation failed, the reader did not fail.
+    ensures memory { IsErrOf result Refused.Memory
+        → R.failures reader.new ≡ R.failures reader.old }
+
     // It reads at most one byte beyond the limit.
     ensures taken { R.given reader.new ≤ R.given reader.old + limits.input + 1 }
 {
@@ -178,6 +182,8 @@ pub fn normalise_with<R: Source, W: Sink, T: NameTable + Drop>(
     // The guarantees of `normalise`, for any tables.
     ensures answer { Streams R.Source W.Sink limits mode reader.old reader.new
         writer.old writer.new result }
+    ensures memory { IsErrOf result Refused.Memory
+        → R.failures reader.new ≡ R.failures reader.old }
     ensures taken { R.given reader.new ≤ R.given reader.old + limits.input + 1 }
 {
     let Ok(mut records) = NormalRecords::new(alloc, limits, tables, mode) else {
@@ -209,6 +215,8 @@ fn write_records<R: Source, W: Sink, T: NameTable + Drop>(
     ensures given_up { IsErrOf result Refused.Memory
         → HasGivenUpAt R.Source W.Sink limits mode records.new.records.number
         reader.old reader.new writer.old writer.new }
+    ensures memory { IsErrOf result Refused.Memory
+        → R.failures reader.new ≡ R.failures reader.old }
     ensures taken { R.given reader.new ≤ R.given reader.old + limits.input + 1 }
 {
     let mut text = Vec::new(alloc);

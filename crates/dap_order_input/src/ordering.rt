@@ -1,9 +1,10 @@
 //! Puts the records of a recording in order.
-ghost use Rattle.std.specs.Prelude.{◌≡◌, ◌+◌, ◌<◌, ◌≤◌, ◌^◌, IfErr, IfOk};
+ghost use Rattle.std.specs.Prelude.{◌≡◌, ◌+◌, ◌<◌, ◌≤◌, ◌^◌, IfErr, IfOk, IsErrOf};
 ghost use Rattle.dap_mask.specs.Swaps.{swaps_of};
 ghost use Rattle.dap_input.specs.Engine.{Answers};
 ghost use Rattle.dap_input.specs.Limits.{AreSound};
-ghost use Rattle.dap_order_input.specs.Ordering.{IsNotOrdered, Orders, RefusesToOrder};
+ghost use Rattle.dap_order_input.specs.Ordering.{IsNotOrdered, Orders, ReadsSomeOrAll};
+ghost use Rattle.dap_order_input.specs.Ordering.{RefusesToOrder};
 ghost use Rattle.dap_order_input.specs.OrderingSteps.{IsSession, WritesInOrder, result_of_input};
 
 use crate::checking::check_bytes;
@@ -106,11 +107,16 @@ pub fn order<R: Source, W: Sink>(
         (IsNotOrdered limits mode (swaps_of rules.now)) reader.old reader.new writer.old writer.new
         result }
 
+    // If an allocation failed, a prefix of the input was read, or all of it.
+    ensures memory { IsErrOf result Refused.Memory
+        → ReadsSomeOrAll R.Source limits.input reader.old reader.new }
+
     // At most one byte past the limit is read.
     ensures taken { R.given reader.new ≤ R.given reader.old + limits.input + 1 }
 {
-    let Ok(input) = read_all(alloc, reader, limits.input) else {
-        return Err(Refused::Memory);
+    let input = match read_all(alloc, reader, limits.input) {
+        Ok(input) => input,
+        Err(_) => return Err(Refused::Memory),
     };
     let text = text_of_input(
         order_bytes(alloc, rules, input.bytes.as_slice(), limits, mode),

@@ -16,6 +16,7 @@ use Rattle.dap_input.proofs.Runs.{AcceptedFacts, Run, ValueLaws, run_within}
 use Rattle.dap_input.proofs.WholeInputs.{Going, accepts_all, at_start, few_failures, fewer_left}
 use Rattle.dap_input.proofs.WholeInputs.{on, small_count, small_number}
 use Rattle.dap_input.specs.ItemReading.{StandsForRecord, record_items}
+use Rattle.dap_input.specs.ReadTo.{IsReadTo}
 use Rattle.dap_input.specs.RecordSteps.{IsAtStart, IsWithin, ReadsNext}
 use Rattle.dap_input.specs.declared.limits.Limits.{Limits}
 use Rattle.dap_input.specs.declared.records.Records.{Records}
@@ -93,7 +94,8 @@ pub record Sought {R : Type 0} (limits : Limits) (source : Source R) (number : �
       values
   pub sought : IsSought number records.number
 
-sought_first : (number at : ℕ) → at ≡ 1 → IsSought number at
+-- No record comes before the first.
+pub sought_first : (number at : ℕ) → at ≡ 1 → IsSought number at
 sought_first zero at is = inl refl
 sought_first (suc number) at is = inr (omega arith)
 
@@ -180,6 +182,10 @@ module _ {R : Type 0} (limits : Limits) (source : Source R) (number : ℕ) where
                 was.going.came read.came);
             short = subst (IsWithin (length bytes) limits.input) read.finds.0
                 (steps.within (framing limits) (record_items limits.frame) held_of
+                (reads_framed limits) (StandsForRecord limits.frame) source was.going.bytes records
+                was.values behind new reader after (Ok (Some whole)) read);
+            read_to = subst (IsReadTo (framing limits) bytes) here
+                (steps.read_to (framing limits) (record_items limits.frame) held_of
                 (reads_framed limits) (StandsForRecord limits.frame) source was.going.bytes records
                 was.values behind new reader after (Ok (Some whole)) read);
             before = record {

@@ -1,6 +1,6 @@
 -- The result of `show_record` if it writes no record.
-use Rattle.std.proofs.Common.{◌≡◌, ◌≢◌, ℕ, List, Option, Some, Err, refl, sym, ◌∙◌, ap}
-use Rattle.std.proofs.Common.{subst}
+use Rattle.std.proofs.Common.{◌≡◌, ◌≢◌, inr, ℕ, List, Option, Some, None, Err, refl, sym, ◌∙◌, ap}
+use Rattle.std.proofs.Common.{subst, arith}
 use Rattle.std.specs.Option.{option_map_or}
 use Rattle.dap_device.specs.declared.device.Sink.{Ghosts as Sink}
 use Rattle.dap_device.specs.declared.device.Source.{Ghosts as Source}
@@ -14,6 +14,8 @@ use Rattle.dap_input.specs.declared.refused.Refused.{Refused}
 use Rattle.dap_input.specs.declared.refused.Refused.TheVariants as because
 use Rattle.dap_show.specs.OneRecord.{HasRecord, ShowsRecord, StopsBefore, framing}
 use Rattle.dap_show.specs.OneRecordSteps.{TextIsMade}
+use Rattle.dap_show.proofs.Framing.{reads_framed, sought_first}
+use Rattle.dap_show.proofs.Stopping.{stops_at_start}
 
 module _ (limits : Limits) where
   -- No record is rejected for its content, because only the framing is checked.
@@ -45,7 +47,6 @@ module _ (limits : Limits) where
     not_framed (because.Fraction n) before =
         absurd (not_held (because.Fraction n) _ before.stops.number n (no_message fraction) refl
         (λ same. absurd (let e = same in cc)) before.stops.says)
-    not_framed because.Memory before = refl
     not_framed because.WriteFault before =
         absurd (untold because.WriteFault before.stops.number before.stops.says.fault refl
         (λ same. absurd (let e = same in cc)) before.stops.says.tells)
@@ -56,5 +57,31 @@ module _ (limits : Limits) where
         → TextIsMade number content (Err why_not) → Answers why_not
     not_made (because.Json n) content found made = (made.0, (content, found, made.1), refl)
     not_made (because.Fraction n) content found made = (made.0, (content, found, made.1), refl)
-    not_made because.Memory content found made = refl
+    not_made because.Memory content found made = (
+      record {
+        stops = record {
+          bytes = found.bytes;
+          stop = None;
+          came = found.came;
+          within = found.short;
+          number = number;
+          read_to = found.read_to;
+          before = found.before;
+          says = tt;
+          cut = λ n is. absurd (let same = is in cc);
+        };
+        early = inr (omega arith);
+      },
+      refl,
+    )
     not_made why_not content found made = absurd made
+
+-- Nothing has been read when an allocation fails.
+pub none_shown : {R W : Type 0} (limits : Limits) (source : Source R) (sink : Sink W) (number : ℕ)
+    (old : R) (writer : W)
+    → ShowsRecord limits source sink number old old writer writer (Err because.Memory)
+none_shown limits source sink number old writer =
+    let first = stops_at_start (framing limits) (reads_framed limits).accepted source old in (
+      record { stops = first.0; early = sought_first number first.0.number first.1 },
+      refl,
+    )

@@ -1,6 +1,6 @@
 -- The state in which a command function stops that reads no more of its input than it requires.
-use Rattle.std.proofs.Common.{◌≡◌, ℕ, ◌+◌, ◌≤◌, List, ◌++◌, length, Option, Some, None, Result, Ok}
-use Rattle.std.proofs.Common.{Err, ◌∙◌, ap, arith, append_assoc}
+use Rattle.std.proofs.Common.{◌≡◌, inl, ℕ, ◌+◌, ◌≤◌, List, [], ◌++◌, length, Option, Some, None, Result}
+use Rattle.std.proofs.Common.{Ok, Err, refl, ◌∙◌, ap, arith, append_assoc}
 use Rattle.dap_device.specs.declared.device.Source.{Ghosts as Source}
 use Rattle.dap_device.specs.declared.reading.Stop.{Stop}
 use Rattle.dap_device.specs.declared.reading.Stop.TheVariants.{End, Full, Failed}
@@ -13,10 +13,11 @@ use Rattle.dap_input.specs.RecordSteps.{IsWithin, ReadsNext}
 use Rattle.dap_input.specs.Refusals.{RefusesHeld}
 use Rattle.dap_input.specs.declared.records.Records.{Records}
 use Rattle.dap_input.specs.declared.refused.Refused.{Refused}
-use Rattle.dap_input.specs.declared.refused.Refused.TheVariants.{Record}
-use Rattle.dap_input.proofs.Coming.{came_on}
+use Rattle.dap_input.specs.declared.refused.Refused.TheVariants.{Memory, Record}
+use Rattle.dap_input.proofs.Coming.{came_on, nothing_came}
 use Rattle.dap_input.proofs.InputLoop.{ReadsAs}
 use Rattle.dap_input.proofs.InputSteps as steps
+use Rattle.dap_input.proofs.Runs.{AcceptedFacts, run_none}
 use Rattle.dap_input.proofs.WholeInputs.{Going}
 use Rattle.dap_show.specs.Stopping.{StopsAt}
 
@@ -39,6 +40,8 @@ module _ {I A R : Type 0} (j : Judging) (g : Items A RecordCause) (held_of : A �
     within = steps.within j g held_of facts stands source was.bytes records values was.behind new
         reader after answer read;
     number = records.number;
+    read_to = steps.read_to j g held_of facts stands source was.bytes records values was.behind new
+        reader after answer read;
     before = record {
       values = values;
       front = was.behind.front;
@@ -83,3 +86,43 @@ stopped_taken j source old new because at =
     let counted = at.came.counted in
     let most = within_one (length at.bytes) j.input at.stop at.within in
     omega (arith, counted, most)
+
+-- Nothing has been read when an allocation fails, and the next record is the first.
+pub stops_at_start : {R : Type 0} (j : Judging) → AcceptedFacts j → (source : Source R)
+    (start : R) → (stops : StopsAt j source start start Memory) × (stops.number ≡ 1)
+stops_at_start j accepted source start = (
+  record {
+    bytes = [];
+    stop = None;
+    came = nothing_came source start;
+    within = omega arith;
+    number = 1;
+    read_to = record { before = []; last = []; split = refl; few = omega arith; ends = inl refl };
+    before = record {
+      values = [];
+      front = [];
+      rest = [];
+      split = refl;
+      accepted = accepted.accepted_of_run [] [] (run_none j [] 0);
+      is_number = omega arith;
+    };
+    says = tt;
+    cut = λ n is. absurd (let same = is in cc);
+  },
+  refl,
+)
+
+-- If the input is rejected at a record, an allocation may fail there.
+pub gives_up_there : {R : Type 0} (j : Judging) (source : Source R) (start after : R)
+    (because : Refused) → StopsAt j source start after because → StopsAt j source start after Memory
+gives_up_there j source start after because stops = record {
+  bytes = stops.bytes;
+  stop = stops.stop;
+  came = stops.came;
+  within = stops.within;
+  number = stops.number;
+  read_to = stops.read_to;
+  before = stops.before;
+  says = tt;
+  cut = λ n is. absurd (let same = is in cc);
+}

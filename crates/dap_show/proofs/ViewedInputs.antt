@@ -12,7 +12,8 @@ use Rattle.dap_show.specs.Viewing.{IsFraming, Shows, ShowsAll, ShowsInput, Views
 use Rattle.dap_show.specs.Viewing.{stop_line, viewing}
 use Rattle.dap_show.specs.ViewingSteps.{Finishes, ShowsRecords}
 use Rattle.dap_show.specs.declared.detail.Detail.{Detail}
-use Rattle.dap_show.proofs.Stopping.{stopped_taken}
+use Rattle.dap_show.proofs.Stopping.{gives_up_there, stopped_taken, stops_at_start}
+use Rattle.dap_show.proofs.ViewingFacts.{reads_entries}
 
 module _ {R : Type 0} (marks_faults : Bool) (detail : Detail) (limits : Limits) (source : Source R)
     (old new : R) where
@@ -56,13 +57,26 @@ module _ {R : Type 0} (marks_faults : Bool) (detail : Detail) (limits : Limits) 
         untold because.WriteFault stops.number stops.says.fault refl
         (λ same. absurd (let e = same in cc)) stops.says.tells
 
+    pub none_viewed : ViewsInput marks_faults detail limits source sink old old writer writer
+        (Err because.Memory)
+    none_viewed = (
+      (stops_at_start (viewing marks_faults detail limits)
+          (reads_entries marks_faults detail limits).accepted source old).0,
+      λ faulty framing. framing,
+      refl,
+    )
+
     pub refused_view : (other : Refused) (stopped : Result (Unit {0}) Refused)
         (lines text : List ℕ) (first last : Option Refused)
         → ShowsRecords marks_faults detail limits source old new lines first stopped
         → Finishes {V = Unit {0}} marks_faults stopped lines text first last (Err other)
         → ViewsInput marks_faults detail limits source sink old new writer writer (Err other)
     refused_view other (Ok over) lines text first last shows finishes = absurd finishes
-    refused_view because.Memory (Err refused) lines text first last shows finishes = refl
+    refused_view because.Memory (Err refused) lines text first last (stops, shown) finishes = (
+      gives_up_there (viewing marks_faults detail limits) source old new refused stops,
+      λ faulty framing. framing,
+      refl,
+    )
     refused_view because.WriteFault (Err refused) lines text first last (stops, shown) finishes =
         absurd (no_write_fault
         (subst (StopsAt (viewing marks_faults detail limits) source old new) (sym finishes.0)
@@ -93,5 +107,4 @@ module _ {R W : Type 0} (detail : Detail) (limits : Limits) (source : Source R) 
       → ViewsInput false detail limits source sink old new before after (Err refused)
       → ShowsInput {U = U} detail limits source sink old new before after (Err refused)
   refused_strictly U because.WriteFault h = (h.0, h.1, all_shown h.0 h.1 h.2, h.3)
-  refused_strictly U because.Memory h = h
   refused_strictly U refused h = (h.0, h.2)

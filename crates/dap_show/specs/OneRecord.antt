@@ -12,10 +12,10 @@ use Rattle.dap_recording.specs.Recording.{IsRecord, IsRecording, records}
 use Rattle.dap_input.specs.InputSteps.{AcceptsAll}
 use Rattle.dap_input.specs.Inputs.{AcceptedBefore}
 use Rattle.dap_input.specs.Judging.{Judging}
-use Rattle.dap_input.specs.ReadTo.{so_far}
+use Rattle.dap_input.specs.ReadTo.{IsReadTo, so_far}
 use Rattle.dap_input.specs.declared.limits.Limits.{Limits}
 use Rattle.dap_input.specs.declared.refused.Refused.{Refused}
-use Rattle.dap_input.specs.declared.refused.Refused.TheVariants.{Fraction, Json, Memory, WriteFault}
+use Rattle.dap_input.specs.declared.refused.Refused.TheVariants.{Fraction, Json, WriteFault}
 use Rattle.dap_normal.specs.Accepting.{Held}
 use Rattle.dap_show.specs.Indented.{indented}
 use Rattle.dap_show.specs.Stopping.{StopsAt}
@@ -48,11 +48,13 @@ abbrev pub IsSought : ℕ → ℕ → Type 0
 IsSought sought number = (sought ≡ 0) ⊎ (number ≤ sought)
 
 module _ {R : Type 0} (limits : Limits) (source : Source R) where
-  -- The bytes read contain the record with this number and this content, after complete records.
+  -- The bytes read contain the record with this number and this content, after complete records. No
+  -- more was read than this record requires.
   pub record HasRecord (old new : R) (number : ℕ) (content : List ℕ) : Type 0 where
     pub bytes : List ℕ
     pub came : HasComeSoFar source old new bytes None
     pub short : length bytes ≤ limits.input
+    pub read_to : IsReadTo (framing limits) bytes number
     pub before : AcceptedBefore (framing limits) (so_far bytes None) number
     pub record_bytes : List ℕ
     pub more : List ℕ
@@ -68,7 +70,7 @@ module _ {R : Type 0} (limits : Limits) (source : Source R) where
     pub missing : (number ≡ 0) ⊎ (count < number)
 
   -- The framing of the requested record or of an earlier one is invalid, or the reader failed
-  -- before the end of the requested record.
+  -- before the end of the requested record, or an allocation failed at one of them.
   pub record StopsBefore (old new : R) (number : ℕ) (refused : Refused) : Type 0 where
     pub stops : StopsAt (framing limits) source old new refused
     pub early : IsSought number stops.number
@@ -92,6 +94,5 @@ module _ {R : Type 0} (limits : Limits) (source : Source R) where
     ShowsRecord old new before after (Err (Fraction n)) = (n ≡ number)
         × ((content : List ℕ) × HasRecord old new number content × HasFraction content)
         × (after ≡ before)
-    ShowsRecord old new before after (Err Memory) = after ≡ before
     ShowsRecord old new before after (Err refused) =
         StopsBefore old new number refused × (after ≡ before)

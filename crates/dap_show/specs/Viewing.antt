@@ -223,19 +223,19 @@ module _ (marks_faults : Bool) (detail : Detail) (limits : Limits) where
 
     module _ {W : Type 0} (sink : Sink W) where
       -- The lines were written and flushed; or a prefix of them was written and the writer failed;
-      -- or the input is rejected, and nothing was written.
+      -- or the input is rejected or an allocation failed, and nothing was written.
       abbrev pub ViewsInput : R → R → W → W → Result (Option Refused) Refused → Type 0
       ViewsInput old new before after (Ok first) =
           (text : List ℕ) × Shows old new text first × AllSent sink before after text
       ViewsInput old new before after (Err because.WriteFault) =
           (text : List ℕ) × (first : Option Refused) × Shows old new text first
           × FrontWritten sink before after text
-      ViewsInput old new before after (Err because.Memory) = after ≡ before
       ViewsInput old new before after (Err refused) = StopsAt viewing source old new refused
           × (marks_faults ≡ true → IsFraming refused → ⊥) × (after ≡ before)
 
 -- Outcome of `show_with`: all lines were written and flushed, or a prefix of them was written and
--- the writer failed, or the first error is returned and nothing was written.
+-- the writer failed, or the first error is returned or an allocation failed, and nothing was
+-- written.
 abbrev pub ShowsInput : {U R W : Type 0} → Detail → Limits → Source R → Sink W → R → R → W → W
     → Result U Refused → Type 0
 ShowsInput detail limits source sink old new before after (Ok done) =
@@ -244,7 +244,6 @@ ShowsInput detail limits source sink old new before after (Ok done) =
 ShowsInput detail limits source sink old new before after (Err because.WriteFault) =
     (text : List ℕ) × (first : Option Refused)
     × ShowsAll false detail limits source old new text first × FrontWritten sink before after text
-ShowsInput detail limits source sink old new before after (Err because.Memory) = after ≡ before
 ShowsInput detail limits source sink old new before after (Err refused) =
     StopsAt (viewing false detail limits) source old new refused × (after ≡ before)
 

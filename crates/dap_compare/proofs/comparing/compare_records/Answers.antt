@@ -2,7 +2,8 @@ use Rattle.std.proofs.Common.{[], refl, sym, ◌∙◌}
 use Rattle.std.proofs.lemmas.Result.{err_from_is_err_and}
 use Rattle.dap_normal.proofs.StreamAnswers.{ended, gone}
 use Rattle.dap_normal.proofs.StreamLoop.{at_start, few_taken, on, passed_taken}
-use Rattle.dap_compare.proofs.StreamComparing.{both_ended, equal_counts, names_a, names_b}
+use Rattle.dap_compare.proofs.StreamComparing.{both_ended, equal_counts, gave_up_at_end, names_a}
+use Rattle.dap_compare.proofs.StreamComparing.{names_b}
 use Rattle.dap_compare.proofs.LeftTexts.{left_text}
 use Rattle.dap_compare.proofs.StreamComparing.{one_number, passed_by}
 use Rattle.dap_compare.proofs.StreamComparing.{still_alike, told_apart, told_by_a, told_by_b}
@@ -284,3 +285,24 @@ returns-in-Apart-clause-text_b g c =
     c.args.reader_a.now c.records.reader_a c.records.records_a c.records.invariant.a
     c.args.reader_b.now c.records.reader_b c.records.records_b c.records.invariant.b
     c.records.invariant.alike))
+
+pub returns-in_default-clause-answer : goal.returns-in_default-clause-answer
+returns-in_default-clause-answer g c =
+    gave_up_at_end g.A.Source
+    g.B.Source c.args.limits c.args.mode
+    c.args.reader_a.now c.records.reader_a c.records.records_a c.records.invariant.a
+    c.args.reader_b.now c.records.reader_b c.records.records_b c.records.invariant.b
+    c.records.invariant.alike c.next_text.new.records c.next_text.new.reader _ _
+    c.next_text-in-records.new.records c.next_text-in-records.new.reader _ _
+    (ended g.A.Source c.args.limits c.args.mode
+    c.args.reader_a.now c.records.reader_a c.records.records_a c.records.invariant.a
+    c.next_text.new.records c.next_text.new.reader _ _ _
+    (c.in_ok-some_a.ensures c.args.limits c.args.mode c.records.invariant.a.bytes
+    c.records.invariant.a.messages c.records.invariant.a.normal
+    c.records.invariant.a.stands) c.in-NoneLeft.ensures.0)
+    (ended g.B.Source c.args.limits c.args.mode
+    c.args.reader_b.now c.records.reader_b c.records.records_b c.records.invariant.b
+    c.next_text-in-records.new.records c.next_text-in-records.new.reader _ _ _
+    (c.in_ok-some_b.ensures c.args.limits c.args.mode c.records.invariant.b.bytes
+    c.records.invariant.b.messages c.records.invariant.b.normal
+    c.records.invariant.b.stands) c.in-NoneLeft.ensures.1)

@@ -1,4 +1,6 @@
 use Rattle.std.proofs.Common.{◌≡◌, ◌+◌, ◌-◌, ◌++◌, length, drop, take, sym, ap, ◌∙◌, subst, arith}
+use Rattle.std.proofs.lemmas.List.{length-take-le}
+use Rattle.std.proofs.lemmas.Result.{err_from_is_err_and}
 use Rattle.std.proofs.Common.{take-add, length-drop}
 use Rattle.std.specs.Io.KnownBytes.{Consumes}
 use Rattle.std.proofs.KnownBytes.{Consumes-trans}
@@ -29,3 +31,18 @@ loop-count-preserved g c =
       counted = omega (arith, read.counted, before.counted);
       no_failure = read.no_failure ∙ before.no_failure;
     }
+
+pub returns-in_err-make_room-clause-partly : goal.returns-in_err-make_room-clause-partly
+returns-in_err-make_room-clause-partly g c =
+    let because = err_from_is_err_and c.from_residual.result c.from_residual.ensures.1 in
+    let was = c.loop-count.invariant in
+    let long : length (take c.loop-count.count c.loop-count.bytes.items) ≡ c.loop-count.count =
+    length-take-le c.loop-count.count c.loop-count.bytes.items was.read in
+    rw because.1
+    (record {
+      bytes = take c.loop-count.count c.loop-count.bytes.items;
+      came = was.came;
+      counted = omega (arith, was.counted, long);
+      within = omega (arith, long, was.read, was.within, c.if-count-most.false);
+      no_failure = was.no_failure;
+    })

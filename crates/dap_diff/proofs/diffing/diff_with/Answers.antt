@@ -1,6 +1,6 @@
 use Rattle.std.proofs.Common.{sym, subst}
 use Rattle.dap_diff.specs.Texts.{IsLeftText, TellsTexts}
-use Rattle.dap_diff.proofs.Texts.{is_left, tells_record}
+use Rattle.dap_diff.proofs.Texts.{gave_up_after, is_left, tells_record}
 use Rattle.dap_diff.proofs.diffing.diff_with.Goals as goal
 
 pub returns-in-Same-clause-answer : goal.returns-in-Same-clause-answer
@@ -33,3 +33,9 @@ returns-in-Ok-clause-answer g c =
           c.in-Differ.record _ _ _ (rw c.in-Differ.is at c.in_ok-verdict.ensures.text_a)
           (rw c.in-Differ.is at c.in_ok-verdict.ensures.text_b) tells,
     )
+
+pub returns-clause-answer : goal.returns-clause-answer
+returns-clause-answer g c =
+    gave_up_after g.A.Source g.B.Source c.args.limits c.args.mode c.args.reader_a.now
+    c.compare_texts_with.new.reader_a c.args.reader_b.now c.compare_texts_with.new.reader_b
+    c.in-Differ.record (rw c.in-Differ.is at c.in_ok-verdict.ensures.answer)

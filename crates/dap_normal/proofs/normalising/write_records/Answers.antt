@@ -9,7 +9,8 @@ use Rattle.dap_normal.proofs.PendingTexts.{Waiting, failed_inside, longer_is, no
 use Rattle.dap_normal.proofs.PendingTexts.{stops_behind, waits_on}
 use Rattle.dap_normal.proofs.StreamAnswers.{ended, gone}
 use Rattle.dap_normal.proofs.StreamLoop.{all_taken, at_start, few_taken, gone_taken, on}
-use Rattle.dap_normal.proofs.StreamWriting.{all_given_up, all_refused, all_streamed, not_given_up}
+use Rattle.dap_normal.proofs.StreamWriting.{all_given_up, all_refused, all_streamed, memory_of}
+use Rattle.dap_normal.proofs.StreamWriting.{not_given_up, unfailed}
 use Rattle.dap_normal.proofs.normalising.write_records.Goals as goal
 
 pub records-init : goal.records-init
@@ -219,3 +220,17 @@ returns-in-Err-clause-taken g c =
     c.records.records was
     c.next.new.reader c.next.new.self _
     (c.in-Err.ensures.next c.args.limits c.args.mode was.bytes was.messages was.normal was.stands)
+
+pub returns-in-Ok-false-clause-memory : goal.returns-in-Ok-false-clause-memory
+returns-in-Ok-false-clause-memory g c = λ memory.
+    absurd (not_given_up g.W.Sink c.as_slice-in-Ok-false.result.now c.records.writer
+    c.ended.new.writer c.ended.result c.ended.ensures memory)
+
+pub returns-in-Err-clause-memory : goal.returns-in-Err-clause-memory
+returns-in-Err-clause-memory g c = λ memory.
+    let was = c.records.invariant.going in
+    unfailed g.R.Source c.args.limits c.args.mode c.args.reader.now c.records.reader
+    c.records.records was c.next.new.self c.next.new.reader c.in-Err.refused
+    (c.in-Err.ensures.next c.args.limits c.args.mode was.bytes was.messages was.normal was.stands)
+    (memory_of g.W.Sink c.as_slice-in-Err.result.now c.records.writer c.ended-in-Err.new.writer
+    c.in-Err.refused c.ended-in-Err.result c.ended-in-Err.ensures memory)

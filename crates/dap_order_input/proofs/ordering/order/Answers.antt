@@ -1,4 +1,4 @@
-use Rattle.std.proofs.Common.{sym, ◌∙◌, subst}
+use Rattle.std.proofs.Common.{inl, inr, sym, ◌∙◌, subst}
 use Rattle.std.specs.Prelude.{IfErr, IfOk}
 use Rattle.std.proofs.lemmas.Result.{err_from_is_err_and}
 use Rattle.dap_mask.specs.Swaps.{swaps_of}
@@ -19,3 +19,10 @@ returns-in_err-text-clause-answer g c =
     (subst (λ bytes. IfErr c.order_bytes.result (RefusesToOrder c.args.limits c.args.mode rules bytes))
     c.as_slice.ensures.value c.order_bytes.ensures.err)
     c.in_err-text.field-0.0 (sym c.text_of_input.ensures ∙ c.in_err-text.was))
+
+pub returns-in_err-text-clause-memory : goal.returns-in_err-text-clause-memory
+returns-in_err-text-clause-memory g c = λ _.
+    inr (c.in-Ok.input.bytes.items, c.in-Ok.input.stop, c.in-Ok.ensures.came)
+
+pub returns-in-Err-clause-memory : goal.returns-in-Err-clause-memory
+returns-in-Err-clause-memory g c = λ _. inl c.in-Err.ensures.partly

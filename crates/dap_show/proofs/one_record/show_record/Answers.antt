@@ -1,6 +1,6 @@
 use Rattle.std.proofs.Common.{Err, subst}
 use Rattle.dap_show.specs.OneRecordSteps.{TextIsMade}
-use Rattle.dap_show.proofs.RecordAnswers.{not_framed, not_made}
+use Rattle.dap_show.proofs.RecordAnswers.{none_shown, not_framed, not_made}
 use Rattle.dap_show.proofs.one_record.show_record.Goals as goal
 
 pub returns-in-Err-clause-answer : goal.returns-in-Err-clause-answer
@@ -15,3 +15,7 @@ returns-in-Err-text_of-clause-answer g c =
     (rw c.in-Ok-Whole.field-0-is at c.in-Ok-Whole.ensures)
     (subst (λ t. TextIsMade c.args.number t (Err c.in-Err-text_of.refused)) c.as_slice.ensures
     c.in-Err-text_of.ensures)
+
+pub returns-in_default-clause-answer : goal.returns-in_default-clause-answer
+returns-in_default-clause-answer g c =
+    none_shown c.args.limits g.R.Source g.W.Sink c.args.number c.args.reader.now c.args.writer.now

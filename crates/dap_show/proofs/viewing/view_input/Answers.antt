@@ -1,6 +1,6 @@
 use Rattle.std.proofs.Common.{subst}
 use Rattle.dap_device.specs.Written.{AllSent, FrontWritten}
-use Rattle.dap_show.proofs.ViewedInputs.{refused_view, shown_lines}
+use Rattle.dap_show.proofs.ViewedInputs.{none_viewed, refused_view, shown_lines}
 use Rattle.dap_show.proofs.viewing.view_input.Goals as goal
 
 pub returns-in-Err-clause-answer : goal.returns-in-Err-clause-answer
@@ -35,3 +35,8 @@ returns-clause-answer g c = (
   subst (FrontWritten g.W.Sink c.args.writer.now c.write_and_flush.new.writer)
       c.as_slice.ensures.value c.in-Err-write_and_flush.ensures,
 )
+
+pub returns-in_default-clause-answer : goal.returns-in_default-clause-answer
+returns-in_default-clause-answer g c =
+    none_viewed c.args.view.marks_faults c.args.view.detail c.args.limits g.R.Source
+    c.args.reader.now c.args.reader.now g.W.Sink c.args.writer.now
