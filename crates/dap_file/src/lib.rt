@@ -25,6 +25,3 @@ pub use inputs::{Input, KeptInput, is_standard, open_input, shows_closed_input};
 pub use memory::MemoryFile;
 pub use outputs::{Output, find_file, open_output};
 pub use replacing::{ReplaceFault, replace};
-
-#[cfg(test)]
-mod tests;

@@ -6,6 +6,8 @@ mod devices;
 #[cfg(test)]
 mod differences;
 #[cfg(test)]
+mod files;
+#[cfg(test)]
 mod frames;
 #[cfg(test)]
 mod lines;

@@ -34,3 +34,83 @@ returns-in-None g c =
     let fits : SFits w64 c.at.result = search rules in
     let same : to_z w64 (of_z w64 c.at.result) ≡ c.at.result = to_z-of_z w64 c.at.result fits in
     same ∙ found ∙ ap (λ xs. get_or xs i (pos 0)) (sym is)
+
+pub overflow_cast-index : goal.overflow_cast-index
+overflow_cast-index g c =
+    let names = c.args.self.now in
+    let sort = c.args.sort in
+    let numbers = g.T.NameTable.numbers in
+    let last : numbers_at numbers names (sort, c.args.stop) ≡ numbers (table_of names.tables sort) =
+    last_list (past_lists names.past.items sort) (numbers (table_of names.tables sort)) c.args.stop
+    c.args.index c.in-None.ensures c.requires in
+    let is : numbers_at numbers names (sort, c.args.stop) ≡ numbers c.table.result.now =
+    last ∙ ap numbers (sym c.table.ensures) in
+    let within : c.args.index < length (numbers c.table.result.now) =
+    omega (arith, c.requires, ap length is) in
+    omega (
+      arith,
+      ints,
+      within,
+      g.met.T.NameTable.bounded c.table.result.now,
+      g.met.T.NameTable.small c.table.result.now,
+    )
+
+pub overflow_add-index : goal.overflow_add-index
+overflow_add-index g c =
+    let names = c.args.self.now in
+    let sort = c.args.sort in
+    let numbers = g.T.NameTable.numbers in
+    let last : numbers_at numbers names (sort, c.args.stop) ≡ numbers (table_of names.tables sort) =
+    last_list (past_lists names.past.items sort) (numbers (table_of names.tables sort)) c.args.stop
+    c.args.index c.in-None.ensures c.requires in
+    let is : numbers_at numbers names (sort, c.args.stop) ≡ numbers c.table.result.now =
+    last ∙ ap numbers (sym c.table.ensures) in
+    let within : c.args.index < length (numbers c.table.result.now) =
+    omega (arith, c.requires, ap length is) in
+    omega (
+      arith,
+      ints,
+      within,
+      g.met.T.NameTable.bounded c.table.result.now,
+      g.met.T.NameTable.small c.table.result.now,
+    )
+
+pub at-requires-clause-first : goal.at-requires-clause-first
+at-requires-clause-first g c =
+    let names = c.args.self.now in
+    let sort = c.args.sort in
+    let numbers = g.T.NameTable.numbers in
+    let last : numbers_at numbers names (sort, c.args.stop) ≡ numbers (table_of names.tables sort) =
+    last_list (past_lists names.past.items sort) (numbers (table_of names.tables sort)) c.args.stop
+    c.args.index c.in-None.ensures c.requires in
+    let is : numbers_at numbers names (sort, c.args.stop) ≡ numbers c.table.result.now =
+    last ∙ ap numbers (sym c.table.ensures) in
+    let within : c.args.index < length (numbers c.table.result.now) =
+    omega (arith, c.requires, ap length is) in
+    omega (
+      arith,
+      ints,
+      within,
+      g.met.T.NameTable.bounded c.table.result.now,
+      g.met.T.NameTable.small c.table.result.now,
+    )
+
+pub at-requires-clause-last : goal.at-requires-clause-last
+at-requires-clause-last g c =
+    let names = c.args.self.now in
+    let sort = c.args.sort in
+    let numbers = g.T.NameTable.numbers in
+    let last : numbers_at numbers names (sort, c.args.stop) ≡ numbers (table_of names.tables sort) =
+    last_list (past_lists names.past.items sort) (numbers (table_of names.tables sort)) c.args.stop
+    c.args.index c.in-None.ensures c.requires in
+    let is : numbers_at numbers names (sort, c.args.stop) ≡ numbers c.table.result.now =
+    last ∙ ap numbers (sym c.table.ensures) in
+    let within : c.args.index < length (numbers c.table.result.now) =
+    omega (arith, c.requires, ap length is) in
+    omega (
+      arith,
+      ints,
+      within,
+      g.met.T.NameTable.bounded c.table.result.now,
+      g.met.T.NameTable.small c.table.result.now,
+    )

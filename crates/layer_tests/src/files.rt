@@ -1,7 +1,7 @@
 //! Tests replacements in memory in which each call fails in turn, and replacements of real files.
 ghost use Rattle.std.specs.Prelude.{◌≡◌, None, IfOk};
 
-use super::*;
+use dap_file::{FileAt, MemoryFile, ReadFault, ReplaceFault, Replaceable, Step, replace};
 use std::alloc::Global;
 use std::ops::Range;
 use std::os::unix::fs::{PermissionsExt, symlink};
