@@ -1,4 +1,6 @@
 pub mod Lines
 pub mod Matching
 pub mod Numbers
+pub mod RuledPair
 pub mod Run
+pub mod TwoFiles

@@ -11,8 +11,12 @@ mod numbering;
 mod reading;
 mod report;
 mod rows;
+mod ruled_pair;
 mod run;
+mod two_files;
 
 pub use answer::AllDifferences;
 pub use diffing::{diff_all, diff_all_with};
+pub use ruled_pair::diff_all_by_rules;
 pub use run::{run_diff_all, run_diff_all_with};
+pub use two_files::diff_all_files;

@@ -6,4 +6,8 @@ pub mod OrderRun
 pub mod Parts
 pub mod Reporting
 pub mod RowsRun
+pub mod RuledRuns
 pub mod Saving
+pub mod TextsByRules
+pub mod TwoInputs
+pub mod UnopenedRules

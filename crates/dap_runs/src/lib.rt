@@ -1,23 +1,38 @@
 //! What the program prints and returns: lines, statuses, and the runs of `compare`, `mask`,
-//! `order` and `rows`.
+//! `order` and `rows`. It also defines the limits of the program, and which files it opens.
 #![tactic(auto)]
 
 mod apply_run;
 mod compare_run;
 mod fault_line;
+mod files;
 mod mask_run;
 mod order_run;
 mod parts;
+mod program_limits;
 mod rows_run;
+mod rules_files;
+mod rules_texts;
 mod saving;
 mod status;
+mod two_inputs;
+mod unopened_rules;
 
 pub use apply_run::report_unapplied;
 pub use compare_run::{differ_line, refusal_status, run_compare, run_compare_with, same_line};
 pub use fault_line::{LINE, refused_text, send, send_line, tell, tell_answer, tell_of_input};
+pub use files::{Files, OpenFault};
 pub use mask_run::{RulesRefused, read_rules, report_rules, run_mask};
 pub use order_run::run_order;
 pub use parts::{report_parts, send_parts};
+pub use program_limits::LIMITS;
 pub use rows_run::tell_rows;
+pub use rules_files::{RulesFiles, RulesOpenFault};
+pub use rules_texts::{
+    NoRules, RuledPairRun, RulesStop, TableMaker, TextsByRules, report_no_rules, report_rules_stop,
+    rules_of_name, texts_by_rules,
+};
 pub use saving::save;
 pub use status::{DIFFERENT, DONE, FAULT, MEMORY, REFUSED, USAGE, refused_status};
+pub use two_inputs::{OpenStop, TwoFilesRun, is_standard, open_both, report_open_stop};
+pub use unopened_rules::report_unopened_rules;

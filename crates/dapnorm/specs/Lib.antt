@@ -3,6 +3,7 @@ pub mod GoldenRun
 pub mod MemoryFiles
 pub mod OneFile
 pub mod RuledFile
+pub mod RuledPair
 pub mod Run
 pub mod SavedRun
 pub mod TaskRun
@@ -45,7 +46,11 @@ pub use Rattle.dap_runs.specs.MaskRun
 pub use Rattle.dap_runs.specs.Parts
 pub use Rattle.dap_runs.specs.Reporting
 pub use Rattle.dap_runs.specs.RowsRun
+pub use Rattle.dap_runs.specs.RuledRuns
 pub use Rattle.dap_runs.specs.Saving
+pub use Rattle.dap_runs.specs.TextsByRules
+pub use Rattle.dap_runs.specs.TwoInputs
+pub use Rattle.dap_runs.specs.UnopenedRules
 pub use Rattle.dap_show.specs.Indented
 pub use Rattle.dap_show.specs.Leaves
 pub use Rattle.dap_show.specs.OneRecord

@@ -24,8 +24,8 @@ use Rattle.dap_show.specs.declared.detail.ShowRequest.TheVariants as request
 use Rattle.dap_trace.specs.TracingRun.{RecordsTrace}
 use Rattle.dapnorm.specs.Run.{CheckIsTold}
 use Rattle.dapnorm.specs.ViewRun.{FaultyIsReported, RecordIsReported}
-use Rattle.dapnorm.specs.declared.files.OpenFault.{OpenFault}
-use Rattle.dapnorm.specs.declared.files.OpenFault.TheVariants as fault
+use Rattle.dap_runs.specs.declared.files.OpenFault.{OpenFault}
+use Rattle.dap_runs.specs.declared.files.OpenFault.TheVariants as fault
 use Rattle.dapnorm.specs.declared.one_file.OneFileRun.{OneFileRun}
 
 -- the name of an input; without one it is standard input

@@ -4,30 +4,15 @@ use Rattle.std.specs.Prelude.{ℕ, Bool, List, Option, Some, None}
 use Rattle.dap_device.specs.declared.device.Sink.{Ghosts as Sink}
 use Rattle.dap_device.specs.declared.device.Source.{Ghosts as Source}
 use Rattle.dap_input.specs.declared.limits.Limits.{Limits}
-use Rattle.dap_input.specs.declared.refused.Refused.TheVariants.{Memory, ReadFault}
-use Rattle.dap_runs.specs.FaultLine.{fault_line, refused_text}
-use Rattle.dap_runs.specs.MaskRun.{MaskIsTold, TellsAlone, rules_unread}
+use Rattle.dap_runs.specs.MaskRun.{MaskIsTold, TellsAlone}
 use Rattle.dap_runs.specs.OrderRun.{OrderIsReported}
+use Rattle.dap_runs.specs.UnopenedRules.{unopened_rules_line, unopened_rules_status}
+use Rattle.dap_runs.specs.TwoInputs.{is_standard}
+use Rattle.dap_runs.specs.declared.files.OpenFault.{OpenFault}
+use Rattle.dap_runs.specs.declared.rules_files.RulesOpenFault.{RulesOpenFault}
 use Rattle.dapnorm.specs.OneFile.{RunsFile}
-use Rattle.dapnorm.specs.TwoFiles.{is_standard}
-use Rattle.dapnorm.specs.declared.files.OpenFault.{OpenFault}
-use Rattle.dapnorm.specs.declared.rules_files.RulesOpenFault.{RulesOpenFault}
-use Rattle.dapnorm.specs.declared.rules_files.RulesOpenFault.TheVariants as fault
 use Rattle.dapnorm.specs.declared.ruled_file.RuledFileRun.{RuledFileRun}
 use Rattle.dapnorm.specs.declared.ruled_file.RuledRun.{RuledRun}
-
--- ---- a file of rules that does not open
-
--- the line: the file could not be read, or the input, which is closed
-abbrev pub unopened_rules_line : RulesOpenFault → List ℕ
-unopened_rules_line fault.Memory = fault_line (refused_text Memory)
-unopened_rules_line (fault.Unread error) = rules_unread
-unopened_rules_line fault.ClosedInput = fault_line (refused_text ReadFault)
-
-abbrev pub unopened_rules_status : RulesOpenFault → ℕ
-unopened_rules_status fault.Memory = 5
-unopened_rules_status (fault.Unread error) = 4
-unopened_rules_status fault.ClosedInput = 4
 
 -- ---- the rules of a name
 

@@ -13,11 +13,11 @@ use Rattle.dap_runs.specs.Reporting.{HasSent, refused_status}
 use Rattle.dap_runs.specs.Saving.{Saves, unsaved_line}
 use Rattle.dapnorm.specs.OneFile.{unopened_as}
 use Rattle.dapnorm.specs.TaskRun.{TaskIsDone}
-use Rattle.dapnorm.specs.TwoFiles.{is_standard}
-use Rattle.dapnorm.specs.declared.files.OpenFault.{OpenFault}
-use Rattle.dapnorm.specs.declared.files.OpenFault.TheVariants as fault
+use Rattle.dap_runs.specs.TwoInputs.{is_standard}
+use Rattle.dap_runs.specs.declared.files.OpenFault.{OpenFault}
+use Rattle.dap_runs.specs.declared.files.OpenFault.TheVariants as fault
 use Rattle.dapnorm.specs.declared.ruled_file.RuledRun.{RuledRun}
-use Rattle.dapnorm.specs.declared.rules_files.RulesOpenFault.{RulesOpenFault}
+use Rattle.dap_runs.specs.declared.rules_files.RulesOpenFault.{RulesOpenFault}
 use Rattle.dapnorm.specs.declared.saved_run.SaveEnd.{SaveEnd}
 use Rattle.dapnorm.specs.declared.saved_run.SaveEnd.TheVariants as end
 use Rattle.dapnorm.specs.declared.saved_run.SavedRun.{SavedRun}

@@ -6,7 +6,7 @@ use Rattle.dap_input.specs.declared.limits.Limits.{Limits}
 use Rattle.dapnorm.specs.OneFile.{JobIsDone, ViewIsDone}
 use Rattle.dapnorm.specs.RuledFile.{IsMaskedBy, IsOrderedBy}
 use Rattle.dapnorm.specs.declared.ruled_file.RuledRun.{RuledRun}
-use Rattle.dapnorm.specs.declared.rules_files.RulesOpenFault.{RulesOpenFault}
+use Rattle.dap_runs.specs.declared.rules_files.RulesOpenFault.{RulesOpenFault}
 use Rattle.dapnorm.specs.declared.task.Task.{Task}
 use Rattle.dapnorm.specs.declared.task.Task.TheVariants as task
 

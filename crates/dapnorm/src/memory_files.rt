@@ -2,8 +2,8 @@
 ghost use Rattle.std.specs.Prelude.{◌≡◌, option_map};
 ghost use Rattle.dapnorm.specs.MemoryFiles.{content_of};
 
-use crate::files::{Files, OpenFault};
 use dap_device::MemorySource;
+use dap_runs::{Files, OpenFault};
 use std::io::{Error, ErrorKind};
 
 /// Files in memory, each with its name. If two have one name, the first one counts. A file is read

@@ -5,15 +5,13 @@ ghost use Rattle.dap_runs.specs.FaultLine.{fault_line, refused_text};
 ghost use Rattle.dap_runs.specs.Reporting.{HasSent, refused_status};
 ghost use Rattle.dapnorm.specs.OneFile.{FileIsRun, FileIsViewed, input_name, unopened_as};
 
-use crate::files::{Files, OpenFault};
-use crate::program_limits::LIMITS;
 use crate::run_job::run_stream_with;
 use crate::view_run::run_view;
 use dap_command_line::Job;
 use dap_device::{Sink, Source};
 use dap_input::Refused;
 use dap_rename::{NameTable, Tables};
-use dap_runs::{refused_status, tell};
+use dap_runs::{Files, LIMITS, OpenFault, refused_status, tell};
 use dap_show::ShowRequest;
 use std::alloc::Global;
 

@@ -1,18 +1,14 @@
 //! Masks a recording, or puts it in order, by the rules of a file that is given by its name.
-ghost use Rattle.std.specs.Prelude.{◌≡◌, ◌+◌, ◌<◌, ◌≤◌, ◌^◌, IfOk};
-ghost use Rattle.dap_runs.specs.Reporting.{HasSent};
+ghost use Rattle.std.specs.Prelude.{◌+◌, ◌<◌, ◌≤◌, ◌^◌, IfOk};
 ghost use Rattle.dapnorm.specs.OneFile.{input_name};
 ghost use Rattle.dapnorm.specs.RuledFile.{FileIsMasked, FileIsOrdered, IsMaskedBy, IsOrderedBy};
-ghost use Rattle.dapnorm.specs.RuledFile.{unopened_rules_line, unopened_rules_status};
 
-use crate::files::{Files, OpenFault};
 use crate::one_file::{input_name, report_unopened};
-use crate::program_limits::LIMITS;
-use crate::rules_files::{RulesFiles, RulesOpenFault};
-use crate::two_files::is_standard;
 use dap_device::{Sink, Source};
-use dap_input::Refused;
-use dap_runs::{FAULT, RulesRefused, report_rules, run_mask, run_order, tell};
+use dap_runs::{
+    Files, LIMITS, OpenFault, RulesFiles, RulesOpenFault, is_standard, report_unopened_rules,
+    run_mask, run_order,
+};
 use std::alloc::Global;
 
 /// How a run by the rules of a file ended.
@@ -33,22 +29,6 @@ pub struct RuledFileRun<I> {
     pub input: Result<I, OpenFault>,
     /// Why the file of rules did not open.
     pub unopened_rules: Option<RulesOpenFault>,
-}
-
-/// Reports in one line that a file of rules did not open, and returns the status of the program.
-fn report_unopened_rules<E: Sink>(errors: &mut E, fault: RulesOpenFault) -> u8
-    requires { E.failures errors.old < 2 ^ 62 }
-    ensures line { HasSent E.Sink errors.old errors.new (unopened_rules_line fault) }
-    ensures status { result ≡ unopened_rules_status fault }
-{
-    match fault {
-        RulesOpenFault::Memory => report_rules(errors, RulesRefused::Memory),
-        RulesOpenFault::Unread(_) => report_rules(errors, RulesRefused::Unread),
-        RulesOpenFault::ClosedInput => {
-            tell(errors, Refused::ReadFault);
-            FAULT
-        }
-    }
 }
 
 /// Masks the recording of `reader` by the rules of the file that a name leads to, under the limits

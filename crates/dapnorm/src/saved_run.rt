@@ -9,21 +9,20 @@ ghost use Rattle.dapnorm.specs.OneFile.{input_name};
 ghost use Rattle.dapnorm.specs.SavedRun.{EndTakes, Finishes, IsHeld, RunIsSaved, unfound_line};
 ghost use Rattle.dapnorm.specs.SavedRun.{unfound_status};
 
-use crate::files::{Files, OpenFault};
 use crate::one_file::{input_name, report_unopened};
-use crate::program_limits::LIMITS;
 use crate::ruled_file::RuledRun;
-use crate::rules_files::{RulesFiles, RulesOpenFault};
 use crate::targets::Targets;
 use crate::task::{Task, run_task};
-use crate::two_files::is_standard;
 use dap_command_line::Job;
 use dap_device::{Sink, Source, write_and_flush};
 use dap_file::Replaceable;
 use dap_input::Refused;
 use dap_rename::{NameTable, Tables};
 use dap_rules_input::TextSink;
-use dap_runs::{DONE, FAULT, MEMORY, report_parts, save, tell};
+use dap_runs::{
+    DONE, FAULT, Files, LIMITS, MEMORY, OpenFault, RulesFiles, RulesOpenFault, is_standard,
+    report_parts, save, tell,
+};
 use std::alloc::Global;
 
 /// How a run ended whose output goes to a file.

@@ -1,9 +1,9 @@
 //! The files that a program replaces as a whole, by their names.
 ghost use Rattle.std.specs.Prelude.{◌≡◌, ℕ, List, None, IfErr, IfOk};
-ghost use Rattle.dapnorm.specs.declared.files.OpenFault.{OpenFault};
+ghost use Rattle.dap_runs.specs.declared.files.OpenFault.{OpenFault};
 
-use crate::files::OpenFault;
 use dap_file::Replaceable;
+use dap_runs::OpenFault;
 
 /// The files that names lead to and that are replaced as a whole.
 ///

@@ -3,14 +3,13 @@ ghost use Rattle.std.specs.Prelude.{◌≡◌, ◌+◌, ◌<◌, ◌≤◌, ◌^
 ghost use Rattle.dap_normal.specs.NameTables.{AreReady};
 ghost use Rattle.dapnorm.specs.TaskRun.{TaskIsDone};
 
-use crate::program_limits::LIMITS;
 use crate::ruled_file::{RuledRun, run_mask_by, run_order_by};
-use crate::rules_files::RulesFiles;
 use crate::run_job::run_stream_with;
 use crate::view_run::run_view;
 use dap_command_line::Job;
 use dap_device::{Sink, Source};
 use dap_rename::{NameTable, Tables};
+use dap_runs::{LIMITS, RulesFiles};
 use dap_show::ShowRequest;
 use std::alloc::Global;
 

@@ -1,6 +1,6 @@
 //! The files of rules that a program reads, by their names.
 ghost use Rattle.std.specs.Prelude.{◌≡◌, ℕ, Bool, List, IfErr, IfOk};
-ghost use Rattle.dapnorm.specs.declared.rules_files.RulesOpenFault.{RulesOpenFault};
+ghost use Rattle.dap_runs.specs.declared.rules_files.RulesOpenFault.{RulesOpenFault};
 
 use dap_device::Source;
 use std::io::Error;

@@ -1,6 +1,6 @@
 //! The files that a program reads, by their names.
 ghost use Rattle.std.specs.Prelude.{◌≡◌, ℕ, List, IfErr, IfOk};
-ghost use Rattle.dapnorm.specs.declared.files.OpenFault.{OpenFault};
+ghost use Rattle.dap_runs.specs.declared.files.OpenFault.{OpenFault};
 
 use dap_device::Source;
 use std::io::Error;

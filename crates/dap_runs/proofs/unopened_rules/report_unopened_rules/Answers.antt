@@ -1,4 +1,4 @@
-use Rattle.dapnorm.proofs.ruled_file.report_unopened_rules.Goals as goal
+use Rattle.dap_runs.proofs.unopened_rules.report_unopened_rules.Goals as goal
 
 pub returns-in-Memory-clause-line : goal.returns-in-Memory-clause-line
 returns-in-Memory-clause-line g c = rw (c.in-Memory.is) c.report_rules.ensures.line

@@ -1,0 +1,81 @@
+//! Prints all differences of what the rules of a file make of two recordings, all given by the names
+//! of their files.
+ghost use Rattle.std.specs.Prelude.{◌<◌, ◌^◌};
+ghost use Rattle.dap_matching.specs.RuledPair.{AreDiffedWholeByRules};
+
+use crate::run::run_diff_all_with;
+use dap_device::{MemorySource, Sink, Source};
+use dap_rename::{Mode, NameTable};
+use dap_runs::{
+    Files, LIMITS, RuledPairRun, RulesFiles, TableMaker, report_rules_stop, texts_by_rules,
+};
+use std::alloc::Global;
+
+/// Prints all differences of what the rules of a file make of the recordings that two names lead to,
+/// under the limits of the program.
+///
+/// It prints and reports what [`run_diff_all`](crate::run_diff_all) does, with the texts of
+/// [`texts_by_rules`] as its inputs. Why the rules were not applied is reported in one line, with
+/// its status.
+pub fn diff_all_by_rules<
+    I: Source + Drop,
+    F: Files<I>,
+    J: Source + Drop,
+    G: RulesFiles<J>,
+    W: Sink,
+    E: Sink,
+    T: NameTable + Drop,
+    M: TableMaker<T>,
+>(
+    alloc: Global,
+    files: &F,
+    rules_files: &G,
+    rules: &str,
+    a: &str,
+    b: &str,
+    writer: &mut W,
+    errors: &mut E,
+    maker: &M,
+    mode: Mode,
+) -> RuledPairRun<I>
+    requires write_failures { W.failures writer.old < 2 ^ 62 }
+    requires error_failures { E.failures errors.old < 2 ^ 62 }
+
+    // The rules are those of the file of `rules`, the input of A is that of `a`, and the input of B
+    // that of `b`. Their differences go to `writer`, and what is wrong to `errors`.
+    ensures { AreDiffedWholeByRules (F.opened files.now) (F.unopened files.now)
+        (G.opened rules_files.now) (G.unopened rules_files.now) I.Source J.Source W.Sink E.Sink
+        LIMITS mode rules.now a.now b.now writer.old writer.new errors.old errors.new result }
+{
+    let changed = match texts_by_rules::<I, F, J, G, T, M>(
+        alloc,
+        files,
+        rules_files,
+        rules,
+        a,
+        b,
+        maker,
+        mode,
+    ) {
+        Ok(changed) => changed,
+        Err(stop) => {
+            let status = report_rules_stop(errors, &stop);
+            return RuledPairRun {
+                status,
+                stop: Some(stop),
+            };
+        }
+    };
+    let status = run_diff_all_with(
+        alloc,
+        &mut MemorySource::new(changed.a.as_slice()),
+        &mut MemorySource::new(changed.b.as_slice()),
+        writer,
+        errors,
+        LIMITS,
+        maker.tables(alloc),
+        maker.tables(alloc),
+        mode,
+    );
+    RuledPairRun { status, stop: None }
+}

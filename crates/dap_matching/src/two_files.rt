@@ -1,0 +1,61 @@
+//! Prints all differences of two recordings that are given by the names of their files.
+ghost use Rattle.std.specs.Prelude.{◌+◌, ◌<◌, ◌≤◌, ◌^◌, IfOk};
+ghost use Rattle.dap_matching.specs.TwoFiles.{FilesAreDiffedWhole};
+ghost use Rattle.dap_normal.specs.NameTables.{AreReady};
+
+use crate::run::run_diff_all_with;
+use dap_device::{Sink, Source};
+use dap_rename::{Mode, NameTable, Tables};
+use dap_runs::{Files, LIMITS, TwoFilesRun, open_both, report_open_stop};
+use std::alloc::Global;
+
+/// Prints all differences of the recordings of the files that two names lead to, under the limits
+/// of the program.
+///
+/// It prints and reports what [`run_diff_all`](crate::run_diff_all) does. An input that does not
+/// open is reported as one that could not be read, with status 4, or 5 if an allocation failed. Two
+/// inputs that are both standard input are a mistake of the user, with status 3. The tables have
+/// to be empty, each with the limit of ids.
+pub fn diff_all_files<I: Source + Drop, F: Files<I>, W: Sink, E: Sink, T: NameTable + Drop>(
+    alloc: Global,
+    files: &F,
+    a: &str,
+    b: &str,
+    writer: &mut W,
+    errors: &mut E,
+    tables_a: Tables<T>,
+    tables_b: Tables<T>,
+    mode: Mode,
+) -> TwoFilesRun<I>
+    requires tables_a { AreReady T.numbers T.limit LIMITS tables_a }
+    requires tables_b { AreReady T.numbers T.limit LIMITS tables_b }
+    requires write_failures { W.failures writer.old < 2 ^ 62 }
+    requires error_failures { E.failures errors.old < 2 ^ 62 }
+
+    // The input of A is that of the first name, and the input of B that of the second. Their
+    // differences go to `writer`, and what is wrong to `errors`.
+    ensures compared { FilesAreDiffedWhole (F.opened files.now) (F.unopened files.now) I.Source
+        W.Sink E.Sink LIMITS mode a.now b.now writer.old writer.new errors.old errors.new result }
+
+    // It takes at most one byte past the limit of each.
+    ensures taken_a { IfOk result.inputs (λ inputs. I.given inputs.0 ≤ LIMITS.input + 1) }
+    ensures taken_b { IfOk result.inputs (λ inputs. I.given inputs.1 ≤ LIMITS.input + 1) }
+{
+    let (mut left, mut right) = match open_both(files, a, b) {
+        Ok(inputs) => inputs,
+        Err(stop) => {
+            let status = report_open_stop(errors, stop);
+            return TwoFilesRun {
+                status,
+                inputs: Err(stop),
+            };
+        }
+    };
+    let status = run_diff_all_with(
+        alloc, &mut left, &mut right, writer, errors, LIMITS, tables_a, tables_b, mode,
+    );
+    TwoFilesRun {
+        status,
+        inputs: Ok((left, right)),
+    }
+}
