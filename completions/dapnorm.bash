@@ -2,7 +2,7 @@
 
 _dapnorm() {
     local word=${COMP_WORDS[COMP_CWORD]} before=${COMP_WORDS[COMP_CWORD - 1]} command=${COMP_WORDS[1]} words=
-    local commands='golden record check normalise compare diff show mask order compact rows help'
+    local commands='golden record check normalise compare diff suggest show mask order compact rows help'
     COMPREPLY=()
     if ((COMP_CWORD == 1)); then
         words="$commands -h --help -V --version"
@@ -17,6 +17,7 @@ _dapnorm() {
             normalise) words+=' --per-stop --explain -o --output' ;;
             compare) words+=' --rules --per-stop --explain' ;;
             diff) words+=' --rules --per-stop --explain --all' ;;
+            suggest) words+=' --rules --explain' ;;
             show) words+=' --full --faulty --record --explain -o --output' ;;
             mask) words+=' --explain -o --output' ;;
             order) words+=' -o --output' ;;

@@ -72,6 +72,7 @@ def main():
             ("the words of command lines", "command_lines.py"),
             ("golden files", "golden.py"),
             ("commands that apply rules", "ruled.py"),
+            ("rules that are suggested", "suggest.py"),
             ("inputs and outputs in files", "files.py"),
             ("all differences of recordings", "matching.py"),
             ("explanations of refusals", "explaining.py"),

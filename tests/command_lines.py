@@ -41,6 +41,8 @@ JOBS = [
     (["diff", "--per-stop", "a.rec", "b.rec"], b"", (0, b"same\n", b"")),
     (["diff", "--all", "a.rec", "b.rec"], b"", (1, ALL, b"")),
     (["diff", "a.rec", "b.rec", "--all", "--per-stop"], b"", (0, b"same\n", b"")),
+    (["suggest", "a.rec", "b.rec"], b"", (0, b"# with these rules and per-stop: same\n", b"")),
+    (["suggest", "a.rec", "-", "--rules", "lldb.rules"], COMPARED["a stale frame"][0], (0, b"# with these rules: same\n", b"")),
     (["check", "-"], OPEN, ACCEPTED),
     (["check", "open.rec"], b"", ACCEPTED),
     (["check", "open.rec", "--complete"], b"", INCOMPLETE),
@@ -66,6 +68,7 @@ NO_JOBS = [
     ["golden"], ["golden", "a", "b", "c"], ["golden", "a", "-o", "b"], ["golden", "--rules"], ["normalise", "-o"], ["rows", "-o", "a"],
     ["mask", "--rules", "lldb.rules"], ["compare", "-", "-"], ["show", "--record"], ["show", "--record", "0"], ["show", "--record", "x"],
     ["show", "--record", "1", "--full"], ["show", "--faulty", "--record", "1"], ["show", "--full", "--full"], ["golden", "--explain", "a"],
+    ["suggest", "a.rec"], ["suggest", "-", "-"], ["suggest", "--per-stop", "a.rec", "b.rec"], ["suggest", "a.rec", "b.rec", "-o", "a"],
     ["rows", "--explain"], ["compare", "--all", "a.rec", "b.rec"], ["diff", "--all", "a.rec"], ["diff", "--all", "-", "-"], ["normalise", "--full"], ["check", "--record", "1"],
 ]
 

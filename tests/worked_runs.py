@@ -483,8 +483,19 @@ def of_rules():
     yield stream("no rules", ["mask", "rules"], recording(CONFIGURED), (0, recording(CONFIGURED), b""), {"rules": b"# nothing\n"})
 
 
+def of_suggestions():
+    """Rules that are suggested, and a record that prevents them."""
+    process = '<{"body":{"name":"p","systemProcessId":%d},"event":"process","seq":2,"type":"event"}'
+    comment = b"# A record 3: 17\n# B record 3: 4\n"
+    suggested = comment + b"blank  event    process body.systemProcessId\n\n# with these rules: same\n"
+    files = {"a": recording([*BEGUN, process % 17]), "b": recording([*BEGUN, process % 4])}
+    yield stream("a process id", ["suggest", "a", "b"], b"", (0, suggested, b""), files)
+    told = b'no rules can: record 3 of B, request "threads", has no counterpart in A\n'
+    yield stream("a request more", ["suggest", "a", "b"], b"", (1, b"", told), {"a": recording(BEGUN), "b": recording([*BEGUN, THREADS])})
+
+
 def all_runs():
     """Each run, by its name."""
-    runs = [*of_sessions(), *of_refusals(), *of_others(), *of_stops(), *of_rules()]
+    runs = [*of_sessions(), *of_refusals(), *of_others(), *of_stops(), *of_rules(), *of_suggestions()]
     assert len({run.name for run in runs}) == len(runs)
     return runs

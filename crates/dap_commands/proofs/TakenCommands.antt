@@ -19,7 +19,8 @@ use Rattle.clap.proofs.WalkLemmas.{both}
 use Rattle.dap_command_line.specs.CommandLine.{two_files}
 use Rattle.dap_command_line.specs.CommandLine as line
 use Rattle.dap_commands.specs.Commands.{command_named, command_of, comparer, differ}
-use Rattle.dap_commands.specs.Commands.{golden_keeper, masker, orderer, program, with_files}
+use Rattle.dap_commands.specs.Commands.{golden_keeper, masker, orderer, program, suggester}
+use Rattle.dap_commands.specs.Commands.{with_files}
 use Rattle.dap_commands.proofs.EnteredSubcommand.{IsNotHelp, walk_meets}
 use Rattle.dap_commands.proofs.Found.{found_in}
 use Rattle.dap_commands.proofs.NoFault.{no_fault-takes}
@@ -106,6 +107,15 @@ diff_names word words met not_help passes =
     let two = both (is_some a) _ need in
     both_files _ a b two.0 (both (is_some b) _ two.1).0
 
+suggest_names : NamesCommand (as_built suggester)
+suggest_names word words met not_help passes =
+    let rows = rows_after (as_built suggester).rules [] words in
+    let need = level_has_required (as_built suggester) words refl passes in
+    let a = first_of (codes "A") rows in
+    let b = first_of (codes "B") rows in
+    let two = both (is_some a) _ need in
+    both_files _ a b two.0 (both (is_some b) _ two.1).0
+
 each_names : AllByRecursion NamesCommand app.subs
 each_names = (
   golden_names,
@@ -120,18 +130,21 @@ each_names = (
           (
             diff_names,
             (
-              λ word words met not_help passes. refl,
+              suggest_names,
               (
-                mask_names,
+                λ word words met not_help passes. refl,
                 (
-                  order_names,
+                  mask_names,
                   (
-                    λ word words met not_help passes. refl,
+                    order_names,
                     (
                       λ word words met not_help passes. refl,
                       (
-                        λ word words met not_help passes. absurd (help_names word met not_help),
-                        tt,
+                        λ word words met not_help passes. refl,
+                        (
+                          λ word words met not_help passes. absurd (help_names word met not_help),
+                          tt,
+                        ),
                       ),
                     ),
                   ),

@@ -101,6 +101,12 @@ comparer = of_two_files (codes "compare") []
 abbrev pub differ : Shape
 differ = of_two_files (codes "diff") (flag (codes "all") ∷ [])
 
+-- `suggest`.
+abbrev pub suggester : Shape
+suggester =
+    subcommand (codes "suggest") (file (codes "A") ∷ file (codes "B") ∷ option (codes "rules")
+    ∷ explain_flag ∷ [])
+
 -- `rows`.
 abbrev pub row_printer : Shape
 row_printer = subcommand (codes "rows") (optional (codes "N") ∷ [])
@@ -121,7 +127,7 @@ program = record {
     subcommand_required = true;
   };
   subs = golden_keeper ∷ stream (codes "record") ∷ checker ∷ normaliser
-      ∷ comparer ∷ differ ∷ viewer
+      ∷ comparer ∷ differ ∷ suggester ∷ viewer
       ∷ masker ∷ orderer ∷ stream (codes "compact") ∷ row_printer ∷ [];
 }
 
@@ -145,12 +151,14 @@ pub record ToldComparison : Type 0 where
   pub rules : Option Text
   pub printed : Printed
 
--- An action with the byte strings of its arguments: a job; a comparison that no job makes; the file
--- of the rules of `order`; `--full`, `--faulty` and the number after `--record`; or the golden
--- file, the file of the rules, `--per-stop`, `--open` and `--update`.
+-- An action with the byte strings of its arguments: a job; a comparison that no job makes; the
+-- files of `suggest` and that of its rules; the file of the rules of `order`; `--full`, `--faulty`
+-- and the number after `--record`; or the golden file, the file of the rules, `--per-stop`,
+-- `--open` and `--update`.
 pub data ToldAction : Type 0 where
   job : ToldJob → ToldAction
   comparison : ToldComparison → ToldAction
+  suggestion : Text → Text → Option Text → ToldAction
   order : Text → ToldAction
   view : Bool → Bool → Option Text → ToldAction
   golden : Text → Option Text → Bool → Bool → Bool → ToldAction
@@ -174,6 +182,7 @@ told_comparison c = record {
 abbrev pub told_action : Action → ToldAction
 told_action (action.Job j) = job (told_job j)
 told_action (action.Compare c) = comparison (told_comparison c)
+told_action (action.Suggest s) = suggestion s.a.now s.b.now (text_in s.rules)
 told_action (action.Order o) = order o.rules.now
 told_action (action.Show v) = view v.full v.faulty (text_in v.record)
 told_action (action.Golden g) =
@@ -265,6 +274,12 @@ abbrev pub diff_of : List Row → Option Told
 diff_of given =
     option_map (λ files. without_output given (diff_action given files)) (files_given given)
 
+-- The command of `suggest`.
+abbrev pub suggest_of : List Row → Option Told
+suggest_of given =
+    option_map (λ files. without_output given
+    (suggestion files.0 files.1 (first_of (codes "rules") given))) (files_given given)
+
 -- An option that changes the output of `show` was given.
 abbrev pub asks_view : List Row → Bool
 asks_view given =
@@ -313,6 +328,7 @@ command_of name given =
     else if bytes_eq name (codes "compare") then compare_of given
     else if bytes_eq name (codes "diff") then diff_of given
     else if bytes_eq name (codes "order") then order_of given
+    else if bytes_eq name (codes "suggest") then suggest_of given
     else option_map (with_files given) (job_of name given)
 
 abbrev pub command_named : Option (Text × List Row) → Option Told

@@ -12,8 +12,8 @@ pub struct Command<'a> {
     /// The file of the input. `None` or `-` is standard input. A job that reads no input, or that
     /// names two files itself, has `None`.
     pub input: Option<&'a str>,
-    /// The file of the output. `None` is standard output. `check`, `compare`, `diff`, `rows` and
-    /// `golden` have `None`.
+    /// The file of the output. `None` is standard output. `check`, `compare`, `diff`, `suggest`,
+    /// `rows` and `golden` have `None`.
     pub output: Option<&'a str>,
     /// Whether a rejection is explained in further lines. `golden` and `order` explain without the
     /// flag.
@@ -27,6 +27,8 @@ pub enum Action<'a> {
     Job(Job<'a>),
     /// Compare two recordings in a way that no job does: with rules, or with all differences.
     Compare(Comparison<'a>),
+    /// Suggest rules that make two recordings the same.
+    Suggest(Suggest<'a>),
     /// Put a recording in order.
     Order(Order<'a>),
     /// Print a recording in a way that the job `show` does not.
@@ -59,6 +61,17 @@ pub enum Printed {
     FirstDifference,
     /// The differences in all records.
     AllDifferences,
+}
+
+/// The options of `suggest`.
+#[derive(Clone, Copy, Debug, PartialEq, Eq)]
+pub struct Suggest<'a> {
+    /// The file of the first recording.
+    pub a: &'a str,
+    /// The file of the second recording.
+    pub b: &'a str,
+    /// The rules file that lacks the suggested rules. `None`: there is none.
+    pub rules: Option<&'a str>,
 }
 
 /// The options of `order`.

@@ -5,7 +5,8 @@ ghost use Rattle.dap_command_line.specs.CommandLine.{bare, file};
 ghost use Rattle.dap_commands.specs.Commands.{IsArgument, IsSubcommand, checker, comparer, differ};
 ghost use Rattle.dap_commands.specs.Commands.{explain_flag, flag, golden_keeper, input_file, masker, normaliser};
 ghost use Rattle.dap_commands.specs.Commands.{of_two_files, option, optional, orderer, output_file};
-ghost use Rattle.dap_commands.specs.Commands.{program, row_printer, stream, subcommand, viewer};
+ghost use Rattle.dap_commands.specs.Commands.{program, row_printer, stream, subcommand, suggester};
+ghost use Rattle.dap_commands.specs.Commands.{viewer};
 
 use clap::{Arg, ArgAction, Command};
 use std::alloc::{AllocError, Global};
@@ -290,6 +291,27 @@ fn diff_command<'a>(alloc: Global) -> Result<Command<'a>, AllocError>
     ))
 }
 
+/// Returns the subcommand `suggest`.
+fn suggest_command<'a>(alloc: Global) -> Result<Command<'a>, AllocError>
+    ensures { IfOk result (IsSubcommand suggester) }
+{
+    subcommand(
+        alloc,
+        "suggest",
+        "Prints rules that make the recordings of two files the same",
+        "Example: dapnorm suggest run1.rec run2.rec",
+    )
+    .arg(file(alloc, "A", "The recording of one run"))?
+    .arg(file(alloc, "B", "The recording of another run"))?
+    .arg(option(
+        alloc,
+        "rules",
+        "RULES",
+        "The file of the rules that there are; only further rules are printed",
+    ))?
+    .arg(explain_flag(alloc))
+}
+
 /// Returns the subcommand `rows`.
 fn rows_command<'a>(alloc: Global) -> Result<Command<'a>, AllocError>
     ensures { IfOk result (IsSubcommand row_printer) }
@@ -364,7 +386,8 @@ pub(crate) fn program<'a>(alloc: Global) -> Result<Command<'a>, AllocError>
     let normalise = with_subcommand(check, normalise_command(alloc))?;
     let compare = with_subcommand(normalise, compare_command(alloc))?;
     let diff = with_subcommand(compare, diff_command(alloc))?;
-    let show = with_subcommand(diff, show_command(alloc))?;
+    let suggest = with_subcommand(diff, suggest_command(alloc))?;
+    let show = with_subcommand(suggest, show_command(alloc))?;
     let mask = with_subcommand(show, mask_command(alloc))?;
     let order = with_subcommand(mask, order_command(alloc))?;
     let compact = with_subcommand(order, compact_command(alloc))?;

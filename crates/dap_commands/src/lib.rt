@@ -6,5 +6,5 @@ mod commands;
 mod definition;
 mod words;
 
-pub use commands::{Action, Command, Comparison, Golden, Order, Printed, Show};
+pub use commands::{Action, Command, Comparison, Golden, Order, Printed, Show, Suggest};
 pub use words::command;

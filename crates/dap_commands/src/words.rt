@@ -14,11 +14,12 @@ ghost use Rattle.dap_commands.specs.Commands.{IsFaultFor, command_named, command
 ghost use Rattle.dap_commands.specs.Commands.{compare_action, compare_of, comparison_of};
 ghost use Rattle.dap_commands.specs.Commands.{diff_action, diff_of, given, golden_of, has_flag};
 ghost use Rattle.dap_commands.specs.Commands.{order_of, program, reads_input, show_action};
-ghost use Rattle.dap_commands.specs.Commands.{show_of, told, told_action, told_comparison};
+ghost use Rattle.dap_commands.specs.Commands.{show_of, suggest_of, told, told_action};
+ghost use Rattle.dap_commands.specs.Commands.{told_comparison};
 ghost use Rattle.dap_commands.specs.Commands.{with_files, with_output, without_output};
 ghost use Rattle.dap_commands.specs.Commands.{writes_output};
 
-use crate::commands::{Action, Command, Comparison, Golden, Order, Printed, Show};
+use crate::commands::{Action, Command, Comparison, Golden, Order, Printed, Show, Suggest};
 use crate::definition;
 use clap::error::ErrorKind;
 use clap::{ArgMatches, Error};
@@ -235,6 +236,19 @@ fn diff_by<'a>(rows: &ArgMatches<'a>) -> Option<Command<'a>>
     Some(without_output(rows, diff_action(rows, a, b)))
 }
 
+/// Returns the command of `suggest`.
+fn suggest_by<'a>(rows: &ArgMatches<'a>) -> Option<Command<'a>>
+    ensures { option_map told result ≡ suggest_of (given rows.now) }
+{
+    let (a, b) = two_files(rows)?;
+    let action = Action::Suggest(Suggest {
+        a,
+        b,
+        rules: value_of(rows, "rules"),
+    });
+    Some(without_output(rows, action))
+}
+
 /// Returns the command of `order`.
 fn order_by<'a>(rows: &ArgMatches<'a>) -> Option<Command<'a>>
     ensures { option_map told result ≡ order_of (given rows.now) }
@@ -317,6 +331,9 @@ fn command_by<'a>(name: &str, rows: &ArgMatches<'a>) -> Option<Command<'a>>
     }
     if name == "order" {
         return order_by(rows);
+    }
+    if name == "suggest" {
+        return suggest_by(rows);
     }
     let job = job_by(name, rows)?;
     Some(with_files(job, rows))

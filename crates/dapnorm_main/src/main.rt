@@ -14,11 +14,13 @@ mod jobs;
 mod reports;
 mod rules;
 mod showing;
+mod suggesting;
 
 use crate::comparing::run_comparison;
 use crate::golden::keep_golden;
 use crate::jobs::{Task, run_job, run_over_input};
 use crate::showing::show_recording;
+use crate::suggesting::suggest_rules;
 use dapnorm::{Action, IndexNames, Limits, StdSink, Tables, UsageFault, command, run_usage};
 use std::alloc::Global;
 use std::env;
@@ -95,6 +97,7 @@ fn run_words(rt: &HostRuntime, alloc: Global, words: &[String]) -> u8 {
     match command.action {
         Action::Job(job) => run_job(rt, job, command.input, command.output, setting),
         Action::Compare(comparison) => run_comparison(rt, &comparison, setting),
+        Action::Suggest(files) => suggest_rules(rt, (files.a, files.b), files.rules, setting),
         Action::Order(order) => run_over_input(
             rt,
             Task::Order(order),

@@ -1,0 +1,3 @@
+pub mod NotSuggested
+pub mod SuggestRun
+pub mod Suggested

@@ -1,0 +1,59 @@
+-- Why no rules are suggested for two recordings. Source: own.
+use Rattle.std.specs.Prelude.{◌≡◌, ◌≢◌, ℕ, List, Ok, Err}
+use Rattle.dap_mask.specs.Mask.{Mask}
+use Rattle.dap_mask.specs.RulesFile.{rules_said}
+use Rattle.dap_mask.specs.declared.fault.RulesCause.TheVariants as cause
+use Rattle.dap_mask.specs.declared.fault.RulesFault.{RulesFault}
+use Rattle.dap_rename.specs.declared.mode.Mode.TheVariants.{Whole}
+use Rattle.dap_input.specs.declared.limits.Limits.{Limits}
+use Rattle.dap_compare.specs.declared.verdict.Which.{Which}
+use Rattle.dap_compare.specs.declared.verdict.Which.TheVariants.{A, B}
+use Rattle.dap_rules_input.specs.declared.fault.ApplyRefused.{ApplyRefused}
+use Rattle.dap_rules_input.specs.declared.fault.ApplyRefused.TheVariants.{Memory}
+use Rattle.dap_suggest.specs.Suggested.{IsRejected, MakesNormal}
+use Rattle.dap_suggest.specs.declared.suggestion.SuggestRefused.{SuggestRefused}
+use Rattle.dap_suggest.specs.declared.suggestion.SuggestRefused.TheVariants as because
+
+-- The rules that were given are accepted, and A, or B if A is not rejected, is rejected by them.
+abbrev pub IsInputRejected : Limits → List ℕ → List ℕ → List ℕ → Which → ApplyRefused → Type 0
+IsInputRejected limits given a b A refused =
+    (mask : Mask) × (rules_said given ≡ Ok mask) × IsRejected limits Whole mask a refused
+IsInputRejected limits given a b B refused =
+    (mask : Mask) × (rules_said given ≡ Ok mask)
+    × ((text : List ℕ) × MakesNormal limits Whole mask a text)
+    × IsRejected limits Whole mask b refused
+
+-- Why no rules are suggested. A search without a result proves nothing about the recordings.
+abbrev pub IsNotSuggested : Limits → List ℕ → List ℕ → List ℕ → SuggestRefused → Type 0
+IsNotSuggested limits given a b (because.Rules fault) = rules_said given ≡ Err fault
+IsNotSuggested limits given a b (because.Input which refused) =
+    IsInputRejected limits given a b which refused
+IsNotSuggested limits given a b (because.NoRules obstacle) = Unit {0}
+IsNotSuggested limits given a b because.Memory = Unit {0}
+
+-- ---- the steps
+
+-- the error for an input that is rejected
+abbrev pub input_refusal : Which → ApplyRefused → SuggestRefused
+input_refusal which Memory = because.Memory
+input_refusal which refused = because.Input which refused
+
+-- The error for a recording that the rules reject, or of which they make no accepted session.
+abbrev pub IsSessionRefusal : Limits → Mask → Which → List ℕ → SuggestRefused → Type 0
+IsSessionRefusal limits mask which recording result =
+    (refused : ApplyRefused) × IsRejected limits Whole mask recording refused
+    × (result ≡ input_refusal which refused)
+
+-- The error for rules that are rejected. A failed allocation says nothing about them.
+abbrev pub IsRulesRefusal : RulesFault → SuggestRefused → Type 0
+IsRulesRefusal fault (because.Rules told) = (told ≡ fault) × (fault.cause ≢ cause.Memory)
+IsRulesRefusal fault (because.Input which refused) = ⊥
+IsRulesRefusal fault (because.NoRules obstacle) = ⊥
+IsRulesRefusal fault because.Memory = Unit {0}
+
+-- The error of a search: it found no rules, or an allocation failed.
+abbrev pub IsSearchRefusal : SuggestRefused → Type 0
+IsSearchRefusal (because.Rules fault) = ⊥
+IsSearchRefusal (because.Input which refused) = ⊥
+IsSearchRefusal (because.NoRules obstacle) = Unit {0}
+IsSearchRefusal because.Memory = Unit {0}

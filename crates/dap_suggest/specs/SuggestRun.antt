@@ -1,0 +1,72 @@
+-- What the program prints of a suggestion. Source: own.
+use Rattle.std.specs.Prelude.{◌≡◌, ◌⊎◌, ℕ, List, [], ◌++◌, Result, Ok, Err}
+use Rattle.dap_device.specs.Written.{AllSent, FrontWritten}
+use Rattle.dap_device.specs.declared.device.Sink.{Ghosts as Sink}
+use Rattle.dap_input.specs.declared.limits.Limits.{Limits}
+use Rattle.dap_input.specs.declared.refused.Refused.TheVariants.{WriteFault}
+use Rattle.dap_rules_input.specs.declared.fault.ApplyRefused.{ApplyRefused}
+use Rattle.dap_rules_input.specs.declared.fault.ApplyRefused.TheVariants as step
+use Rattle.dap_runs.specs.ApplyRun.{unapplied_line, unapplied_status}
+use Rattle.dap_runs.specs.FaultLine.{fault_line, refused_text}
+use Rattle.dap_runs.specs.MaskRun.{rules_refused_line}
+use Rattle.dap_runs.specs.Reporting.{HasSent}
+use Rattle.dap_runs.specs.declared.mask_run.RulesRefused.TheVariants.{Line}
+use Rattle.dap_runs.specs.declared.mask_run.RulesRefused.TheVariants as rules
+use Rattle.dap_suggest.specs.NotSuggested.{IsNotSuggested}
+use Rattle.dap_suggest.specs.Suggested.{AreSameBy}
+use Rattle.dap_suggest.specs.declared.suggestion.SuggestRefused.{SuggestRefused}
+use Rattle.dap_suggest.specs.declared.suggestion.SuggestRefused.TheVariants as because
+use Rattle.dap_suggest.specs.declared.suggestion.Suggestion.{Suggestion}
+
+-- What `suggest` returns for two recordings and the rules that were given.
+abbrev pub Suggests : Limits → List ℕ → List ℕ → List ℕ → Result Suggestion SuggestRefused → Type 0
+Suggests limits given a b (Ok found) = AreSameBy limits found.mode (given ++ found.rules.items) a b
+Suggests limits given a b (Err refused) = IsNotSuggested limits given a b refused
+
+-- Without rules that were given, a session that is rejected is the recording itself.
+abbrev pub told_refusal : List ℕ → ApplyRefused → ApplyRefused
+told_refusal [] (step.Order refused) = step.Mask refused
+told_refusal given refused = refused
+
+-- The text is printed and flushed, with status 0; or a prefix of it is, the writer fails, and that
+-- is reported.
+abbrev pub IsPrinted : {W E : Type 0} → Sink W → Sink E → W → W → E → E → ℕ → List ℕ → Type 0
+IsPrinted sink errors before after silent spoken status text =
+    (AllSent sink before after text × (spoken ≡ silent) × (status ≡ 0))
+    ⊎ (FrontWritten sink before after text
+    × HasSent errors silent spoken (fault_line (refused_text WriteFault)) × (status ≡ 4))
+
+-- Some line says why no rules were found, with status 1; or an allocation failed, and that is
+-- reported.
+abbrev pub IsObstacleReported : {E : Type 0} → Sink E → E → E → ℕ → Type 0
+IsObstacleReported errors silent spoken status =
+    (((line : List ℕ) × HasSent errors silent spoken line) × (status ≡ 1))
+    ⊎ (HasSent errors silent spoken (rules_refused_line rules.Memory) × (status ≡ 5))
+
+-- The line and the status for an error.
+abbrev pub IsReported : {E : Type 0} → Sink E → List ℕ → E → E → ℕ → SuggestRefused → Type 0
+IsReported errors given silent spoken status (because.Rules fault) =
+    HasSent errors silent spoken (rules_refused_line (Line fault)) × (status ≡ 2)
+IsReported errors given silent spoken status (because.Input which refused) =
+    HasSent errors silent spoken (unapplied_line which (told_refusal given refused))
+    × (status ≡ unapplied_status (told_refusal given refused))
+IsReported errors given silent spoken status (because.NoRules obstacle) =
+    IsObstacleReported errors silent spoken status
+IsReported errors given silent spoken status because.Memory =
+    HasSent errors silent spoken (rules_refused_line rules.Memory) × (status ≡ 5)
+
+module _ {W E : Type 0} (sink : Sink W) (errors : Sink E) (given : List ℕ)
+    (before after : W) (silent spoken : E) (status : ℕ) where
+  -- Rules that were found are printed. An error is reported, and nothing is printed.
+  abbrev pub TellsSuggestion : Result Suggestion SuggestRefused → Type 0
+  TellsSuggestion (Ok found) =
+      IsPrinted sink errors before after silent spoken status found.rules.items
+  TellsSuggestion (Err refused) =
+      (after ≡ before) × IsReported errors given silent spoken status refused
+
+-- What `suggest` returns is printed or reported.
+pub record SuggestionIsTold {W E : Type 0} (sink : Sink W) (errors : Sink E) (limits : Limits)
+    (given a b : List ℕ) (before after : W) (silent spoken : E) (status : ℕ) : Type 0 where
+  pub answer : Result Suggestion SuggestRefused
+  pub suggests : Suggests limits given a b answer
+  pub tells : TellsSuggestion sink errors given before after silent spoken status answer

@@ -1,0 +1,50 @@
+-- Rules that make two recordings the same, and why there are none. Source: own, over masks, the
+-- order of messages and normal forms.
+use Rattle.std.specs.Prelude.{◌≡◌, ◌⊎◌, ℕ, List, Ok}
+use Rattle.dap_mask.specs.Mask.{Mask}
+use Rattle.dap_mask.specs.RulesFile.{rules_said}
+use Rattle.dap_rename.specs.declared.mode.Mode.{Mode}
+use Rattle.dap_input.specs.declared.limits.Limits.{Limits}
+use Rattle.dap_input.specs.declared.refused.Refused.{Refused}
+use Rattle.dap_input.specs.Refusals.{IsRefused}
+use Rattle.dap_normal.specs.Accepting.{accepting}
+use Rattle.dap_normal.specs.Normalising.{Normalises}
+use Rattle.dap_rules_input.specs.Applying.{AppliesRules, IsRefusedByRules}
+use Rattle.dap_rules_input.specs.declared.fault.ApplyRefused.{ApplyRefused}
+use Rattle.dap_rules_input.specs.declared.fault.ApplyRefused.TheVariants as step
+
+-- ---- rules that were found
+
+-- The rules make a session of the recording: it is masked, and put in order if there are rules for
+-- the order. This is the normal text of the session.
+pub record MakesNormal (limits : Limits) (mode : Mode) (mask : Mask)
+    (recording written : List ℕ) : Type 0 where
+  pub session : List ℕ
+  pub applies : AppliesRules limits mode mask recording session
+  pub normalises : Normalises limits mode session written
+
+-- The rules make one normal text of both recordings.
+pub record HaveOneNormal (limits : Limits) (mode : Mode) (mask : Mask) (a b : List ℕ) : Type 0 where
+  pub text : List ℕ
+  pub of_a : MakesNormal limits mode mask a text
+  pub of_b : MakesNormal limits mode mask b text
+
+-- The file of rules is accepted, and by its rules the two recordings are the same.
+pub record AreSameBy (limits : Limits) (mode : Mode) (rules a b : List ℕ) : Type 0 where
+  pub mask : Mask
+  pub said : rules_said rules ≡ Ok mask
+  pub one : HaveOneNormal limits mode mask a b
+
+-- ---- errors
+
+-- The rules make no accepted session of the recording: they cannot be applied, or the session is
+-- rejected.
+abbrev pub IsRejected : Limits → Mode → Mask → List ℕ → ApplyRefused → Type 0
+IsRejected limits mode mask recording (step.Mask refused) =
+    IsRefusedByRules limits mode mask recording (step.Mask refused)
+IsRejected limits mode mask recording (step.Order refused) =
+    IsRefusedByRules limits mode mask recording (step.Order refused)
+    ⊎ ((session : List ℕ) × AppliesRules limits mode mask recording session
+    × IsRefused (accepting limits mode) session refused)
+IsRejected limits mode mask recording step.ReadFault = ⊥
+IsRejected limits mode mask recording step.Memory = Unit {0}

@@ -1,0 +1,167 @@
+//! Confirms that rules make two recordings the same.
+ghost use Rattle.std.specs.Prelude.{◌≡◌, ◌++◌, IfOk, Ok, OnOk};
+ghost use Rattle.dap_input.specs.Limits.{AreSound};
+ghost use Rattle.dap_mask.specs.KeptRules.{mask_of};
+ghost use Rattle.dap_mask.specs.RulesFile.{rules_said};
+ghost use Rattle.dap_suggest.specs.Suggested.{AreSameBy, HaveOneNormal, MakesNormal};
+
+use crate::joined_rules::joined;
+use crate::obstacle::{Obstacle, Unsolved};
+use crate::sessions::{Session, session_of};
+use crate::suggestion::Suggestion;
+use dap_compare::Which;
+use dap_input::Limits;
+use dap_mask::{MaskRules, RulesCause};
+use dap_normal::Normalised;
+use dap_rename::Mode;
+use dap_rules_input::ApplyRefused;
+use std::alloc::Global;
+
+/// Returns the number of the record in which two different normal texts first differ.
+fn first_difference(text: &[u8], other: &[u8]) -> u64 {
+    let mut ends: u64 = 0;
+    for (index, byte) in text.iter().enumerate() {
+        match other.get(index) {
+            Some(found) => if *found != *byte {
+                break;
+            },
+            None => break,
+        }
+        if *byte == b'\n' {
+            ends = ends.saturating_add(1);
+        }
+    }
+    // A record has three LF: two in its header part, and one after its content.
+    (ends / 3).saturating_add(1)
+}
+
+/// Reads the rules of a text.
+pub fn read_rules(alloc: Global, text: &[u8]) -> Result<MaskRules, Unsolved>
+    ensures { IfOk result (λ rules. rules_said text.now ≡ Ok (mask_of rules)) }
+{
+    match MaskRules::read(alloc, text) {
+        Ok(rules) => Ok(rules),
+        Err(fault) => match fault.cause {
+            RulesCause::Memory => Err(Unsolved::Memory),
+            _ => Err(Unsolved::NoRules(Obstacle::Unread)),
+        },
+    }
+}
+
+/// Returns the normal text that the rules make of a recording.
+fn normal_by(
+    alloc: Global,
+    rules: &MaskRules,
+    which: Which,
+    recording: &[u8],
+    limits: Limits,
+    mode: Mode,
+) -> Result<Normalised, Unsolved>
+    requires { AreSound limits }
+    ensures { IfOk result
+        (λ text. MakesNormal limits mode (mask_of rules.now) recording.now text.bytes) }
+{
+    match session_of(alloc, rules, recording, limits, mode) {
+        Ok(session) => {
+            let Session { bytes, normal } = session;
+            drop(bytes);
+            Ok(normal)
+        }
+        Err(ApplyRefused::Memory) => Err(Unsolved::Memory),
+        Err(refused) => Err(Unsolved::NoRules(Obstacle::Unapplied(which, refused))),
+    }
+}
+
+/// Compares what the rules make of two recordings.
+///
+/// # Errors
+///
+/// They differ, a recording is rejected by the rules, or an allocation failed.
+fn compare_by(
+    alloc: Global,
+    rules: &MaskRules,
+    a: &[u8],
+    b: &[u8],
+    limits: Limits,
+    mode: Mode,
+) -> Result<(), Unsolved>
+    requires { AreSound limits }
+    ensures { OnOk result (HaveOneNormal limits mode (mask_of rules.now) a.now b.now) }
+{
+    let one = normal_by(alloc, rules, Which::A, a, limits, mode)?;
+    let other = normal_by(alloc, rules, Which::B, b, limits, mode)?;
+    if one.bytes() == other.bytes() {
+        return Ok(());
+    }
+    let record = first_difference(one.bytes(), other.bytes());
+    Err(Unsolved::NoRules(Obstacle::StillDiffers(record)))
+}
+
+/// Compares two recordings by the rules of a text.
+///
+/// # Errors
+///
+/// The text is not a rules file, and those of [`compare_by`].
+fn are_same_by(
+    alloc: Global,
+    text: &[u8],
+    a: &[u8],
+    b: &[u8],
+    limits: Limits,
+    mode: Mode,
+) -> Result<(), Unsolved>
+    requires { AreSound limits }
+    ensures { OnOk result (AreSameBy limits mode text.now a.now b.now) }
+{
+    let rules = read_rules(alloc, text)?;
+    compare_by(alloc, &rules, a, b, limits, mode)
+}
+
+/// Returns the last line of a suggestion.
+fn last_line(mode: Mode) -> &'static str {
+    match mode {
+        Mode::Whole => "# with these rules: same\n",
+        Mode::PerStop => "# with these rules and per-stop: same\n",
+    }
+}
+
+/// Suggests these rules, if two recordings are the same by them in this mode.
+fn suggested(
+    alloc: Global,
+    given: &[u8],
+    found: &[u8],
+    a: &[u8],
+    b: &[u8],
+    limits: Limits,
+    mode: Mode,
+) -> Result<Suggestion, Unsolved>
+    requires { AreSound limits }
+    ensures { IfOk result
+        (λ s. AreSameBy limits s.mode (given.now ++ s.rules.items) a.now b.now) }
+{
+    let rules = joined(alloc, found, last_line(mode).as_bytes())?;
+    let whole = joined(alloc, given, rules.as_slice())?;
+    are_same_by(alloc, whole.as_slice(), a, b, limits, mode)?;
+    Ok(Suggestion { rules, mode })
+}
+
+/// Suggests these rules, if two recordings are the same by them. Ids are numbered once in each
+/// recording, or from each stop if only that makes the recordings the same.
+pub fn confirm(
+    alloc: Global,
+    given: &[u8],
+    found: &[u8],
+    a: &[u8],
+    b: &[u8],
+    limits: Limits,
+) -> Result<Suggestion, Unsolved>
+    requires { AreSound limits }
+    ensures { IfOk result
+        (λ s. AreSameBy limits s.mode (given.now ++ s.rules.items) a.now b.now) }
+{
+    match suggested(alloc, given, found, a, b, limits, Mode::Whole) {
+        Ok(suggestion) => Ok(suggestion),
+        Err(Unsolved::Memory) => Err(Unsolved::Memory),
+        Err(Unsolved::NoRules(_)) => { suggested(alloc, given, found, a, b, limits, Mode::PerStop) }
+    }
+}

@@ -1,0 +1,27 @@
+//! Rules that make two recordings of one scenario the same.
+//!
+//! [`suggest`] finds them, and returns them only after it has applied them to both recordings and
+//! compared the results. `specs/` defines the terms.
+#![tactic(auto)]
+
+mod candidates;
+mod confirming;
+mod counting;
+mod fractions;
+mod joined_rules;
+mod matched;
+mod obstacle;
+mod obstacle_line;
+mod run;
+mod sessions;
+mod spots;
+mod suggesting;
+mod suggestion;
+mod swapping;
+mod walking;
+mod words;
+
+pub use obstacle::{Obstacle, Reason};
+pub use run::run_suggest;
+pub use suggesting::suggest;
+pub use suggestion::{SuggestRefused, Suggestion};

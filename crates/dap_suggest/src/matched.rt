@@ -1,0 +1,143 @@
+//! Two recordings whose records are matched.
+ghost use Rattle.dap_input.specs.Limits.{AreSound};
+
+use crate::counting::{count_events, is_dropped, push_drops};
+use crate::obstacle::{Obstacle, Reason, Unsolved, unsolved_entry};
+use dap_compare::{CompareRefused, Which};
+use dap_device::MemorySource;
+use dap_input::Limits;
+use dap_matching::{Entry, Recording, match_records, read_recording};
+use dap_normal::index_tables;
+use dap_rename::Mode;
+use dap_rules_input::ApplyRefused;
+use std::alloc::{AllocError, Global};
+
+/// Two recordings whose records are matched, without the events that are dropped.
+#[derive(Drop)]
+pub struct Matched {
+    pub a: Recording,
+    pub b: Recording,
+    /// The rules that drop these events.
+    pub drops: Vec<u8>,
+}
+
+/// A record of A and its counterpart in B, with its place in B.
+#[derive(Clone, Copy)]
+pub struct Pair<'m> {
+    pub a: &'m Entry,
+    pub b: &'m Entry,
+    pub place: usize,
+}
+
+/// Reads the recording of a session that is accepted.
+fn read_session(
+    alloc: Global,
+    which: Which,
+    session: &[u8],
+    limits: Limits,
+) -> Result<Recording, Unsolved>
+    requires { AreSound limits }
+{
+    let mut reader = MemorySource::new(session);
+    let mut recording = Recording::new(alloc);
+    let tables = index_tables(alloc, limits);
+    match read_recording(
+        alloc,
+        which,
+        &mut reader,
+        limits,
+        tables,
+        Mode::Whole,
+        &mut recording,
+    ) {
+        Ok(()) => Ok(recording),
+        Err(CompareRefused::Input(which, refused)) => Err(Unsolved::NoRules(Obstacle::Unapplied(
+            which,
+            ApplyRefused::Order(refused),
+        ))),
+        Err(CompareRefused::Memory) => Err(Unsolved::Memory),
+    }
+}
+
+/// Removes the events that the recordings have in different numbers, and matches the others.
+fn match_both(alloc: Global, matched: &mut Matched) -> Result<(), AllocError> {
+    let counts = count_events(
+        alloc,
+        matched.a.entries.as_slice(),
+        matched.b.entries.as_slice(),
+    )?;
+    push_drops(alloc, &counts, &mut matched.drops)?;
+    matched
+        .a
+        .entries
+        .retain(|entry| !is_dropped(entry, &counts));
+    matched
+        .b
+        .entries
+        .retain(|entry| !is_dropped(entry, &counts));
+    match_records(
+        alloc,
+        matched.a.entries.as_mut_slice(),
+        matched.b.entries.as_mut_slice(),
+    )
+}
+
+/// Reads and matches the recordings of two sessions that are accepted.
+pub fn read_matched(alloc: Global, a: &[u8], b: &[u8], limits: Limits) -> Result<Matched, Unsolved>
+    requires { AreSound limits }
+{
+    let a = read_session(alloc, Which::A, a, limits)?;
+    let b = read_session(alloc, Which::B, b, limits)?;
+    let mut matched = Matched {
+        a,
+        b,
+        drops: Vec::new(alloc),
+    };
+    match match_both(alloc, &mut matched) {
+        Ok(()) => Ok(matched),
+        Err(_) => Err(Unsolved::Memory),
+    }
+}
+
+/// Returns the first record without a counterpart.
+fn first_alone(entries: &[Entry]) -> Option<&Entry> {
+    entries.iter().find(|entry| entry.counterpart.is_none())
+}
+
+/// Fails if a record lacks a counterpart.
+fn all_have_counterparts(alloc: Global, matched: &Matched) -> Result<(), Unsolved> {
+    if let Some(entry) = first_alone(matched.a.entries.as_slice()) {
+        return Err(unsolved_entry(alloc, Reason::NoCounterpart, Which::A, entry));
+    }
+    if let Some(entry) = first_alone(matched.b.entries.as_slice()) {
+        return Err(unsolved_entry(alloc, Reason::NoCounterpart, Which::B, entry));
+    }
+    Ok(())
+}
+
+/// Returns the counterpart of a record, with its place.
+fn pair_of<'m>(entry: &'m Entry, others: &'m [Entry]) -> Option<Pair<'m>> {
+    let place = entry.counterpart?;
+    let other = others.get(place)?;
+    Some(Pair {
+        a: entry,
+        b: other,
+        place,
+    })
+}
+
+/// Returns the pairs in the order of A.
+///
+/// # Errors
+///
+/// A record lacks a counterpart, or an allocation failed.
+pub fn pairs_of<'m>(alloc: Global, matched: &'m Matched) -> Result<Vec<Pair<'m>>, Unsolved> {
+    all_have_counterparts(alloc, matched)?;
+    let mut pairs = Vec::new(alloc);
+    for entry in matched.a.entries.iter() {
+        if let Some(pair) = pair_of(entry, matched.b.entries.as_slice()) {
+            pairs.push(pair)?;
+        }
+    }
+    Ok(pairs)
+}

@@ -1,0 +1,104 @@
+//! Suggests rules, and prints them: lines and a status.
+ghost use Rattle.std.specs.Prelude.{◌≡◌, ◌<◌, ◌^◌};
+ghost use Rattle.dap_input.specs.Limits.{AreSound};
+ghost use Rattle.dap_suggest.specs.SuggestRun.{IsPrinted, IsReported, SuggestionIsTold};
+ghost use Rattle.dap_suggest.specs.SuggestRun.{IsObstacleReported, told_refusal};
+
+use crate::obstacle::Obstacle;
+use crate::obstacle_line::obstacle_line;
+use crate::suggesting::suggest;
+use crate::suggestion::SuggestRefused;
+use dap_device::{Sink, write_and_flush};
+use dap_input::{Limits, Refused};
+use dap_rules_input::ApplyRefused;
+use dap_runs::{
+    DIFFERENT, DONE, FAULT, RulesRefused, report_parts, report_rules, report_unapplied, tell,
+};
+use std::alloc::Global;
+
+/// Returns how a rejected input is reported.
+fn told_refusal(given: &[u8], refused: ApplyRefused) -> ApplyRefused
+    ensures { result ≡ told_refusal given.now refused }
+{
+    match given {
+        [] => match refused {
+            ApplyRefused::Order(refused) => ApplyRefused::Mask(refused),
+            refused => refused,
+        },
+        _ => refused,
+    }
+}
+
+/// Prints rules that were found.
+fn print<W: Sink, E: Sink>(writer: &mut W, errors: &mut E, rules: &[u8]) -> u8
+    requires write_failures { W.failures writer.old < 2 ^ 62 }
+    requires error_failures { E.failures errors.old < 2 ^ 62 }
+    ensures { IsPrinted W.Sink E.Sink writer.old writer.new errors.old errors.new result
+        rules.now }
+{
+    match write_and_flush(writer, rules) {
+        Ok(()) => DONE,
+        Err(_) => {
+            tell(errors, Refused::WriteFault);
+            FAULT
+        }
+    }
+}
+
+/// Reports in one line why no rules were found.
+fn report_obstacle<E: Sink>(alloc: Global, errors: &mut E, obstacle: &Obstacle) -> u8
+    requires { E.failures errors.old < 2 ^ 62 }
+    ensures { IsObstacleReported E.Sink errors.old errors.new result }
+{
+    match obstacle_line(alloc, obstacle) {
+        Ok(line) => {
+            report_parts(errors, &[line.as_slice()]);
+            DIFFERENT
+        }
+        Err(_) => report_rules(errors, RulesRefused::Memory),
+    }
+}
+
+/// Reports why no rules are suggested.
+fn report<E: Sink>(alloc: Global, errors: &mut E, given: &[u8], refused: &SuggestRefused) -> u8
+    requires { E.failures errors.old < 2 ^ 62 }
+    ensures { IsReported E.Sink given.now errors.old errors.new result refused.now }
+{
+    match refused {
+        SuggestRefused::Rules(fault) => report_rules(errors, RulesRefused::Line(*fault)),
+        SuggestRefused::Input(which, refused) => {
+            report_unapplied(errors, *which, told_refusal(given, *refused))
+        }
+        SuggestRefused::NoRules(obstacle) => report_obstacle(alloc, errors, obstacle),
+        SuggestRefused::Memory => report_rules(errors, RulesRefused::Memory),
+    }
+}
+
+/// Suggests rules that make two recordings the same, in addition to the rules that were given,
+/// prints them, and returns the status of the program. An error is reported on `errors`, in one
+/// line.
+///
+/// The status is 0 if the rules are printed, 1 if no rules were found, 2 if the rules that were
+/// given or a recording is rejected, 4 if a device failed, and 5 if an allocation failed.
+pub fn run_suggest<W: Sink, E: Sink>(
+    alloc: Global,
+    given: &[u8],
+    a: &[u8],
+    b: &[u8],
+    writer: &mut W,
+    errors: &mut E,
+    limits: Limits,
+) -> u8
+    requires limits { AreSound limits }
+    requires write_failures { W.failures writer.old < 2 ^ 62 }
+    requires error_failures { E.failures errors.old < 2 ^ 62 }
+
+    // What `suggest` returns is printed or reported, and the status is the one for that.
+    ensures told { SuggestionIsTold W.Sink E.Sink limits given.now a.now b.now writer.old writer.new
+        errors.old errors.new result }
+{
+    match suggest(alloc, given, a, b, limits) {
+        Ok(found) => print(writer, errors, found.rules.as_slice()),
+        Err(refused) => report(alloc, errors, given, &refused),
+    }
+}

@@ -1,0 +1,218 @@
+"""Takes pairs of recordings through `suggest`: what it prints makes each pair the same, or its message names the record that prevents them. The pairs are runs of real adapters, and sessions of a toy adapter that are made here."""
+import glob
+import itertools
+import json
+import os
+import re
+import sys
+
+from golden import Folder
+from report import TOP, Report
+from worked_runs import BEGUN, INITIALIZE, record, recording, refusal
+
+FOLDERS = [os.path.join(TOP, "examples", name) for name in ("captures", "pairs")]
+LAST = {b"# with these rules: same": [], b"# with these rules and per-stop: same": ["--per-stop"]}
+NO_RULES = re.compile(
+    r'no rules can: (record \d+ of [AB], (request|response|event) ".*", (has no counterpart in|differs where no rule may change it from|'
+    r"comes in an order that no rule allows in) [AB]|[AB]: after the rules: record \d+: .*|after the rules, record \d+ still differs)\n"
+)
+
+
+def makes_same(folder, printed, a, b, given=b""):
+    """Whether the printed rules, after those that were given, make the two recordings of a folder the same."""
+    options = LAST.get(printed.splitlines()[-1]) if printed else None
+    if options is None:
+        return False
+    folder.write("suggested", given + printed)
+    status, output, errors = folder.run("compare", *options, "--rules", "suggested", a, b)
+    return (status, output.splitlines()[:1], errors) == (0, [b"same"], b"")
+
+
+def pairs_in(*folders):
+    """Each pair of runs of one session."""
+    runs = {}
+    for path in sorted((path for folder in folders for path in glob.glob(os.path.join(folder, "*.rec"))), key=os.path.basename):
+        runs.setdefault(os.path.basename(path).rsplit(".", 2)[0], []).append(path)
+    for name, paths in sorted(runs.items()):
+        for a, b in itertools.combinations(paths, 2):
+            yield f"{name} {a.rsplit('.', 2)[1]} and {b.rsplit('.', 2)[1]}", a, b
+
+
+def read(path):
+    with open(path, "rb") as file:
+        return file.read()
+
+
+def real_pairs(report, folders):
+    """The printed file makes each pair the same, or a record is named. Returns how many became the same."""
+    same, tried = 0, 0
+    for name, a, b in pairs_in(*folders):
+        tried += 1
+        with Folder(a=read(a), b=read(b)) as files:
+            status, printed, errors = files.run("suggest", "a", "b")
+            if status == 0:
+                same += report.check(f"what is suggested for {name} makes it the same", makes_same(files, printed, "a", "b"), printed.decode()[-400:])
+                again = files.run("suggest", "--rules", "suggested", "a", "b")
+                known = printed.splitlines()[-1] in LAST and again == (0, printed.splitlines()[-1] + b"\n", b"")
+                report.check(f"nothing is added to what was suggested for {name}", known, repr(again))
+            else:
+                named = status == 1 and printed == b"" and NO_RULES.fullmatch(errors.decode())
+                report.check(f"{name} has rules, or a record is named", named, repr((status, printed, errors)))
+    return same, tried
+
+
+# ---- a toy adapter, whose values change from run to run
+
+
+def message(side, kind, name, seq, body=None, **members):
+    """The line of a message."""
+    content = {"type": kind, ("event" if kind == "event" else "command"): name, "seq": seq, **members}
+    if body is not None:
+        content["arguments" if kind == "request" else "body"] = body
+    return side + json.dumps(content, sort_keys=True, separators=(",", ":"))
+
+
+def toy(token, folder, address, time, process, outputs=1, stopped_first=False):
+    """A session of an adapter that prints a token, a path, an address, a time and a process id."""
+    lines = list(BEGUN)
+    seqs = {">": 1, "<": 1}
+
+    def add(side, kind, name, body=None, **members):
+        seqs[side] += 1
+        lines.append(message(side, kind, name, seqs[side], body, **members))
+        return seqs[side]
+
+    def ask(name, arguments, body, between=()):
+        seq = add(">", "request", name, arguments)
+        answer = ("<", "response", name, body), {"request_seq": seq, "success": True}
+        steps = [*between, answer] if stopped_first else [answer, *between]
+        for words, members in steps:
+            add(*words, **members)
+
+    add("<", "event", "process", {"name": f"{folder}/toy.py", "systemProcessId": process, "startMethod": "launch"})
+    for _ in range(outputs):
+        add("<", "event", "output", {"output": f"[{time}] session {token} at {address}\n"})
+    ask("next", {"threadId": 1}, None, [(("<", "event", "stopped", {"reason": "step", "threadId": 1}), {})])
+    ask("stackTrace", {"threadId": 1}, {"stackFrames": [{"id": 1000, "name": "main", "line": 3, "column": 1, "source": {"path": f"{folder}/toy.py"}}]})
+    ask("scopes", {"frameId": 1000}, {"scopes": [{"name": "Locals", "variablesReference": 1001, "expensive": False}]})
+    variables = [
+        {"name": "token", "value": token, "variablesReference": 0}, {"name": "self", "value": f"table: {address}", "variablesReference": 0},
+        {"name": "x", "value": "3", "variablesReference": 0},
+    ]
+    ask("variables", {"variablesReference": 1001}, {"variables": variables})
+    ask("evaluate", {"expression": "time()", "frameId": 1000}, {"result": time, "variablesReference": 0})
+    ask("disconnect", {}, None)
+    return recording(lines)
+
+
+FIRST = ("0f8fad5b-d9cb-469f-a165-70867728950e", "/tmp/run-1", "0x55d0c0ffee10", "12:30:01.125", 4711)
+SECOND = ("7c9e6679-7425-40de-944b-e07fc1f90ae7", "/home/me/work", "0x7f00beef0020", "12:31:59.004", 815)
+
+
+def toys(report):
+    """The toy adapter is stable after one `suggest`."""
+    tried = {
+        "other values": (toy(*FIRST), toy(*SECOND)),
+        "other values and another order": (toy(*FIRST), toy(*SECOND, stopped_first=True)),
+        "another number of outputs": (toy(*FIRST), toy(*SECOND, outputs=3)),
+        "no difference": (toy(*FIRST), toy(*FIRST)),
+    }
+    for name, (a, b) in tried.items():
+        with Folder(a=a, b=b) as folder:
+            status, printed, errors = folder.run("suggest", "a", "b")
+            report.check(f"{name}: rules are found", (status, errors) == (0, b""), repr((status, errors)))
+            report.check(f"{name}: they make it the same", makes_same(folder, printed, "a", "b"), printed.decode())
+
+
+def worked(report):
+    """The least of the actions that is enough at a place is suggested, and its comment shows the first two values."""
+    def started(pid, text, number=7):
+        return recording([*BEGUN, message("<", "event", "process", 2, {"name": text, "systemProcessId": pid, "x": [{"y": number}]})])
+
+    def asked(a, b, *options, **files):
+        with Folder(a=a, b=b, **files) as folder:
+            return folder.run("suggest", *options, "a", "b")
+
+    head = "# A record 3: %s\n# B record 3: %s\n%s event    process body.%s\n\n"
+    same = "# with these rules: same\n"
+    for name, a, b, verbs in (
+        ("an address", "at 0x1f", "at 0x2e", ["hex"]), ("a number", "run 17", "run 4", ["digits"]), ("a word", "red", "blue", ["blank"]),
+        ("a shortened address", "at 7f3a1c", "at 9b00d4e", ["long"]), ("a UUID", f"at {FIRST[0]}", f"at {SECOND[0]}", ["uuid"]),
+        ("a digit and an address", "1 0xa", "2 0xb", ["digits", "hex"]), ("a UUID and an address", f"{FIRST[0]} 0xa", f"{SECOND[0]} 0xb", ["uuid", "hex"]),
+        ("a shortened address and a digit", "7f3a1c 1", "9b00d4e 2", ["long", "digits"]),
+    ):
+        rules = "".join(f"{it:6} event    process body.name\n" for it in verbs)
+        wanted = f"# A record 3: {json.dumps(a)}\n# B record 3: {json.dumps(b)}\n{rules}\n"
+        answer = asked(started(1, a), started(1, b))
+        report.check(f"{name} is masked by the least action", answer == (0, (wanted + same).encode(), b""), repr(answer))
+    answer = asked(started(1, "a"), started(2, "a"))
+    report.check("a process id is blanked", answer == (0, (head % (1, 2, "blank ", "systemProcessId") + same).encode(), b""), repr(answer))
+    answer = asked(started(1, "a", 1), started(1, "a", 2))
+    report.check("an element of a list", answer == (0, (head % (1, 2, "blank ", "x[].y") + same).encode(), b""), repr(answer))
+    answer = asked(started(1, "a", 1), started(1, "a", "b"))
+    wanted = (head % ('[{"y":1}]', '[{"y":"b"}]', "blank ", "x") + same).encode()
+    report.check("values of two sorts: the list around their object", answer == (0, wanted, b""), repr(answer))
+    answer = asked(started(1, "a", 0.5), started(1, "a", 1.25))
+    wanted = ("# A record 3: 0.5\nblank  event    process body.x[].y\n\n" + same).encode()
+    report.check("a number that is not an integer is blanked", answer == (0, wanted, b""), repr(answer))
+    answer = asked(started(1, "red"), started(1, "blue"), "--rules", "given", given=b"blank event process body.name")
+    report.check("what was given is not suggested again", answer == (0, b"\n" + same.encode(), b""), repr(answer))
+    answer = asked(started(1, "1 0xa"), started(1, "2 0xb"), "--rules", "given", given=b"hex event process body.name\n")
+    wanted = (head % ('"1 0x0"', '"2 0x0"', "blank ", "name") + same).encode()
+    report.check("what the given rules contradict is not suggested", answer == (0, wanted, b""), repr(answer))
+    answer = asked(started(1, "a"), started(1, "a"))
+    report.check("two equal recordings need no rule", answer == (0, same.encode(), b""), repr(answer))
+    answer = asked(b"", b"")
+    report.check("two empty recordings need no rule", answer == (0, same.encode(), b""), repr(answer))
+
+
+def refused(report):
+    """No rules, with the record that prevents them, and inputs that are rejected."""
+    base = toy(*FIRST)
+    disconnect = message(">", "request", "threads", 9)
+    stopped = message("<", "event", "stopped", 2, {"reason": "pause", "threadId": 1})
+    failed = message("<", "response", "next", 2, request_seq=2, success=False)
+    passed = message("<", "response", "next", 2, request_seq=2, success=True)
+    ask = message(">", "request", "next", 2, {"threadId": 1})
+    session = recording([*BEGUN, ask, passed])
+    tried = {
+        "a request of B alone": (recording(BEGUN), recording([*BEGUN, disconnect]), 'record 3 of B, request "threads", has no counterpart in A'),
+        "a request of A alone": (recording([*BEGUN, disconnect]), recording(BEGUN), 'record 3 of A, request "threads", has no counterpart in B'),
+        "an event that is never dropped": (
+            recording(BEGUN), recording([*BEGUN, stopped]), 'record 3 of B, event "stopped", has no counterpart in A'),
+        "a failure": (session, recording([*BEGUN, ask, failed]), 'record 4 of A, response "next", differs where no rule may change it from B'),
+        "requests in another order": (
+            recording([*BEGUN, message(">", "request", "threads", 2), message(">", "request", "loadedSources", 3)]),
+            recording([*BEGUN, message(">", "request", "loadedSources", 2), message(">", "request", "threads", 3)]),
+            'record 4 of A, request "loadedSources", comes in an order that no rule allows in B'),
+    }
+    for name, (a, b, line) in tried.items():
+        with Folder(a=a, b=b) as folder:
+            answer = folder.run("suggest", "a", "b")
+            report.check(f"{name}: no rules, and why", answer == (1, b"", f"no rules can: {line}\n".encode()), repr(answer))
+    with Folder(a=base, bad=base + b"x", rules=b"blank event\n") as folder:
+        for words, line in ((["bad", "a"], "A: record 18: BadMarker"), (["a", "bad"], "B: record 18: BadMarker"), (["--rules", "rules", "a", "a"], "rules: line 1: BadRule")):
+            status, printed, errors = folder.run("suggest", *words)
+            wanted = re.sub(rb"record 18", b"record %d" % (base.count(b"Content-Length") + 1), refusal(line))
+            report.check(f"{words} is refused", (status, printed, errors) == (2, b"", wanted), repr((status, printed, errors)))
+        for words, line in ((["missing", "a"], "A: read fault"), (["a", "missing"], "B: read fault"), (["--rules", "missing", "a", "a"], "rules: read fault")):
+            answer = folder.run("suggest", *words)
+            report.check(f"{words} cannot be read", answer == (4, b"", refusal(line)), repr(answer))
+        answer = folder.run("suggest", "-", "-")
+        report.check("both cannot be standard input", answer[0] == 3, repr(answer))
+        answer = folder.run("suggest", "-", "a", given=base)
+        report.check("one can", answer == (0, b"# with these rules: same\n", b""), repr(answer))
+
+
+def main():
+    report = Report()
+    toys(report)
+    worked(report)
+    refused(report)
+    same, tried = real_pairs(report, FOLDERS)
+    report.check("most pairs of real adapters become the same", tried >= 10 and same * 3 >= tried * 2, f"{same} of {tried}")
+    return report.close()
+
+
+if __name__ == "__main__":
+    sys.exit(main())
