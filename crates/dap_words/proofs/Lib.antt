@@ -1,0 +1,5 @@
+pub mod Texts
+pub mod WordedDocs
+pub mod WordedPaths
+pub mod Alike
+pub mod Steps

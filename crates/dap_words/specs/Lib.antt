@@ -1,0 +1,3 @@
+pub mod Worded
+pub mod Kept
+pub mod Laws
