@@ -26,8 +26,8 @@ pub fn explain_applying(
 }
 
 /// Masks the recording again and explains why the masked recording is rejected. Returns an empty
-/// string for `Grew` if some of the rules are for the order: its record may be numbered in the text
-/// in order, not in the masked recording.
+/// string for `Grew` and `TooManyIds` if some of the rules are for the order: their record may be
+/// numbered in the text in order, not in the masked recording.
 pub(crate) fn explain_session(
     alloc: Global,
     recording: &[u8],
@@ -37,7 +37,7 @@ pub(crate) fn explain_session(
 ) -> Result<String, AllocError>
     requires { AreSound limits }
 {
-    if let Refused::Grew(_) = why
+    if let Refused::Grew(_) | Refused::TooManyIds(_) = why
         && !rules.swaps().is_empty()
     {
         return Ok(String::new(alloc));

@@ -1,9 +1,12 @@
 //! Prints explanations on standard error, after the line of a refusal.
+use crate::reports::report_reason;
 use dap_explain::{explain, explain_rules};
 use dap_explanations::{explain_mask, explain_order};
 use dap_file::find_file;
 use dap_runs::send;
-use dapnorm::{LIMITS, Refused, Replaceable, RulesFault, StdSink};
+use dapnorm::{
+    LIMITS, NoRules, Refused, Replaceable, RulesFault, RulesOpenFault, RulesRefused, StdSink,
+};
 use std::alloc::AllocError;
 use std::fs;
 use std::hash::RandomState;
@@ -51,5 +54,14 @@ pub fn explain_order_of(rt: &HostRuntime, name: &str, input: &[u8]) {
             rt,
             explain_order(rt.alloc(), rules.as_slice(), input, LIMITS),
         );
+    }
+}
+
+/// Explains why rules were not read.
+pub fn explain_no_rules(rt: &HostRuntime, rules: &str, why: &NoRules) {
+    match why {
+        NoRules::Unopened(RulesOpenFault::Unread(error)) => report_reason(rt, rules, error),
+        NoRules::Refused(RulesRefused::Line(fault)) => explain_rules_of(rt, rules, *fault),
+        _ => {}
     }
 }

@@ -1,7 +1,8 @@
 //! The files and the standard input of the operating system.
 use crate::reports::is_out_of_memory;
-use dap_file::{KeptInput, open_input};
-use dapnorm::{DeviceFault, Files, OpenFault, Source, StdSource};
+use dap_file::{KeptInput, open_input, shows_closed_input};
+use dapnorm::{DeviceFault, Files, OpenFault, RulesFiles, RulesOpenFault, Source, StdSource};
+use std::fs::{self, File};
 
 /// An input that was opened. It counts what it gave and how often it failed.
 #[derive(Drop)]
@@ -72,5 +73,33 @@ impl Files<OpenedInput> for SystemFiles<'_> {
             Err(error) if is_out_of_memory(&error) => Err(OpenFault::Memory),
             Err(error) => Err(OpenFault::Unread(error)),
         }
+    }
+}
+
+/// The files of rules of the operating system.
+#[derive(Clone, Copy)]
+pub struct SystemRules<'a> {
+    pub rt: &'a HostRuntime,
+}
+
+impl RulesFiles<StdSource<File>> for SystemRules<'_> {
+    ghost opened = { λ files name file. Unit {0} };
+
+    ghost unopened = { λ files name is_input_standard fault. Unit {0} };
+
+    fn open_rules(
+        &self,
+        name: &str,
+        is_input_standard: bool,
+    ) -> Result<StdSource<File>, RulesOpenFault> {
+        let file = match fs::open(self.rt, name) {
+            Ok(file) => file,
+            Err(error) if is_out_of_memory(&error) => return Err(RulesOpenFault::Memory),
+            Err(error) => return Err(RulesOpenFault::Unread(error)),
+        };
+        if is_input_standard && shows_closed_input(&file) {
+            return Err(RulesOpenFault::ClosedInput);
+        }
+        Ok(StdSource::new(file))
     }
 }
