@@ -7,7 +7,7 @@ use Rattle.dap_texts.specs.Words.{Pair, have_own_texts, replaced}
 use Rattle.dap_texts.specs.Machines.{words_of, written_by}
 use Rattle.dap_texts.proofs.ReplacedTexts.{replaced_is}
 use Rattle.dap_texts.proofs.WordLists.{two_word_lists}
-use Rattle.dap_words.specs.Worded.{worded, items_worded, members_worded, is_telling, AreAlike}
+use Rattle.dap_words.specs.Worded.{worded, items_worded, members_worded, names_its_kind, AreAlike}
 use Rattle.dap_words.specs.Worded.{AreItemsAlike, AreMembersAlike, SameButTexts}
 
 module _ (pairs others : List Pair) (own : have_own_texts pairs ≡ true)
@@ -72,7 +72,7 @@ module _ (pairs others : List Pair) (own : have_own_texts pairs ≡ true)
     members_alike m no_members (member l e ns) h = absurd h
     members_alike m (member k d ms) no_members h = absurd h
     members_alike m (member k d ms) (member l e ns) h =
-        rw h.0 (ap₂ (member l) (member_alike (m && is_telling l) d e
+        rw h.0 (ap₂ (member l) (member_alike (m && names_its_kind l) d e
         (λ g. worded_alike false d e g)
-        (subst (λ n. cond (m && is_telling n) (d ≡ e) (AreAlike pairs others false d e)) h.0 h.1))
+        (subst (λ n. cond (m && names_its_kind n) (d ≡ e) (AreAlike pairs others false d e)) h.0 h.1))
         (members_alike m ms ns h.2))

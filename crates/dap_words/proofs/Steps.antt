@@ -14,7 +14,7 @@ use Rattle.dap_tree.specs.View.{view, items_view, members_view}
 use Rattle.dap_tree.specs.declared.tree.Tree.{Tree}
 use Rattle.dap_tree.proofs.Views.{Entry, members_view-insert_entry, put_last}
 use Rattle.dap_texts.specs.Words.{Pair}
-use Rattle.dap_words.specs.Worded.{worded, items_worded, members_worded, is_telling}
+use Rattle.dap_words.specs.Worded.{worded, items_worded, members_worded, names_its_kind}
 
 abbrev snoc : Items → Doc → Items
 snoc no_items d = item d no_items
@@ -40,7 +40,7 @@ module _ (pairs : List Pair) where
 
   -- a member of this name
   abbrev pub part : Bool → List ℕ → Doc → Doc
-  part m k d = cond (m && is_telling k) d (worded pairs false d)
+  part m k d = cond (m && names_its_kind k) d (worded pairs false d)
 
   put_at : (o : Ordering) (m : Bool) (k l : List ℕ) (d e : Doc) (ms more : Members)
       → slice_cmp nat_cmp k l ≡ o

@@ -15,7 +15,7 @@ use Rattle.dap_texts.specs.Words.{Pair, replaced, AreUtf8}
 use Rattle.dap_texts.specs.Apart.{are_apart}
 use Rattle.dap_texts.proofs.ReplacedTexts.{replaced_is}
 use Rattle.dap_texts.proofs.WordsUtf8.{replaced_utf8}
-use Rattle.dap_words.specs.Worded.{worded, items_worded, members_worded, is_telling}
+use Rattle.dap_words.specs.Worded.{worded, items_worded, members_worded, names_its_kind}
 use Rattle.dap_words.proofs.Texts.{replaced_none, text_twice}
 
 -- a member that is kept or worded: what holds for both
@@ -43,7 +43,7 @@ mutual
   members_none : (m : Bool) (ms : Members) → members_worded [] m ms ≡ ms
   members_none m no_members = refl
   members_none m (member k d ms) =
-      ap₂ (member k) (either (λ e. e) (m && is_telling k) d (worded [] false d)
+      ap₂ (member k) (either (λ e. e) (m && names_its_kind k) d (worded [] false d)
       (worded_none false d)) (members_none m ms)
 
 module _ (pairs : List Pair) where
@@ -67,7 +67,7 @@ module _ (pairs : List Pair) where
         → members_depth (members_worded pairs m ms) ≡ members_depth ms
     members_depth_worded m no_members = refl
     members_depth_worded m (member k d ms) =
-        ap₂ max (either depth (m && is_telling k) d (worded pairs false d) (depth_worded false d))
+        ap₂ max (either depth (m && names_its_kind k) d (worded pairs false d) (depth_worded false d))
         (members_depth_worded m ms)
 
   mutual
@@ -90,7 +90,7 @@ module _ (pairs : List Pair) where
     members_range_worded m no_members = refl
     members_range_worded m (member k d ms) =
         ap₂ (λ a b. a && b)
-        (either all_in_range (m && is_telling k) d (worded pairs false d) (range_worded false d))
+        (either all_in_range (m && names_its_kind k) d (worded pairs false d) (range_worded false d))
         (members_range_worded m ms)
 
   pub sound_worded : (m : Bool) (d : Doc) → is_sound (worded pairs m d) ≡ is_sound d
@@ -118,7 +118,7 @@ module _ (pairs : List Pair) where
     members_id_worded m no_members = refl
     members_id_worded m (member k d ms) =
         ap₂ (λ a b. a || b)
-        (either has_id (m && is_telling k) d (worded pairs false d) (id_worded false d))
+        (either has_id (m && names_its_kind k) d (worded pairs false d) (id_worded false d))
         (members_id_worded m ms)
 
   -- ---- the order of members
@@ -149,7 +149,7 @@ module _ (pairs : List Pair) where
     members_ordered_worded m no_members = refl
     members_ordered_worded m (member k d ms) =
         ap₂ (λ a b. a && b) (below_worded k m ms) (ap₂ (λ a b. a && b)
-        (either is_ordered (m && is_telling k) d (worded pairs false d) (ordered_worded false d))
+        (either is_ordered (m && names_its_kind k) d (worded pairs false d) (ordered_worded false d))
         (members_ordered_worded m ms))
 
   -- ---- UTF-8
@@ -190,7 +190,7 @@ module _ (pairs : List Pair) where
           let rest = and_right (is_utf8 k) (all_utf8 d && members_utf8 ms) h in
           let one = and_left (all_utf8 d) (members_utf8 ms) rest in
           and_both _ _ (and_left (is_utf8 k) (all_utf8 d && members_utf8 ms) h)
-          (and_both _ _ (kept_or (m && is_telling k) d (worded pairs false d) one
+          (and_both _ _ (kept_or (m && names_its_kind k) d (worded pairs false d) one
           (utf8_worded false d one))
           (members_utf8_worded m ms (and_right (all_utf8 d) (members_utf8 ms) rest)))
 
@@ -224,5 +224,5 @@ module _ (pairs : List Pair) where
           → members_worded pairs m (members_worded pairs m ms) ≡ members_worded pairs m ms
       members_twice m no_members = refl
       members_twice m (member k d ms) =
-          ap₂ (member k) (twice_or (m && is_telling k) d (worded_twice false d))
+          ap₂ (member k) (twice_or (m && names_its_kind k) d (worded_twice false d))
           (members_twice m ms)

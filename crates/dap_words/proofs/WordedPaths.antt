@@ -11,7 +11,7 @@ use Rattle.dap_tree.specs.Doc.{item, Members, no_members, member, get, get_membe
 use Rattle.dap_tree.specs.Path.{Step, name, place, step, at, get_item}
 use Rattle.dap_message.specs.Marks.{top, items_top, members_top}
 use Rattle.dap_texts.specs.Words.{Pair}
-use Rattle.dap_words.specs.Worded.{worded, items_worded, members_worded, is_telling, is_told, leaf}
+use Rattle.dap_words.specs.Worded.{worded, items_worded, members_worded, names_its_kind, is_in_kind, leaf}
 use Rattle.dap_words.specs.Worded.{IsWorded}
 
 module _ (pairs : List Pair) where
@@ -39,28 +39,28 @@ module _ (pairs : List Pair) where
 
   -- a part after a step
   abbrev part : Bool → Doc → Doc
-  part told d = cond told d (worded pairs false d)
+  part kind d = cond kind d (worded pairs false d)
 
   here_at : (o : Ordering) (m : Bool) (k l : List ℕ) (d : Doc) (found changed : Option Doc)
-      → slice_cmp nat_cmp k l ≡ o → changed ≡ option_map (part (m && is_telling k)) found
-      → match_ordering o changed (Some (part (m && is_telling l) d)) changed
-      ≡ option_map (part (m && is_telling k)) (match_ordering o found (Some d) found)
+      → slice_cmp nat_cmp k l ≡ o → changed ≡ option_map (part (m && names_its_kind k)) found
+      → match_ordering o changed (Some (part (m && names_its_kind l) d)) changed
+      ≡ option_map (part (m && names_its_kind k)) (match_ordering o found (Some d) found)
   here_at Less m k l d found changed is later = later
   here_at Equal m k l d found changed is later =
       let same : k ≡ l = (bytes_eq-Decides k l).0 (sym (is_eq-slice_cmp k l) ∙ ap is_eq is) in
-      ap (λ n. Some (part (m && is_telling n) d)) (sym same)
+      ap (λ n. Some (part (m && names_its_kind n) d)) (sym same)
   here_at Greater m k l d found changed is later = later
 
   get_member-worded : (m : Bool) (k : List ℕ) (ms : Members)
       → get_member k (members_worded pairs m ms)
-      ≡ option_map (part (m && is_telling k)) (get_member k ms)
+      ≡ option_map (part (m && names_its_kind k)) (get_member k ms)
   get_member-worded m k no_members = refl
   get_member-worded m k (member l d ms) =
       here_at (slice_cmp nat_cmp k l) m k l d (get_member k ms)
       (get_member k (members_worded pairs m ms)) refl (get_member-worded m k ms)
 
   pub get-worded : (m : Bool) (k : List ℕ) (d : Doc)
-      → get k (worded pairs m d) ≡ option_map (part (m && is_telling k)) (get k d)
+      → get k (worded pairs m d) ≡ option_map (part (m && names_its_kind k)) (get k d)
   get-worded m k null = refl
   get-worded m k (boolean b) = refl
   get-worded m k (whole z) = refl
@@ -77,7 +77,7 @@ module _ (pairs : List Pair) where
 
   -- whether the parts after this step are kept
   abbrev stays : Bool → Step → Bool
-  stays m (name k) = m && is_telling k
+  stays m (name k) = m && names_its_kind k
   stays m (place n) = false
 
   step-worded : (m : Bool) (st : Step) (d : Doc)
@@ -95,32 +95,32 @@ module _ (pairs : List Pair) where
 
   -- the value at a path, by whether the path leads into a member that names the kind
   abbrev value_at : Bool → Doc → Doc
-  value_at told x = top (cond told x (leaf pairs x))
+  value_at kind x = top (cond kind x (leaf pairs x))
 
-  not_told : (p : List Step) → is_told false p ≡ false
-  not_told [] = refl
-  not_told (name k ∷ p) = refl
-  not_told (place n ∷ p) = refl
+  not_kind : (p : List Step) → is_in_kind false p ≡ false
+  not_kind [] = refl
+  not_kind (name k ∷ p) = refl
+  not_kind (place n ∷ p) = refl
 
-  told_by_step : (m : Bool) (st : Step) (p : List Step) → is_told m (st ∷ p) ≡ stays m st
+  told_by_step : (m : Bool) (st : Step) (p : List Step) → is_in_kind m (st ∷ p) ≡ stays m st
   told_by_step m (name k) p = refl
   told_by_step m (place n) p = refl
 
-  after : (o : Option Doc) (told : Bool) (p : List Step)
-      → ((d : Doc) → option_map top (at p (part told d)) ≡ option_map (value_at told) (at p d))
-      → option_map top (option_and_then (at p) (option_map (part told) o))
-      ≡ option_map (value_at told) (option_and_then (at p) o)
-  after None told p h = refl
-  after (Some d) told p h = h d
+  after : (o : Option Doc) (kind : Bool) (p : List Step)
+      → ((d : Doc) → option_map top (at p (part kind d)) ≡ option_map (value_at kind) (at p d))
+      → option_map top (option_and_then (at p) (option_map (part kind) o))
+      ≡ option_map (value_at kind) (option_and_then (at p) o)
+  after None kind p h = refl
+  after (Some d) kind p h = h d
 
   part_at : (p : List Step) → ((d : Doc) → option_map top (at p (worded pairs false d))
-      ≡ option_map (value_at (is_told false p)) (at p d)) → (told : Bool) (d : Doc)
-      → option_map top (at p (part told d)) ≡ option_map (value_at told) (at p d)
+      ≡ option_map (value_at (is_in_kind false p)) (at p d)) → (kind : Bool) (d : Doc)
+      → option_map top (at p (part kind d)) ≡ option_map (value_at kind) (at p d)
   part_at p h true d = refl
-  part_at p h false d = h d ∙ ap (λ b. option_map (value_at b) (at p d)) (not_told p)
+  part_at p h false d = h d ∙ ap (λ b. option_map (value_at b) (at p d)) (not_kind p)
 
   pub at-worded : (m : Bool) (p : List Step) (d : Doc)
-      → option_map top (at p (worded pairs m d)) ≡ option_map (value_at (is_told m p)) (at p d)
+      → option_map top (at p (worded pairs m d)) ≡ option_map (value_at (is_in_kind m p)) (at p d)
   at-worded m [] d = ap Some (top_worded m d)
   at-worded m (st ∷ p) d =
       ap (λ o. option_map top (option_and_then (at p) o)) (step-worded m st d)
@@ -136,7 +136,7 @@ module _ (pairs : List Pair) where
   same_if_some None = refl
   same_if_some (Some d) = refl
 
-  pub told_kept : (d : Doc) (k : List ℕ) → is_telling k ≡ true
+  pub told_kept : (d : Doc) (k : List ℕ) → names_its_kind k ≡ true
       → get k (worded pairs true d) ≡ get k d
   told_kept d k h =
       get-worded true k d ∙ ap (λ b. option_map (part b) (get k d)) h ∙ same_if_some (get k d)

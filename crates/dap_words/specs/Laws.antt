@@ -4,15 +4,15 @@ use Rattle.dap_tree.specs.Doc.{Doc, is_sound, is_ordered, all_utf8, has_id, get}
 use Rattle.dap_texts.specs.Words.{Pair, have_own_texts, AreUtf8}
 use Rattle.dap_texts.specs.Apart.{are_apart}
 use Rattle.dap_texts.specs.Machines.{words_of}
-use Rattle.dap_words.specs.Worded.{worded_message, is_telling, IsWorded, AreAlike}
+use Rattle.dap_words.specs.Worded.{worded_message, names_its_kind, IsWorded, AreAlike}
 
 -- At each path, the result has the value that `IsWorded` says.
 abbrev pub WordedByPath : Type 0
 WordedByPath = (pairs : List Pair) (d : Doc) → IsWorded pairs d (worded_message pairs d)
 
 -- `type`, `command` and `event` of the message are unchanged.
-abbrev pub KeepsTold : Type 0
-KeepsTold = (pairs : List Pair) (d : Doc) (k : List ℕ) → is_telling k ≡ true
+abbrev pub KeepsKind : Type 0
+KeepsKind = (pairs : List Pair) (d : Doc) (k : List ℕ) → names_its_kind k ≡ true
     → get k (worded_message pairs d) ≡ get k d
 
 -- Without words nothing changes.

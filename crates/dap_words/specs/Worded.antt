@@ -10,8 +10,8 @@ use Rattle.dap_texts.specs.Machines.{Piece, written_by, AreFoundAtPlaces}
 
 -- The member names the kind of the message (DAP specification, ProtocolMessage, Request, Event): it
 -- is `type`, `command` or `event`. No word is put into it.
-abbrev pub is_telling : List ℕ → Bool
-is_telling k = bytes_eq k (codes "type") || (bytes_eq k (codes "command") || bytes_eq k (codes "event"))
+abbrev pub names_its_kind : List ℕ → Bool
+names_its_kind k = bytes_eq k (codes "type") || (bytes_eq k (codes "command") || bytes_eq k (codes "event"))
 
 -- A document with words in the place of texts in every string (own). Numbers, ids, names of members
 -- and the structure are unchanged. In a message, the members that name its kind are unchanged too.
@@ -33,7 +33,7 @@ abbrev mutual
   pub members_worded : List Pair → Bool → Members → Members
   members_worded pairs m no_members = no_members
   members_worded pairs m (member k d ms) =
-      member k (cond (m && is_telling k) d (worded pairs false d)) (members_worded pairs m ms)
+      member k (cond (m && names_its_kind k) d (worded pairs false d)) (members_worded pairs m ms)
 
 -- A message with words in the place of texts.
 abbrev pub worded_message : List Pair → Doc → Doc
@@ -42,10 +42,10 @@ worded_message pairs d = worded pairs true d
 -- ---- the same path by path
 
 -- The path leads into a member that names the kind of the message.
-abbrev pub is_told : Bool → List Step → Bool
-is_told m [] = false
-is_told m (name k ∷ p) = m && is_telling k
-is_told m (place n ∷ p) = false
+abbrev pub is_in_kind : Bool → List Step → Bool
+is_in_kind m [] = false
+is_in_kind m (name k ∷ p) = m && names_its_kind k
+is_in_kind m (place n ∷ p) = false
 
 -- One value with words in the place of texts: only a string changes.
 abbrev pub leaf : List Pair → Doc → Doc
@@ -57,7 +57,7 @@ leaf pairs d = d
 -- it. For an array, `top` is the number of elements, and for an object the names of its members.
 unfoldable pub IsWorded : List Pair → Doc → Doc → Type 0
 IsWorded pairs d e = (p : List Step) → option_map top (at p e)
-    ≡ option_map (λ x. top (cond (is_told true p) x (leaf pairs x))) (at p d)
+    ≡ option_map (λ x. top (cond (is_in_kind true p) x (leaf pairs x))) (at p d)
 
 -- ---- documents of two machines
 
@@ -92,6 +92,6 @@ abbrev mutual
   pub AreMembersAlike : List Pair → List Pair → Bool → Members → Members → Type 0
   AreMembersAlike pairs others m no_members no_members = Unit {0}
   AreMembersAlike pairs others m (member k d ms) (member l e ns) =
-      (k ≡ l) × cond (m && is_telling k) (d ≡ e) (AreAlike pairs others false d e)
+      (k ≡ l) × cond (m && names_its_kind k) (d ≡ e) (AreAlike pairs others false d e)
       × AreMembersAlike pairs others m ms ns
   AreMembersAlike pairs others m ms ns = ⊥

@@ -4,7 +4,7 @@ ghost use Rattle.dap_tree.specs.View.{view, items_view, members_view};
 ghost use Rattle.dap_texts.specs.Words.{pairs_of};
 ghost use Rattle.dap_words.specs.Kept.{pairs_in};
 ghost use Rattle.dap_words.specs.Worded.{worded, items_worded, members_worded, worded_message};
-ghost use Rattle.dap_words.specs.Worded.{is_telling};
+ghost use Rattle.dap_words.specs.Worded.{names_its_kind};
 
 use crate::words::Words;
 use dap_texts::{Word, with_words};
@@ -29,8 +29,8 @@ pub fn put_words(alloc: Global, message: Tree, words: &Words) -> Result<Tree, Al
     word_tree(alloc, message, words.list(), true)
 }
 
-fn is_telling(name: &str) -> bool
-    ensures { result ≡ is_telling name.now }
+fn names_its_kind(name: &str) -> bool
+    ensures { result ≡ names_its_kind name.now }
 {
     name == "type" || name == "command" || name == "event"
 }
@@ -97,10 +97,10 @@ fn word_member(
     words: &[Word],
     is_message: bool,
 ) -> Result<Tree, AllocError>
-    ensures { IfOk result (λ t. view t ≡ cond (is_message && is_telling name.now) (view member)
+    ensures { IfOk result (λ t. view t ≡ cond (is_message && names_its_kind name.now) (view member)
         (worded (pairs_of words.now) false (view member))) }
 {
-    if is_message && is_telling(name) {
+    if is_message && names_its_kind(name) {
         return Ok(member);
     }
     word_tree(alloc, member, words, false)

@@ -7,8 +7,8 @@ use Rattle.dap_words.proofs.laws.only_strings.Goals as goal
 pub returns-clause-paths : goal.returns-clause-paths
 returns-clause-paths c = worded_by_path
 
-pub returns-clause-told : goal.returns-clause-told
-returns-clause-told c = told_kept
+pub returns-clause-kind : goal.returns-clause-kind
+returns-clause-kind c = told_kept
 
 pub returns-clause-none : goal.returns-clause-none
 returns-clause-none c = worded_none true

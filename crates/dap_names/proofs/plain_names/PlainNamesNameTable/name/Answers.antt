@@ -1,3 +1,4 @@
+use Rattle.std.proofs.lemmas.Grind.{common_steps}
 use Rattle.std.proofs.Common.{arith, ap, ◌∙◌, ◌≡◌, pos, suc, length, ◌+ℤ◌, to_z, of_z, w64, sym}
 use Rattle.std.specs.Ordering.{int_eq}
 use Rattle.std.specs.List.{position_or_len}
@@ -14,3 +15,6 @@ returns-in-Ok-clause-named c =
     let k : to_z w64 (of_z w64 (to_z w64 c.len-count.result +ℤ pos 1)) ≡ pos (suc (length xs)) =
     omega (arith, ints) in
     k ∙ ap (λ n. pos (suc n)) (sym e)
+
+pub invariant_of-self : goal.invariant_of-self
+invariant_of-self c = grind (arith, common_steps)
